@@ -1,0 +1,22 @@
+use mathlib.Core.Path.{refl}
+use native.Mathlib.Omega.{arith}
+use lib.Dec.{eqb}
+use Rattle.checks.specs.Crc.{shift}
+use Rattle.checks.specs.Steps.{shifts}
+use Rattle.checks.proofs.Laws.{is-table}
+use borrow.Author.Needs.{needs}
+use Rattle.checks.proofs.crc16.Statement.{statement}
+use Rattle.checks.proofs.crc16.Tie as tie
+use Rattle.checks.proofs.crc16.Reads as reads
+use Rattle.checks.proofs.crc16.Lts as lts
+use Rattle.checks.proofs.crc_by.Reads as crc-by-reads
+
+crc-by-requires : tie.Need-crc-by-requires
+unfolding shift shifts
+crc-by-requires c κs = (omega arith, omega arith, omega arith, omega arith, is-table 16 0x1021 _ refl tt)
+
+returns : tie.Need-returns
+returns c = search needs
+
+pub crc16-spec : {M : Type 1} → statement M
+crc16-spec = tie.close (tie.spec crc-by-requires returns)
