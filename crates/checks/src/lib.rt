@@ -1,7 +1,7 @@
 ghost use mathlib.Core.Path.{_≡_};
 ghost use Prim.Native.Nat.{ℕ, _+_, _*_, _^_, _<_, _≤_};
 ghost use lib.Bits.{bitXor};
-ghost use Rattle.checks.specs.Crc.{shift, crc, crcBits, lowFirst, headerCheck};
+ghost use Rattle.checks.specs.Crc.{shift, crc, crcBits, lowFirst, headerCheck, frameCrc, messageCrc};
 ghost use Rattle.checks.specs.Steps.{shifts, crcByte, IsTable};
 
 mod tables;
@@ -131,4 +131,25 @@ pub fn header_check(a: u8, b: u8, c: u8) -> u8
 {
     let r = low_first(low_first(low_first(0, a), b), c) as usize;
     REVERSED[r]
+}
+
+pub fn frame_crc(a: u8, b: u8, c: u8) -> u8
+    ensures { λ r. ⌜ r ≡ frameCrc a b c ⌝ }
+{
+    header_check(a, b, c / 16 * 16)
+}
+
+pub fn message_crc(check_type: u8, s: &[u8]) -> u64
+    ensures { λ r. ⌜ r ≡ messageCrc «check_type» (now (s .entry)) ⌝ }
+{
+    if check_type == 0 {
+        return crc8(s);
+    }
+    if check_type == 1 {
+        return crc16(s);
+    }
+    if check_type == 2 {
+        return crc24(s);
+    }
+    crc32(s)
 }
