@@ -1,18 +1,19 @@
 -- One lemma for each answer of the functions that check, in plain variables, its premises worded as the code makes them. Assumes nothing.
 use mathlib.Core.Path.{_≡_, refl, sym, ap, ap₂, subst, _∙_}
 use mathlib.Core.List.{List, []}
-use mathlib.Core.Bool.{Bool, true, false, cond, not, _&&_, true≢false}
+use mathlib.Core.Bool.{Bool, true, false, cond, not, _&&_}
 use Prim.Native.Nat.{ℕ, zero, suc, _+_, _-_, _*_, _≤_, _<_}
 use native.Mathlib.Omega.{arith}
 use lib.Dec.{ltb, eqb}
 use lib.ListN.{length, getD, take, drop}
-use borrow.Author.Tests.{lt-ltb, le-ltb, le-leb, lt-leb, ne-eqb, eq-eqb, eqb-true}
+use borrow.Author.Tests.{lt-ltb, le-ltb, le-leb, lt-leb, ne-eqb, eq-eqb}
 use Rattle.answer.specs.declared.Refusal.{Refusal}
 use Rattle.answer.specs.declared.Refusal.the-variants.{Preamble, FrameCrc, Length, MessageCrc}
 use Rattle.bits.specs.Bits.{field}
 use Rattle.checks.specs.Crc.{frameCrc, messageCrc}
-use Rattle.frame.specs.Fields.{tf002, tf003, tf004, tf005, tf006, tf007, tf008, tf009, tf010, tf011, tf014, tf015, payloadAt, authenticated, authenticationBytes, authentication, checkAt, frameBytes}
+use Rattle.frame.specs.Fields.{tf002, tf003, tf004, tf005, tf006, tf007, tf008, tf009, tf010, tf011, tf015, payloadAt, authenticated, authenticationBytes, authentication, checkAt, frameBytes}
 use Rattle.frame.specs.Check.{sealOf, frameOf, badMessageCrc, badFrameCrc, checked, payloadIn, payloadOf}
+use Rattle.frame.specs.Laws.{sealed-if}
 use Rattle.frame.specs.Stages.{whole, described, starting}
 use Rattle.frame.specs.declared.Seal.{Seal}
 use Rattle.frame.specs.declared.Seal.the-variants.{Plain, Sealed}
@@ -24,12 +25,7 @@ use Rattle.frame.specs.declared.Checked.the-variants.{Accepted, Short, R
 
 module _ (s : List ℕ) (b : Bool) (is : b ≡ authenticated s) where
   pub counts : b ≡ true → tf004 s ≡ 1
-  unfolding authenticated
-  counts h = go (eqb (tf004 s) 1) refl (sym h ∙ is)
-    where
-      go : (t : Bool) → eqb (tf004 s) 1 ≡ t → true ≡ (t && ltb 1 (tf014 s)) → tf004 s ≡ 1
-      go true e h = eqb-true (tf004 s) 1 e
-      go false e h = absurd (true≢false h)
+  counts h = sealed-if s (sym is ∙ h)
 
   pub judged-code : b ≡ true → (x : ℕ) → x ≡ tf015 s → ltb 4 x ≡ (authenticated s && ltb 4 (tf015 s))
   judged-code h x e = let a : authenticated s ≡ true = sym is ∙ h in rw (a, e)

@@ -10,14 +10,18 @@ use Rattle.bits.specs.Bits.{field}
 use Rattle.checks.specs.Crc.{frameCrc, messageCrc}
 use Rattle.frame.specs.Fields.{longest, preamble, tf002, tf003, tf004, tf005, tf006, tf007, tf008, tf009, tf010, tf011, tf012, tf013, tf014, tf015, payloadAt, authenticated, checkBytes, checkAt, frameBytes}
 use Rattle.frame.specs.declared.Frame.{Frame}
+use Rattle.frame.specs.declared.Sealing.{Sealing}
 use Rattle.frame.specs.declared.Seal.{Seal}
 use Rattle.frame.specs.declared.Seal.the-variants.{Plain, Sealed}
 use Rattle.frame.specs.declared.Checked.{Checked}
 use Rattle.frame.specs.declared.Checked.the-variants.{Accepted, Short, Refused}
 
 -- what is handed back of an accepted frame
+abbrev pub sealingOf : List ℕ → Sealing
+sealingOf s = record { id = tf012 s; sequence = tf013 s; authentication = tf014 s; «authentication_length» = tf015 s }
+
 abbrev pub sealOf : List ℕ → Seal
-sealOf s = cond (eqb (tf004 s) 0) Plain (Sealed (record { id = tf012 s; sequence = tf013 s; authentication = tf014 s; «authentication_length» = tf015 s }))
+sealOf s = cond (eqb (tf004 s) 0) Plain (Sealed (sealingOf s))
 
 unfoldable pub frameOf : List ℕ → Frame
 frameOf s =

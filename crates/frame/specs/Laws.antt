@@ -2,11 +2,11 @@
 -- and how long SHORT stays. They serve proofs and are proved.
 use mathlib.Core.Path.{_≡_, refl, sym, ap, ap₂, subst, _∙_}
 use mathlib.Core.List.{List, [], _++_}
-use mathlib.Core.Bool.{Bool, true, false, cond, not, _&&_}
+use mathlib.Core.Bool.{Bool, true, false, cond, not, _&&_, true≢false}
 use Prim.Native.Nat.{ℕ, zero, suc, _+_, _-_, _*_, _^_, _≤_, _<_}
 use native.Mathlib.Omega.{arith}
 use lib.Dec.{leb, ltb, eqb}
-use lib.ListN.{length, getD, take, drop, length-append, List·getD-append}
+use lib.ListN.{length, getD, take, drop, length-append, length-drop, List·getD-append}
 use lib.Seq.{take-append-le, drop-append-le}
 use borrow.Author.Tests.{lt-ltb, le-ltb, le-leb, ltb-true, ltb-false, eqb-true, eqb-false, eq-eqb, not-true, not-false}
 use Rattle.answer.specs.declared.Refusal.{Refusal}
@@ -15,7 +15,8 @@ use Rattle.bits.specs.Bits.{field}
 use Rattle.checks.specs.Crc.{frameCrc, messageCrc}
 use Rattle.frame.specs.FieldLaws.{field-lt, field-append, field-out}
 use Rattle.frame.specs.Fields.{longest, preamble, tf002, tf003, tf004, tf005, tf006, tf007, tf008, tf009, tf010, tf011, tf012, tf013, tf014, tf015, tagBits, payloadAt, authenticated, authenticationBytes, authentication, checkBytes, checkAt, frameBytes}
-use Rattle.frame.specs.Check.{sealOf, frameOf, badFrameCrc, badMessageCrc, stop, want, checked, payloadIn, payloadOf}
+use Rattle.frame.specs.Check.{sealingOf, sealOf, frameOf, badFrameCrc, badMessageCrc, stop, want, checked, payloadIn, payloadOf}
+use Rattle.frame.specs.declared.Seal.the-variants.{Plain, Sealed}
 use Rattle.frame.specs.declared.Frame.{Frame}
 use Rattle.frame.specs.declared.Checked.{Checked}
 use Rattle.frame.specs.declared.Checked.the-variants.{Accepted, Short, Refused}
@@ -88,3 +89,239 @@ accepted s f e =
     not-zero : (n : ℕ) → (n ≡ 0 → ⊥) → 1 ≤ n
     not-zero zero h = absurd (h refl)
     not-zero (suc n) h = omega arith
+
+-- where TF015 counts, TF004 is set
+pub sealed-if : (s : List ℕ) → authenticated s ≡ true → tf004 s ≡ 1
+unfolding authenticated
+sealed-if s h = go (eqb (tf004 s) 1) refl h
+  where
+    go : (t : Bool) → eqb (tf004 s) 1 ≡ t → (t && ltb 1 (tf014 s)) ≡ true → tf004 s ≡ 1
+    go true e h = eqb-true (tf004 s) 1 e
+    go false e h = absurd (true≢false (sym h))
+
+-- ---- appended bytes
+
+-- the fields of the first four bytes, and those of the description, are the same with bytes appended
+module _ (s t : List ℕ) (h : 4 ≤ length s) where
+  start-same : (pos w : ℕ) → pos + w ≤ 32 → field (s ++ t) pos w ≡ field s pos w
+  start-same pos w k = field-append s t pos w (omega arith)
+
+  byte-same : (i : ℕ) → i < 4 → getD (s ++ t) i 0 ≡ getD s i 0
+  byte-same i k = List·getD-append s t 0 i (omega arith)
+
+  badFrameCrc-same : badFrameCrc (s ++ t) ≡ badFrameCrc s
+  unfolding badFrameCrc
+  badFrameCrc-same =
+      rw (byte-same 1 (omega arith), byte-same 2 (omega arith), byte-same 3 (omega arith), start-same 28 4 (omega arith))
+
+  -- TF008 is there, or it is read as 0
+  kind-more : tf008 s ≤ tf008 (s ++ t)
+  kind-more = go (ltb (length s) 5) refl
+    where
+      go : (b : Bool) → ltb (length s) 5 ≡ b → tf008 s ≤ tf008 (s ++ t)
+      go true e = omega (arith, field-out s 36 1 (omega (arith, ltb-true (length s) 5 e)))
+      go false e = omega (arith, field-append s t 36 1 (omega (arith, ltb-false (length s) 5 e)))
+
+  pub payloadAt-more : payloadAt s ≤ payloadAt (s ++ t)
+  payloadAt-more = omega (arith, kind-more, start-same 25 1 (omega arith))
+
+  module _ (k : payloadAt s ≤ length s) where
+    kind-same : tf008 (s ++ t) ≡ tf008 s
+    kind-same = field-append s t 36 1 (omega arith)
+
+    payloadAt-same : payloadAt (s ++ t) ≡ payloadAt s
+    payloadAt-same = ap₂ (λ (a b : ℕ). 4 + (4 + 2 * a + 2 * b)) kind-same (start-same 25 1 (omega arith))
+
+    -- a field of the description, at so many bits behind the tag
+    described-same : (pos w : ℕ) → pos + tagBits (tf008 s) + w ≤ 8 * payloadAt s → field (s ++ t) (pos + tagBits (tf008 (s ++ t))) w ≡ field s (pos + tagBits (tf008 s)) w
+    described-same pos w b =
+        ap (λ (z : ℕ). field (s ++ t) (pos + tagBits z) w) kind-same ∙ field-append s t (pos + tagBits (tf008 s)) w (omega arith)
+
+    authenticated-same : authenticated (s ++ t) ≡ authenticated s
+    unfolding authenticated
+    authenticated-same = rw (start-same 25 1 (omega arith)) (go (tf004 s) refl)
+      where
+        go : (x : ℕ) → tf004 s ≡ x → (eqb x 1 && ltb 1 (tf014 (s ++ t))) ≡ (eqb x 1 && ltb 1 (tf014 s))
+        go zero e = refl
+        go (suc zero) e = ap (λ (z : ℕ). ltb 1 z) (described-same 58 3 (omega arith))
+        go (suc (suc x)) e = absurd (omega (arith, field-lt s 25 1))
+
+    -- what is made of TF015 where it counts
+    counted-same : {A : Type 0} (x : A) (f : ℕ → A) → cond (authenticated (s ++ t)) (f (tf015 (s ++ t))) x ≡ cond (authenticated s) (f (tf015 s)) x
+    counted-same {A} x f = rw authenticated-same (go (authenticated s) refl)
+      where
+        go : (b : Bool) → authenticated s ≡ b → cond b (f (tf015 (s ++ t))) x ≡ cond b (f (tf015 s)) x
+        go true e = ap f (described-same 61 3 (omega (arith, sealed-if s e)))
+        go false e = refl
+
+    judged-same : (authenticated (s ++ t) && ltb 4 (tf015 (s ++ t))) ≡ (authenticated s && ltb 4 (tf015 s))
+    judged-same = sym (as-cond (authenticated (s ++ t)) _) ∙ counted-same false (λ z. ltb 4 z) ∙ as-cond (authenticated s) _
+      where
+        as-cond : (a b : Bool) → cond a b false ≡ (a && b)
+        as-cond true b = refl
+        as-cond false b = refl
+
+    checkAt-same : checkAt (s ++ t) ≡ checkAt s
+    unfolding authentication
+    checkAt-same = ap₂ (λ (a b : ℕ). a + b) (ap₂ (λ (a b : ℕ). a + b) payloadAt-same (start-same 15 10 (omega arith))) (counted-same 0 authenticationBytes)
+
+    frameBytes-same : frameBytes (s ++ t) ≡ frameBytes s
+    frameBytes-same = ap₂ (λ (a b : ℕ). a + (b + 1)) checkAt-same (start-same 26 2 (omega arith))
+
+    module _ (w : frameBytes s ≤ length s) where
+      badMessageCrc-same : badMessageCrc (s ++ t) ≡ badMessageCrc s
+      unfolding badMessageCrc
+      badMessageCrc-same =
+          let body : take (checkAt s - 1) (drop 1 (s ++ t)) ≡ take (checkAt s - 1) (drop 1 s)
+          = ap (take (checkAt s - 1)) (drop-append-le 1 s t (omega arith)) ∙ take-append-le (checkAt s - 1) (drop 1 s) t (omega (arith, length-drop 1 s)) in
+          ap₂ (λ (x y : ℕ). not (eqb x y))
+          (ap₂ (λ (a b : ℕ). messageCrc a (take (b - 1) (drop 1 (s ++ t)))) (start-same 26 2 (omega arith)) checkAt-same ∙ ap (messageCrc (tf005 s)) body)
+          (ap₂ (λ (a b : ℕ). field (s ++ t) (8 * a) (8 * (b + 1))) checkAt-same (start-same 26 2 (omega arith)) ∙ field-append s t (8 * checkAt s) (8 * checkBytes s) (omega arith))
+
+      sealOf-same : sealOf (s ++ t) ≡ sealOf s
+      sealOf-same = rw (start-same 25 1 (omega arith)) (go (tf004 s) refl)
+        where
+          go : (x : ℕ) → tf004 s ≡ x → cond (eqb x 0) Plain (Sealed (sealingOf (s ++ t))) ≡ cond (eqb x 0) Plain (Sealed (sealingOf s))
+          go zero e = refl
+          go (suc x) e =
+              let a = described-same 48 4 (omega arith) in
+              let b = described-same 52 6 (omega arith) in
+              let c = described-same 58 3 (omega arith) in
+              let d = described-same 61 3 (omega arith) in
+              rw (a, b, c, d)
+
+      frameOf-same : frameOf (s ++ t) ≡ frameOf s
+      unfolding frameOf
+      frameOf-same =
+          let tag : tf009 (s ++ t) ≡ tf009 s
+          = ap (λ (z : ℕ). field (s ++ t) 37 (tagBits z)) kind-same ∙ field-append s t 37 (tagBits (tf008 s)) (omega arith) in
+          let seal = sealOf-same in
+          let ty = start-same 8 7 (omega arith) in
+          let n = start-same 15 10 (omega arith) in
+          let ck = start-same 26 2 (omega arith) in
+          let su = field-append s t 32 4 (omega arith) in
+          let so = described-same 37 7 (omega arith) in
+          let pr = described-same 44 4 (omega arith) in
+          let at = payloadAt-same in
+          let all = frameBytes-same in
+          let k = kind-same in
+          cc
+
+-- an answer, and the answer with bytes appended: it stays, unless it was SHORT
+pub data Keeps : Checked → Checked → Type 0 where
+  kept : {v : Checked} → Keeps v v
+  unknown : {n : ℕ} {v : Checked} → Keeps (Short n) v
+
+keeps-want : (n m : ℕ) (s t : List ℕ) (v w : Checked) → (n ≤ length s → m ≡ n) → (n ≤ length s → Keeps v w) → Keeps (want n s v) (want m (s ++ t) w)
+keeps-want n m s t v w e k = go (ltb (length s) n) refl
+  where
+    go : (b : Bool) → ltb (length s) n ≡ b → Keeps (stop b (Short n) v) (want m (s ++ t) w)
+    go true q = unknown
+    go false q =
+        let h : n ≤ length s = ltb-false (length s) n q in
+        let z : ltb (length (s ++ t)) m ≡ false = le-ltb (length (s ++ t)) m (omega (arith, e h, length-append s t)) in
+        rw z (k h)
+
+keeps-stop : (a b : Bool) (r v w : Checked) → b ≡ a → (a ≡ false → Keeps v w) → Keeps (stop a r v) (stop b r w)
+keeps-stop true b r v w e k = rw e kept
+keeps-stop false b r v w e k = rw e (k refl)
+
+-- An answer other than SHORT stays when bytes are appended.
+pub keeps : (s t : List ℕ) → Keeps (checked s) (checked (s ++ t))
+unfolding checked
+keeps s t =
+    keeps-want 1 1 s t _ _ (λ _. refl) (λ a.
+    keeps-stop _ _ _ _ _ (ap (λ (x : ℕ). not (eqb x preamble)) (List·getD-append s t 0 0 (omega arith))) (λ _.
+    keeps-want 4 4 s t _ _ (λ _. refl) (λ b.
+    keeps-stop _ _ _ _ _ (badFrameCrc-same s t b) (λ _.
+    keeps-stop _ _ _ _ _ (ap (λ (x : ℕ). eqb x 0) (start-same s t b 15 10 (omega arith))) (λ _.
+    keeps-want (payloadAt s) (payloadAt (s ++ t)) s t _ _ (λ d. payloadAt-same s t b d) (λ d.
+    keeps-stop _ _ _ _ _ (judged-same s t b d) (λ _.
+    keeps-want (frameBytes s) (frameBytes (s ++ t)) s t _ _ (λ _. frameBytes-same s t b d) (λ w.
+    keeps-stop _ _ _ _ _ (badMessageCrc-same s t b d w) (λ _.
+    rw (frameOf-same s t b d w) kept)))))))))
+
+pub keeps-accepted : (s t : List ℕ) (f : Frame) → checked s ≡ Accepted f → checked (s ++ t) ≡ Accepted f
+keeps-accepted s t f e = go (checked s) (checked (s ++ t)) (keeps s t) e
+  where
+    go : (v w : Checked) → Keeps v w → v ≡ Accepted f → w ≡ Accepted f
+    go v w kept e = e
+    go v w (unknown {n}) e = let z : _≡_ {A = ℕ} 0 1 = cc in absurd (omega arith)
+
+pub keeps-refused : (s t : List ℕ) (r : Refusal) → checked s ≡ Refused r → checked (s ++ t) ≡ Refused r
+keeps-refused s t r e = go (checked s) (checked (s ++ t)) (keeps s t) e
+  where
+    go : (v w : Checked) → Keeps v w → v ≡ Refused r → w ≡ Refused r
+    go v w kept e = e
+    go v w (unknown {n}) e = let z : _≡_ {A = ℕ} 0 1 = cc in absurd (omega arith)
+
+-- ---- how long SHORT stays
+
+-- SHORT still, and at least n bytes are wanted
+pub data Still (n : ℕ) : Checked → Type 0 where
+  still : {m : ℕ} → n ≤ m → Still n (Short m)
+
+-- Short n: fewer than n bytes are there, n is at most 1,103, and with bytes appended it is SHORT still while fewer than n are there
+abbrev pub Waits : List ℕ → List ℕ → Checked → Checked → Type 0
+Waits s t (Short n) w = (length s < n) × (n ≤ longest) × (length (s ++ t) < n → Still n w)
+Waits s t (Accepted f) w = Unit {0}
+Waits s t (Refused r) w = Unit {0}
+
+waits-want : (n m : ℕ) (s t : List ℕ) (v w : Checked) → n ≤ longest → n ≤ m → (n ≤ length s → m ≡ n) → (n ≤ length s → Waits s t v w)
+    → Waits s t (want n s v) (want m (s ++ t) w)
+waits-want n m s t v w l o e k = go (ltb (length s) n) refl
+  where
+    go : (b : Bool) → ltb (length s) n ≡ b → Waits s t (stop b (Short n) v) (want m (s ++ t) w)
+    go true q =
+        (ltb-true (length s) n q, l, λ h. let z : ltb (length (s ++ t)) m ≡ true = lt-ltb (length (s ++ t)) m (omega arith) in rw z (still o))
+    go false q =
+        let h : n ≤ length s = ltb-false (length s) n q in
+        let z : ltb (length (s ++ t)) m ≡ false = le-ltb (length (s ++ t)) m (omega (arith, e h, length-append s t)) in
+        rw z (k h)
+
+waits-stop : (a b : Bool) (s t : List ℕ) (r : Refusal) (v w : Checked) → b ≡ a → (a ≡ false → Waits s t v w) → Waits s t (stop a (Refused r) v) (stop b (Refused r) w)
+waits-stop true b s t r v w e k = tt
+waits-stop false b s t r v w e k = rw e (k refl)
+
+pub waits : (s t : List ℕ) → Waits s t (checked s) (checked (s ++ t))
+unfolding checked
+waits s t =
+    waits-want 1 1 s t _ _ (omega arith) (omega arith) (λ _. refl) (λ a.
+    waits-stop _ _ s t _ _ _ (ap (λ (x : ℕ). not (eqb x preamble)) (List·getD-append s t 0 0 (omega arith))) (λ _.
+    waits-want 4 4 s t _ _ (omega arith) (omega arith) (λ _. refl) (λ b.
+    waits-stop _ _ s t _ _ _ (badFrameCrc-same s t b) (λ _.
+    waits-stop _ _ s t _ _ _ (ap (λ (x : ℕ). eqb x 0) (start-same s t b 15 10 (omega arith))) (λ _.
+    waits-want (payloadAt s) (payloadAt (s ++ t)) s t _ _ (omega (arith, payloadAt-le s)) (payloadAt-more s t b) (λ d. payloadAt-same s t b d) (λ d.
+    waits-stop _ _ s t _ _ _ (judged-same s t b d) (λ _.
+    waits-want (frameBytes s) (frameBytes (s ++ t)) s t _ _ (frameBytes-le s) (omega (arith, frameBytes-same s t b d)) (λ _. frameBytes-same s t b d) (λ w.
+    waits-stop _ _ s t _ _ _ (badMessageCrc-same s t b d w) (λ _. tt)))))))))
+
+-- SHORT: fewer bytes are there than are wanted, and never more than 1,103 are wanted
+pub short-wants : (s : List ℕ) (n : ℕ) → checked s ≡ Short n → (length s < n) × (n ≤ longest)
+short-wants s n e = let w = subst (λ (v : Checked). Waits s [] v (checked (s ++ []))) e (waits s []) in (w .0, w .1)
+
+-- so it is never SHORT at 1,103 bytes or more
+pub short-below : (s : List ℕ) (n : ℕ) → checked s ≡ Short n → length s < longest
+short-below s n e = let w = short-wants s n e in omega arith
+
+-- and it stays SHORT while fewer bytes than are wanted are there
+pub short-stays : (s t : List ℕ) (n : ℕ) → checked s ≡ Short n → length (s ++ t) < n → Still n (checked (s ++ t))
+short-stays s t n e = subst (λ (v : Checked). Waits s t v (checked (s ++ t))) e (waits s t) .2
+
+-- ---- the length of an accepted frame
+
+pub accepted-length : (s : List ℕ) (f : Frame) → checked s ≡ Accepted f → (10 ≤ f .length) × (f .length ≤ length s) × (f .length ≤ longest)
+unfolding frameOf
+accepted-length s f e =
+    let a = accepted s f e in
+    let n : f .length ≡ frameBytes s = ap (λ (x : Frame). x .length) (a .is) in
+    (omega (arith, a .some-payload, n), omega (arith, a .there, n), omega (arith, frameBytes-le s, n))
+
+-- its payload is there
+pub payload-there : (s : List ℕ) (f : Frame) → checked s ≡ Accepted f → payloadOf s ≡ take (f .«payload_length») (drop (f .«payload_at») s)
+unfolding frameOf payloadOf payloadIn
+payload-there s f e =
+    let a = accepted s f e in
+    let n : f .«payload_at» ≡ payloadAt s = ap (λ (x : Frame). x .«payload_at») (a .is) in
+    let m : f .«payload_length» ≡ tf003 s = ap (λ (x : Frame). x .«payload_length») (a .is) in
+    rw (e, le-leb (f .«payload_at» + f .«payload_length») (length s) (omega (arith, a .there, n, m)))
