@@ -62,15 +62,15 @@ fn count(x: u64) -> usize
 
 // The number that the width bits from bit pos on say.
 fn number_at(s: &[u8], pos: usize, width: u32) -> u64
-    requires { ⌜ (width ≤ 64) × (pos + width ≤ 8 * length (now s)) × (pos + width < 2 ^ 64) ⌝ }
+    requires { ⌜ (width ≤ 64) × (pos + width ≤ 8 * length (now s)) ⌝ }
     ensures { λ r. ⌜ r ≡ field (now (s .entry)) pos width ⌝ }
 {
-    bits::get_bits(s, pos, width)
+    bits::get(s, pos, width)
 }
 
 // The same of at most eight bits.
 fn small_at(s: &[u8], pos: usize, width: u32) -> u8
-    requires { ⌜ (width ≤ 8) × (pos + width ≤ 8 * length (now s)) × (pos + width < 2 ^ 64) ⌝ }
+    requires { ⌜ (width ≤ 8) × (pos + width ≤ 8 * length (now s)) ⌝ }
     ensures { λ r. ⌜ (r ≡ field (now (s .entry)) pos width) × (r < 2 ^ width) ⌝ }
 {
     octet(number_at(s, pos, width))

@@ -1,18 +1,13 @@
-use mathlib.Core.Path.{_≡_, refl, sym, ap, ap₂, _∙_, subst}
-use mathlib.Core.List.{List, _++_}
-use Prim.Native.Nat.{ℕ, zero, suc, _+_, _-_, _*_, _/_, _%_, _^_, _≤_, _<_}
-use native.Mathlib.Nat.{lt-of-le-of-lt, mod-lt, mod-eq-of-lt, add-zero, div-one, sub-self}
+-- What stood in the n bits is taken away, and x is added (`put-word`).
+use mathlib.Core.Path.{_≡_, refl, sym, ap, ap₂, _∙_}
+use Prim.Native.Nat.{ℕ, _+_, _-_, _*_, _/_, _%_, _^_, _≤_, _<_}
+use native.Mathlib.Nat.{mod-eq-of-lt}
 use native.Mathlib.Omega.{arith}
-use lib.ListN.{length, getD, take, drop, set, length-set, take-append-drop}
-use lib.Pow.{pow-pos, shl-exact}
-use Rattle.bits.specs.Bits.{bitsOf, toBits, number}
+use lib.Pow.{shl-exact}
 use Rattle.bits.specs.Laws.{put-word, old-le, new-lt}
 use borrow.Author.Needs.{needs}
 use Rattle.bits.proofs.in_word.Statement.{statement}
 use Rattle.bits.proofs.in_word.Tie as tie
-use Rattle.bits.proofs.in_word.Reads as reads
-use Rattle.bits.proofs.in_word.Lts as lts
-use Rattle.bits.proofs.low.Reads as low-reads
 
 shr-low : tie.Need-shr-low
 shr-low c = search needs
@@ -23,7 +18,7 @@ low-requires c κs = search needs
 shl-result : tie.Need-shl-result
 shl-result c = search needs
 
--- what is taken away, exactly; and the result
+-- what is taken away, without a remainder; and the result
 old : (c : tie.After-low) → c .low .result * 2 ^ c .before .args .m % 2 ^ 64 ≡ c .before .args .v / 2 ^ c .before .args .m % 2 ^ c .before .args .n * 2 ^ c .before .args .m
 old c =
     let x = c .before .args in
@@ -35,7 +30,7 @@ code : (c : tie.After-low)
     + (c .before .args .x * 2 ^ c .before .args .m + c .before .args .v % 2 ^ c .before .args .m)
 code c =
     let x = c .before .args in
-    ap₂ (λ (y z : ℕ). x .v - y + z) (old c) (shl-exact (x .n) (x .m) 64 (c .before .pre .3) (c .before .pre .0))
+    ap₂ (λ (y z : ℕ). x .v - y + z) (old c) (shl-exact (x .n) (x .m) 64 (c .before .pre .2) (c .before .pre .1))
     ∙ put-word (x .v) (x .n) (x .m) (x .x)
 
 sub-result : tie.Need-sub-result
@@ -47,7 +42,10 @@ shl-result-2 c = search needs
 add-result : tie.Need-add-result
 add-result c =
     let x = c .before .args in
-    omega (arith, code c, new-lt (64 - (x .n + x .m)) (x .n) (x .m) (x .v) (x .x) (omega arith) (c .before .pre .3) (omega arith))
+    let o : ℕ = 64 - (x .n + x .m) in
+    let all : o + (x .n + x .m) ≡ 64 = omega arith in
+    let small : x .v < 2 ^ (o + (x .n + x .m)) = rw all (omega arith) in
+    omega (arith, code c, rw all at (new-lt o (x .n) (x .m) (x .v) (x .x) (c .before .pre .2) small))
 
 returns : tie.Need-returns
 returns c = code c

@@ -1,80 +1,83 @@
+use mathlib.Core.Path.{_≡_, refl, sym, ap, _∙_}
+use Prim.Native.Nat.{ℕ, _/_, _^_}
+use native.Mathlib.Omega.{arith}
+use lib.Bits.{bitXor, xor-lt}
+use Rattle.checks.specs.Crc.{shift, messageCrc}
+use Rattle.checks.specs.Steps.{shifts}
+use Rattle.checks.proofs.Rules.{is-table}
+use Rattle.checks.proofs.Turns.{message-8, message-16, message-24, message-32}
 use borrow.Author.Needs.{needs}
 use Rattle.checks.proofs.message_crc.Statement.{statement}
 use Rattle.checks.proofs.message_crc.Tie as tie
 use Rattle.checks.proofs.message_crc.Reads as reads
 use Rattle.checks.proofs.message_crc.Lts as lts
-use Rattle.checks.proofs.crc16.Reads as crc16-reads
-use Rattle.checks.proofs.crc24.Reads as crc24-reads
-use Rattle.checks.proofs.crc32.Reads as crc32-reads
-use Rattle.checks.proofs.crc8.Reads as crc8-reads
+use Rattle.checks.proofs.crc_by.Reads as crc-by-reads
 
-use mathlib.Core.Path.{_≡_, refl, sym, ap, _∙_}
-use mathlib.Core.List.{List}
-use Prim.Native.Nat.{ℕ, zero, suc}
-use native.Mathlib.Omega.{arith}
-use lib.Bits.{bitXor}
-use Rattle.checks.specs.Crc.{crc, messageCrc}
+-- src/lib.rt:69:15
+crc-by-requires : tie.Need-crc-by-requires
+unfolding shift shifts
+crc-by-requires c κs = is-table _ refl (omega arith) tt
 
-m0 : (k r : ℕ) (s : List ℕ) → k ≡ 0 → r ≡ crc 8 0x07 0 s → r ≡ messageCrc k s
-unfolding messageCrc
-m0 k r s e h = h ∙ ap (λ (x : ℕ). messageCrc x s) (sym e)
+-- src/lib.rt:69:14
+cast-result : tie.Need-cast-result
+cast-result c = search needs
 
-m1 : (k r : ℕ) (s : List ℕ) → k ≡ 1 → r ≡ crc 16 0x1021 0 s → r ≡ messageCrc k s
-unfolding messageCrc
-m1 k r s e h = h ∙ ap (λ (x : ℕ). messageCrc x s) (sym e)
+-- src/lib.rt:70:15
+crc-by-requires-2 : tie.Need-crc-by-requires-2
+unfolding shift shifts
+crc-by-requires-2 c κs = is-table _ refl (omega arith) tt
 
-m2 : (k r : ℕ) (s : List ℕ) → k ≡ 2 → r ≡ crc 24 0x864CFB 0 s → r ≡ messageCrc k s
-unfolding messageCrc
-m2 k r s e h = h ∙ ap (λ (x : ℕ). messageCrc x s) (sym e)
+-- src/lib.rt:70:14
+cast-result-2 : tie.Need-cast-result-2
+cast-result-2 c = search needs
 
-m3 : (k r : ℕ) (s : List ℕ) → (k ≡ 0 → ⊥) → (k ≡ 1 → ⊥) → (k ≡ 2 → ⊥) → r ≡ bitXor (crc 32 0x04C11DB7 0xFFFFFFFF s) 0xFFFFFFFF → r ≡ messageCrc k s
-unfolding messageCrc
-m3 zero r s a b d h = absurd (a refl)
-m3 (suc zero) r s a b d h = absurd (b refl)
-m3 (suc (suc zero)) r s a b d h = absurd (d refl)
-m3 (suc (suc (suc k))) r s a b d h = h
+-- src/lib.rt:71:15
+crc-by-requires-3 : tie.Need-crc-by-requires-3
+unfolding shift shifts
+crc-by-requires-3 c κs = is-table _ refl (omega arith) tt
 
--- src/lib.rt:146:9
-crc8-requires : tie.Need-crc8-requires
-crc8-requires c κs = search needs
+-- src/lib.rt:71:14
+cast-result-3 : tie.Need-cast-result-3
+cast-result-3 c = search needs
 
--- src/lib.rt:146:9
+-- src/lib.rt:72:15
+crc-by-requires-4 : tie.Need-crc-by-requires-4
+unfolding shift shifts
+crc-by-requires-4 c κs = is-table _ refl (omega arith) tt
+
+-- src/lib.rt:72:14
+cast-result-4 : tie.Need-cast-result-4
+cast-result-4 c = omega (arith, xor-lt 32 (c .crc-by4 .result) 0xFFFFFFFF (omega arith) (omega arith))
+
+-- src/lib.rt:65:1
 returns : tie.Need-returns
-returns c = search (m0, needs)
+returns c = search (message-8, needs)
 
--- src/lib.rt:149:9
-crc16-requires : tie.Need-crc16-requires
-crc16-requires c κs = search needs
-
--- src/lib.rt:149:9
+-- src/lib.rt:65:1
 returns-2 : tie.Need-returns-2
-returns-2 c = search (m1, needs)
+returns-2 c = search (message-16, needs)
 
--- src/lib.rt:152:9
-crc24-requires : tie.Need-crc24-requires
-crc24-requires c κs = search needs
-
--- src/lib.rt:152:9
+-- src/lib.rt:65:1
 returns-3 : tie.Need-returns-3
-returns-3 c = search (m2, needs)
+returns-3 c = search (message-24, needs)
 
--- src/lib.rt:154:5
-crc32-requires : tie.Need-crc32-requires
-crc32-requires c κs = search needs
-
--- src/lib.rt:142:1
+-- src/lib.rt:65:1
 returns-4 : tie.Need-returns-4
-returns-4 c = search (m3, needs)
+returns-4 c = search (message-32, needs)
 
 pub message-crc-spec : {M : Type 1} → statement M
 message-crc-spec =
     tie.close
     (tie.spec
-    crc8-requires
+    crc-by-requires
+    cast-result
+    crc-by-requires-2
+    cast-result-2
+    crc-by-requires-3
+    cast-result-3
+    crc-by-requires-4
+    cast-result-4
     returns
-    crc16-requires
     returns-2
-    crc24-requires
     returns-3
-    crc32-requires
     returns-4)

@@ -1,15 +1,15 @@
--- `number_at`: the word's bits are the field.
-use Rattle.bits.specs.Bits.{field}
+-- `number_at`: the bits are there, so `get` gives the field.
+use mathlib.Core.Path.{_∙_}
+use Rattle.bits.specs.Laws.{got-there}
 use borrow.Author.Needs.{needs}
 use Rattle.frame.proofs.number_at.Statement.{statement}
 use Rattle.frame.proofs.number_at.Tie as tie
 
-get-bits-requires : tie.Need-get-bits-requires
-get-bits-requires c κs = search needs
+get-requires : tie.Need-get-requires
+get-requires c κs = search needs
 
 returns : tie.Need-returns
-unfolding field
-returns c = c .get-bits .ensures
+returns c = c .get .ensures ∙ got-there _ _ _ (search needs) (search needs)
 
 pub number-at-spec : {M : Type 1} → statement M
-number-at-spec = tie.close (tie.spec get-bits-requires returns)
+number-at-spec = tie.close (tie.spec get-requires returns)

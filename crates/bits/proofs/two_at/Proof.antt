@@ -1,0 +1,45 @@
+-- Two bytes are two fields of 8 bits in a row (`field-or`).
+use mathlib.Core.Path.{_≡_, refl, sym, ap, ap₂, _∙_}
+use Prim.Native.Nat.{ℕ, _+_, _-_, _*_, _/_, _%_, _^_, _≤_, _<_}
+use native.Mathlib.Omega.{arith}
+use lib.ListN.{getD}
+use Rattle.bits.specs.Bits.{Bytes}
+use Rattle.bits.specs.Laws.{field-byte}
+use Rattle.bits.proofs.Steps.{field-or}
+use borrow.Author.Needs.{needs}
+use Rattle.bits.proofs.two_at.Statement.{statement}
+use Rattle.bits.proofs.two_at.Tie as tie
+
+shared-slice-read-wide : tie.Need-shared-slice-read-wide
+shared-slice-read-wide c = search needs
+
+wide-requires : tie.Need-wide-requires
+wide-requires c κs = search needs
+
+add-wide : tie.Need-add-wide
+add-wide c = search needs
+
+shared-slice-read-wide-2 : tie.Need-shared-slice-read-wide-2
+shared-slice-read-wide-2 c = search needs
+
+wide-requires-2 : tie.Need-wide-requires-2
+wide-requires-2 c κs = search needs
+
+returns : tie.Need-returns
+returns c =
+    let x = c .before .before .before .before .before .args in
+    let bytes : Bytes (x .s .now) = record { byte = λ i. c .before .shared-slice-known3 .given i .fits } in
+    field-or (x .s .now) (8 * x .at) (8 * (x .at + 1)) 8 8 _ _ (omega arith) (omega arith) (omega arith)
+    (c .before .before .wide .ensures ∙ sym (field-byte bytes (x .at) (omega arith)))
+    (c .wide2 .ensures ∙ sym (field-byte bytes (x .at + 1) (omega arith)))
+
+pub two-at-spec : {M : Type 1} → statement M
+two-at-spec =
+    tie.close
+    (tie.spec
+    shared-slice-read-wide
+    wide-requires
+    add-wide
+    shared-slice-read-wide-2
+    wide-requires-2
+    returns)
