@@ -3,3 +3,6 @@ pub mod Check
 pub mod Stages
 pub mod FieldLaws
 pub mod Laws
+pub mod Write
+pub mod WriteLaws
+pub mod Header

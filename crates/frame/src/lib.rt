@@ -1,12 +1,15 @@
 // A SPARTN frame: checked, its payload handed back as a part of the bytes, and a plain frame written (document 01, "The frame").
 ghost use mathlib.Core.Path.{_≡_};
 ghost use mathlib.Core.Bool.{_&&_};
+ghost use mathlib.Core.List.{_++_};
 ghost use lib.Dec.{ltb};
-ghost use Prim.Native.Nat.{ℕ, _+_, _*_, _^_, _<_, _≤_};
+ghost use Prim.Native.Nat.{ℕ, _+_, _-_, _*_, _^_, _<_, _≤_};
 ghost use lib.ListN.{length, take, drop};
-ghost use Rattle.bits.specs.Bits.{field};
-ghost use Rattle.frame.specs.Fields.{tf003, tf004, tf008, tf014, tf015, payloadAt, authenticated, authenticationBytes, authentication, checkAt};
+ghost use Rattle.bits.specs.Bits.{bitsOf, field};
+ghost use Rattle.frame.specs.Fields.{tagBits, tf003, tf004, tf008, tf014, tf015, payloadAt, authenticated, authenticationBytes, authentication, checkAt};
 ghost use Rattle.frame.specs.Check.{checked, payloadIn, payloadOf, numberOfChecked, sealOf, frameOf};
+ghost use Rattle.frame.specs.Write.{bytesOf, start, description, checkOver, body, plain, inRange, written, outAfter, numberOfWritten};
+ghost use Rattle.frame.specs.Header.{InRange};
 ghost use Rattle.frame.specs.Stages.{described, whole};
 
 use answer::Refusal;
@@ -324,5 +327,183 @@ pub fn number(checked: Checked) -> u8
         Checked::Accepted(_) => 0,
         Checked::Short(_) => 1,
         Checked::Refused(refusal) => answer::number(refusal),
+    }
+}
+
+// What the plain-frame writer is told of a frame: TF002, TF005, TF007 to TF011.
+pub struct Parts {
+    pub message_type: u8,
+    pub check_type: u8,
+    pub subtype: u8,
+    pub tag_kind: u8,
+    pub tag: u64,
+    pub solution: u8,
+    pub processor: u8,
+}
+
+// A frame of so many bytes was written, or nothing was.
+pub enum Written {
+    Frame(usize),
+    Refused(Refusal),
+}
+
+fn octets(x: u8) -> u64
+    ensures { λ r. ⌜ r ≡ x ⌝ }
+{
+    x as u64
+}
+
+// The tag fits the bits that its kind gives it.
+fn tag_fits(kind: u8, tag: u64) -> bool
+    requires { ⌜ kind < 2 ⌝ }
+    ensures { λ r. ⌜ r ≡ ltb tag (2 ^ tagBits kind) ⌝ }
+{
+    if kind == 0 {
+        return tag < 65536;
+    }
+    tag < 4294967296
+}
+
+// Each part has a code that its field takes.
+fn in_range(parts: Parts) -> bool
+    ensures { λ r. ⌜ r ≡ inRange parts ⌝ }
+{
+    if 127 < parts.message_type {
+        return false;
+    }
+    if 3 < parts.check_type {
+        return false;
+    }
+    if 15 < parts.subtype {
+        return false;
+    }
+    if 1 < parts.tag_kind {
+        return false;
+    }
+    if !tag_fits(parts.tag_kind, parts.tag) {
+        return false;
+    }
+    if 127 < parts.solution {
+        return false;
+    }
+    parts.processor < 16
+}
+
+// TF001 to TF006 as one number of 32 bits.
+fn start_code(parts: Parts, payload_length: u64) -> u64
+    requires { ⌜ InRange parts × («payload_length» < 1024) ⌝ }
+    ensures { λ r. ⌜ bytesOf 4 (bitsOf 32 r) ≡ start parts «payload_length» ⌝ }
+{
+    let above = (115 * 128 + octets(parts.message_type)) * 1024 + payload_length;
+    let open = (above * 8 + octets(parts.check_type)) * 16;
+    let first = ((open / 65536) % 256) as u8;
+    let second = ((open / 256) % 256) as u8;
+    let third = (open % 256) as u8;
+    open + octets(checks::frame_crc(first, second, third))
+}
+
+// A tag of 16 bits, and one of 32, between the fields before it and those behind it.
+fn around_short(first: u64, tag: u64, last: u64) -> u64
+    requires { ⌜ (first < 32) × (tag < 65536) × (last < 2048) ⌝ }
+    ensures { λ r. ⌜ r ≡ (first * 65536 + tag) * 2048 + last ⌝ }
+{
+    (first * 65536 + tag) * 2048 + last
+}
+
+fn around_long(first: u64, tag: u64, last: u64) -> u64
+    requires { ⌜ (first < 32) × (tag < 4294967296) × (last < 2048) ⌝ }
+    ensures { λ r. ⌜ r ≡ (first * 4294967296 + tag) * 2048 + last ⌝ }
+{
+    (first * 4294967296 + tag) * 2048 + last
+}
+
+// TF007 to TF011 as one number of 32 or 48 bits.
+fn description_code(parts: Parts) -> u64
+    requires { ⌜ InRange parts ⌝ }
+    ensures { λ r. ⌜ bytesOf (4 + 2 * parts .«tag_kind») (bitsOf (8 * (4 + 2 * parts .«tag_kind»)) r) ≡ description parts ⌝ }
+{
+    let kind = parts.tag_kind;
+    let first = octets(parts.subtype) * 2 + octets(kind);
+    let last = octets(parts.solution) * 16 + octets(parts.processor);
+    if kind == 0 {
+        return around_short(first, parts.tag, last);
+    }
+    around_long(first, parts.tag, last)
+}
+
+// TF001 to TF006 take the first four bytes.
+fn put_start(parts: Parts, payload_length: usize, out: &mut [u8])
+    requires { ⌜ InRange parts × («payload_length» < 1024) × (4 ≤ length (now out)) ⌝ }
+    ensures { λ _. ⌜ now (out .exit) ≡ start parts «payload_length» ++ drop 4 (now (out .entry)) ⌝ }
+{
+    let code = start_code(parts, payload_length as u64);
+    bits::put(out, 0, 32, code);
+}
+
+// TF007 to TF011 take the four or six bytes behind them: where the payload starts.
+fn put_description(parts: Parts, out: &mut [u8]) -> usize
+    requires { ⌜ InRange parts × (10 ≤ length (now out)) ⌝ }
+    ensures { λ r. ⌜ r ≡ 8 + 2 * parts .«tag_kind» ⌝ }
+    ensures { λ r. ⌜ now (out .exit) ≡ take 4 (now (out .entry)) ++ (description parts ++ drop r (now (out .entry))) ⌝ }
+{
+    let size = 4 + 2 * wide(parts.tag_kind);
+    let code = description_code(parts);
+    bits::put(out, 32, short(8 * size), code);
+    4 + size
+}
+
+// The payload takes the bytes from at on: where it ends.
+fn put_payload(payload: &[u8], out: &mut [u8], at: usize) -> usize
+    requires { ⌜ at + length (now payload) ≤ length (now out) ⌝ }
+    ensures { λ r. ⌜ r ≡ at + length (now (payload .entry)) ⌝ }
+    ensures { λ r. ⌜ now (out .exit) ≡ take at (now (out .entry)) ++ (now (payload .entry) ++ drop r (now (out .entry))) ⌝ }
+{
+    let n = bytes::copy(payload, &mut out[at..]);
+    at + n
+}
+
+// TF018 of all between the preamble and itself takes the bytes from at on: where the frame ends.
+fn put_check(check_type: u8, out: &mut [u8], at: usize) -> usize
+    requires { ⌜ («check_type» < 4) × (1 ≤ at) × (at + 4 ≤ length (now out)) × (at < 2048) ⌝ }
+    ensures { λ r. ⌜ r ≡ at + («check_type» + 1) ⌝ }
+    ensures { λ r. ⌜ now (out .exit) ≡ take at (now (out .entry)) ++ (checkOver «check_type» (take (at - 1) (drop 1 (now (out .entry)))) ++ drop r (now (out .entry))) ⌝ }
+{
+    let size = wide(check_type) + 1;
+    let crc = checks::message_crc(check_type, &out[1..at]);
+    bits::put(out, 8 * at, short(8 * size), crc);
+    at + size
+}
+
+// Writes the plain frame of these parts and this payload. Bytes past the frame stay as lent; a refusal writes nothing.
+pub fn write(parts: Parts, payload: &[u8], out: &mut [u8]) -> Written
+    ensures { λ r. ⌜ r ≡ written parts (now (payload .entry)) (now (out .entry)) ⌝ }
+    ensures { λ _. ⌜ now (out .exit) ≡ outAfter parts (now (payload .entry)) (now (out .entry)) ⌝ }
+{
+    if out.len() < 1103 {
+        return Written::Refused(Refusal::Room);
+    }
+    if !in_range(parts) {
+        return Written::Refused(Refusal::Field);
+    }
+    let size = payload.len();
+    if size == 0 {
+        return Written::Refused(Refusal::Length);
+    }
+    if 1023 < size {
+        return Written::Refused(Refusal::Length);
+    }
+    put_start(parts, size, out);
+    let at = put_description(parts, out);
+    let end = put_payload(payload, out, at);
+    Written::Frame(put_check(parts.check_type, out, end))
+}
+
+// The writer's answer as a number of document 01.
+pub fn number_written(answer: Written) -> u8
+    ensures { λ r. ⌜ r ≡ numberOfWritten answer ⌝ }
+{
+    match answer {
+        Written::Frame(_) => 0,
+        Written::Refused(refusal) => answer::number(refusal),
     }
 }

@@ -1,0 +1,55 @@
+-- `put_description`: one code of four or six bytes is put.
+use Rattle.frame.proofs.Writing.{description-laid}
+use borrow.Author.Needs.{needs}
+use Rattle.frame.proofs.put_description.Statement.{statement}
+use Rattle.frame.proofs.put_description.Tie as tie
+
+wide-requires : tie.Need-wide-requires
+wide-requires c κs = search needs
+
+mul-size : tie.Need-mul-size
+mul-size c = search needs
+
+add-size : tie.Need-add-size
+add-size c = search needs
+
+description-code-requires : tie.Need-description-code-requires
+description-code-requires c κs = search needs
+
+mul-short : tie.Need-mul-short
+mul-short c = search needs
+
+short-requires : tie.Need-short-requires
+short-requires c κs = search needs
+
+put-requires : tie.Need-put-requires
+put-requires c κs = search needs
+
+add-result : tie.Need-add-result
+add-result c = search needs
+
+same-length : tie.Need-same-length
+same-length c = search needs
+
+returns : tie.Need-returns
+returns c = let p = c .before .before in
+    let w = p .before .before .before .before in
+    let start = w .before .before in
+    (search needs,
+    description-laid (start .args .out .now) _ (λ i. w .before .slice-known .given i .fits) (λ i. c .slice-known2 .given i .fits) _ _ _ _ (start .pre .0) (start .pre .1)
+    (w .wide .ensures .0) (p .before .short .ensures) (p .before .before .before .description-code .ensures) (p .put .ensures .1))
+
+pub put-description-spec : {M : Type 1} → statement M
+put-description-spec =
+    tie.close
+    (tie.spec
+    wide-requires
+    mul-size
+    add-size
+    description-code-requires
+    mul-short
+    short-requires
+    put-requires
+    add-result
+    same-length
+    returns)

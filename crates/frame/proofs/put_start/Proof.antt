@@ -1,0 +1,23 @@
+-- `put_start`: one code of four bytes is put.
+use Rattle.frame.proofs.Writing.{start-laid}
+use borrow.Author.Needs.{needs}
+use Rattle.frame.proofs.put_start.Statement.{statement}
+use Rattle.frame.proofs.put_start.Tie as tie
+
+start-code-requires : tie.Need-start-code-requires
+start-code-requires c κs = search needs
+
+put-requires : tie.Need-put-requires
+put-requires c κs = search needs
+
+same-length : tie.Need-same-length
+same-length c = search needs
+
+returns : tie.Need-returns
+returns c = let x = c .before .before .before .before in
+    let start = x .before .before in
+    start-laid (start .args .out .now) _ (λ i. x .before .slice-known .given i .fits) (λ i. c .slice-known2 .given i .fits) _ _ _ (start .pre .2) (x .start-code .ensures)
+    (c .before .before .put .ensures .1)
+
+pub put-start-spec : {M : Type 1} → statement M
+put-start-spec = tie.close (tie.spec start-code-requires put-requires same-length returns)
