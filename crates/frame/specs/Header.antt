@@ -6,7 +6,7 @@ use Prim.Native.Nat.{ℕ, zero, suc, _+_, _-_, _*_, _/_, _%_, _^_, _≤_, _<_}
 use native.Mathlib.Omega.{arith}
 use lib.Dec.{ltb}
 use lib.ListN.{length}
-use borrow.Author.Tests.{ltb-true}
+use borrow.Author.Tests.{ltb-true, lt-ltb}
 use Rattle.bits.specs.Bits.{bitsOf}
 use Rattle.frame.specs.Fields.{preamble, tagBits}
 use Rattle.frame.specs.Write.{startBits, inRange}
@@ -45,6 +45,12 @@ in-range p e =
       solution-fits = ltb-true _ _ (b .1);
       processor-fits = ltb-true _ _ (a .1)
     }
+
+pub range-in : (p : Parts) → InRange p → inRange p ≡ true
+unfolding inRange
+range-in p r =
+    rw
+    (lt-ltb _ _ (r .type-fits), lt-ltb _ _ (r .check-fits), lt-ltb _ _ (r .subtype-fits), lt-ltb _ _ (r .kind-fits), lt-ltb _ _ (r .tag-fits), lt-ltb _ _ (r .solution-fits), lt-ltb _ _ (r .processor-fits))
 
 -- TF001 to TF006 as one code of 32 bits
 pub start-code : (p : Parts) (n y : ℕ) → InRange p → n < 1024 → y < 16

@@ -8,7 +8,7 @@ use native.Mathlib.Omega.{arith}
 use lib.Dec.{leb, ltb, eqb}
 use lib.ListN.{length, getD, take, drop, length-append, length-drop, List·getD-append}
 use lib.Seq.{take-append-le, drop-append-le}
-use borrow.Author.Tests.{lt-ltb, le-ltb, le-leb, ltb-true, ltb-false, eqb-true, eqb-false, eq-eqb, not-true, not-false}
+use borrow.Author.Tests.{lt-ltb, le-ltb, le-leb, ltb-true, ltb-false, eqb-true, eqb-false, eq-eqb, ne-eqb, not-true, not-false}
 use Rattle.answer.specs.declared.Refusal.{Refusal}
 use Rattle.answer.specs.declared.Refusal.the-variants.{Preamble, FrameCrc, Length, MessageCrc}
 use Rattle.bits.specs.Bits.{field}
@@ -90,6 +90,20 @@ accepted s f e =
     not-zero : (n : ℕ) → (n ≡ 0 → ⊥) → 1 ≤ n
     not-zero zero h = absurd (h refl)
     not-zero (suc n) h = omega arith
+
+-- and a frame that passes every test is accepted
+pub accepts : (s : List ℕ) → Acceptance s (frameOf s) → checked s ≡ Accepted (frameOf s)
+unfolding checked badFrameCrc badMessageCrc
+accepts s a =
+    let l1 : ltb (length s) 1 ≡ false = le-ltb (length s) 1 (omega (arith, a .there)) in
+    let l4 : ltb (length s) 4 ≡ false = le-ltb (length s) 4 (omega (arith, a .there)) in
+    let lp : ltb (length s) (payloadAt s) ≡ false = le-ltb (length s) (payloadAt s) (omega (arith, a .there)) in
+    let lf : ltb (length s) (frameBytes s) ≡ false = le-ltb (length s) (frameBytes s) (a .there) in
+    let p : eqb (getD s 0 0) preamble ≡ true = eq-eqb (getD s 0 0) preamble (a .starts) in
+    let c : eqb (frameCrc (getD s 1 0) (getD s 2 0) (getD s 3 0)) (tf006 s) ≡ true = eq-eqb _ _ (a .start-right) in
+    let n : eqb (tf003 s) 0 ≡ false = ne-eqb (tf003 s) 0 (λ e. absurd (omega (arith, a .some-payload, e))) in
+    let m : eqb (messageCrc (tf005 s) (take (checkAt s - 1) (drop 1 s))) (field s (8 * checkAt s) (8 * checkBytes s)) ≡ true = eq-eqb _ _ (a .right) in
+    rw (l1, p, l4, c, n, lp, a .known-length, lf, m)
 
 -- where TF015 counts, TF004 is set
 pub sealed-if : (s : List ℕ) → authenticated s ≡ true → tf004 s ≡ 1

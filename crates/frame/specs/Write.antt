@@ -9,7 +9,9 @@ use Rattle.answer.specs.Number.{numberOf}
 use Rattle.answer.specs.declared.Refusal.the-variants.{Room, Field, Length}
 use Rattle.bits.specs.Bits.{bitsOf, number}
 use Rattle.checks.specs.Crc.{frameCrc, messageCrc}
-use Rattle.frame.specs.Fields.{longest, preamble, tagBits}
+use Rattle.frame.specs.Fields.{longest, preamble, tagBits, descriptionBytes}
+use Rattle.frame.specs.declared.Frame as F
+use Rattle.frame.specs.declared.Seal.the-variants.{Plain}
 use Rattle.frame.specs.declared.Parts.{Parts}
 use Rattle.frame.specs.declared.Written.{Written}
 use Rattle.frame.specs.declared.Written.the-variants.{Frame, Refused}
@@ -78,3 +80,32 @@ outAfter p payload out = leftBy (written p payload out) p payload out
 abbrev pub numberOfWritten : Written → ℕ
 numberOfWritten (Frame n) = 0
 numberOfWritten (Refused refusal) = numberOf refusal
+
+-- the parts that a frame's header has, and the header that a written frame has
+abbrev pub partsOf : F.Frame → Parts
+partsOf f =
+    record {
+      «message_type» = f .«message_type»;
+      «check_type» = f .«check_type»;
+      subtype = f .subtype;
+      «tag_kind» = f .«tag_kind»;
+      tag = f .tag;
+      solution = f .solution;
+      processor = f .processor
+    }
+
+abbrev pub headerOf : Parts → List ℕ → F.Frame
+headerOf p payload =
+    record {
+      «message_type» = p .«message_type»;
+      «payload_length» = length payload;
+      seal = Plain;
+      «check_type» = p .«check_type»;
+      subtype = p .subtype;
+      «tag_kind» = p .«tag_kind»;
+      tag = p .tag;
+      solution = p .solution;
+      processor = p .processor;
+      «payload_at» = 4 + descriptionBytes (p .«tag_kind») 0;
+      length = length (plain p payload)
+    }
