@@ -1,3 +1,4 @@
 pub mod Bits
+pub mod Examples
 pub mod Laws
 pub mod Determined

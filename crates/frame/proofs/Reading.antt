@@ -10,8 +10,7 @@ use lib.ListN.{length}
 use lib.Pow.{pow-mono}
 use borrow.Author.Tests.{ne-eqb, eq-eqb}
 use Rattle.bits.specs.Bits.{field}
-use Rattle.bits.specs.Laws.{field-lt}
-use Rattle.frame.specs.FieldLaws.{field-out}
+use Rattle.bits.specs.Laws.{field-lt, field-out}
 use Rattle.frame.specs.Fields.{tf003, tf004, tf008, tf014, tf015, authenticated}
 
 pub octet-fits : (s : List ℕ) (pos w x : ℕ) → x ≡ field s pos w → w ≤ 8 → x < 256

@@ -13,8 +13,7 @@ use Rattle.answer.specs.declared.Refusal.{Refusal}
 use Rattle.answer.specs.declared.Refusal.the-variants.{Preamble, FrameCrc, Length, MessageCrc}
 use Rattle.bits.specs.Bits.{field}
 use Rattle.checks.specs.Crc.{frameCrc, messageCrc}
-use Rattle.bits.specs.Laws.{field-lt, field-append}
-use Rattle.frame.specs.FieldLaws.{field-out}
+use Rattle.bits.specs.Laws.{field-lt, field-append, field-out}
 use Rattle.frame.specs.Fields.{longest, preamble, tf002, tf003, tf004, tf005, tf006, tf007, tf008, tf009, tf010, tf011, tf012, tf013, tf014, tf015, tagBits, payloadAt, authenticated, authenticationBytes, authentication, checkBytes, checkAt, frameBytes}
 use Rattle.frame.specs.Check.{sealingOf, sealOf, frameOf, badFrameCrc, badMessageCrc, stop, want, checked, payloadIn, payloadOf}
 use Rattle.frame.specs.declared.Seal.the-variants.{Plain, Sealed}

@@ -1,7 +1,6 @@
 pub mod Fields
 pub mod Check
 pub mod Stages
-pub mod FieldLaws
 pub mod Laws
 pub mod Write
 pub mod WriteLaws

@@ -11,14 +11,14 @@ use lib.ListN.{length, getD, take, drop, length-append, length-drop, List·getD-
 use lib.Seq.{length-take-le, take-at, drop-at, take-add, drop-drop, drop-append-le}
 use borrow.Author.Tests.{eqb-true, eqb-false, ltb-false, le-ltb, ne-eqb, not-false}
 use Rattle.bits.specs.Bits.{bitsOf, toBits, number, Bytes, field}
-use Rattle.bits.specs.Laws.{field-lt, field-part, field-split, field-append, field-byte, number-of-bits, bits-of-number, length-bitsOf, length-toBits, toBits-append, toBits-take, toBits-drop, bits-toBits, bits-bitsOf}
+use Rattle.bits.specs.Laws.{field-lt, field-part, field-split, field-append, field-byte, number-of-bits, bits-of-number, length-bitsOf, length-toBits, toBits-append, toBits-take, toBits-drop, bits-toBits, bits-bitsOf, bytes-take, bytes-drop}
 use Rattle.checks.specs.Crc.{frameCrc, messageCrc}
 use Rattle.checks.specs.Laws.{frameCrc-lt, frameCrc-high, messageCrc-lt}
 use Rattle.frame.specs.Fields.{preamble, tagBits, tf002, tf003, tf004, tf005, tf006, tf007, tf008, tf009, tf010, tf011, payloadAt, authenticated, authentication, checkAt, frameBytes}
 use Rattle.frame.specs.Check.{checked, frameOf, sealingOf, sealOf, payloadOf, badFrameCrc, badMessageCrc}
 use Rattle.frame.specs.Laws.{Acceptance, accepted, accepts, keeps-accepted, payload-there, accepted-length}
 use Rattle.frame.specs.Write.{bytesOf, startBits, tf006Of, start, description, body, checkOver, plain, inRange, refuse, written, leftBy, outAfter, partsOf, headerOf}
-use Rattle.frame.specs.WriteLaws.{length-bytesOf, bytes-bytesOf, bytes-take, bytes-drop, toBits-bytesOf, bytesOf-toBits, four-bytes}
+use Rattle.frame.specs.WriteLaws.{length-bytesOf, toBits-bytesOf, bytesOf-toBits, four-bytes}
 use Rattle.frame.specs.Header.{InRange, in-range, range-in, start-code, description-code}
 use Rattle.answer.specs.declared.Refusal.{Refusal}
 use Rattle.answer.specs.declared.Refusal.the-variants.{Room, Field, Length}

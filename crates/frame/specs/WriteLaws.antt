@@ -8,56 +8,8 @@ use lib.ListN.{length, getD, take, drop, length-append, length-take, length-drop
 use lib.Seq.{length-take-le, take-at, drop-at, drop-drop}
 use lib.Pow.{pow-mono, high}
 use Rattle.bits.specs.Bits.{bitsOf, toBits, number, Bits, none, more, Bytes, putTo}
-use Rattle.bits.specs.Laws.{length-bitsOf, bitsOf-add, bitsOf-low, number-lt, number-bitsOf, bits-of-number, length-toBits, toBits-append, toBits-take, toBits-drop, toBits-injective, bits-bitsOf, bits-toBits}
+use Rattle.bits.specs.Laws.{length-bitsOf, bitsOf-add, bitsOf-low, number-lt, number-bitsOf, bits-of-number, length-toBits, toBits-append, toBits-take, toBits-drop, toBits-injective, bits-bitsOf, bits-toBits, bits-take, bits-drop, bytes-none, bytes-cons, bytes-append, bytes-take, bytes-drop}
 use Rattle.frame.specs.Write.{bytesOf}
-
--- ---- lists of bytes and of bits
-
-bytes-cons : {b : ℕ} {s : List ℕ} → b < 256 → Bytes s → Bytes (b ∷ s)
-bytes-cons {b} {s} h r = record { byte = go }
-  where
-    go : (i : ℕ) → getD (b ∷ s) i 0 < 256
-    go zero = h
-    go (suc i) = r .byte i
-
-bytes-none : Bytes []
-bytes-none = record { byte = λ i. omega arith }
-
-bytes-tail : {b : ℕ} {s : List ℕ} → Bytes (b ∷ s) → Bytes s
-bytes-tail r = record { byte = λ i. r .byte (suc i) }
-
-pub bytes-append : {s t : List ℕ} → Bytes s → Bytes t → Bytes (s ++ t)
-bytes-append {s} {t} r q = go s r
-  where
-    go : (s : List ℕ) → Bytes s → Bytes (s ++ t)
-    go [] r = q
-    go (x ∷ s) r = bytes-cons (r .byte 0) (go s (bytes-tail r))
-
-pub bytes-take : (n : ℕ) {s : List ℕ} → Bytes s → Bytes (take n s)
-bytes-take n {s} r = go n s r
-  where
-    go : (n : ℕ) (s : List ℕ) → Bytes s → Bytes (take n s)
-    go zero s r = bytes-none
-    go (suc n) [] r = bytes-none
-    go (suc n) (x ∷ s) r = bytes-cons (r .byte 0) (go n s (bytes-tail r))
-
-pub bytes-drop : (n : ℕ) {s : List ℕ} → Bytes s → Bytes (drop n s)
-bytes-drop n {s} r = go n s r
-  where
-    go : (n : ℕ) (s : List ℕ) → Bytes s → Bytes (drop n s)
-    go zero s r = r
-    go (suc n) [] r = bytes-none
-    go (suc n) (x ∷ s) r = go n s (bytes-tail r)
-
-bits-take : (n : ℕ) {l : List ℕ} → Bits l → Bits (take n l)
-bits-take zero h = none
-bits-take (suc n) none = none
-bits-take (suc n) (more h r) = more h (bits-take n r)
-
-bits-drop : (n : ℕ) {l : List ℕ} → Bits l → Bits (drop n l)
-bits-drop zero h = h
-bits-drop (suc n) none = none
-bits-drop (suc n) (more h r) = bits-drop n r
 
 -- ---- bits as bytes
 

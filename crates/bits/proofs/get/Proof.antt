@@ -1,5 +1,5 @@
 -- Out of one word where there is one (`get-word`), and else by bytes, which is proved to say the same.
-use Prim.Native.Nat.{ℕ, _+_, _-_, _*_, _/_, _%_, _^_, _≤_, _<_}
+use Prim.Native.Nat.{_+_, _/_, _%_, _≤_, _<_}
 use native.Mathlib.Omega.{arith}
 use lib.ListN.{length}
 use Rattle.bits.proofs.Steps.{get-word}

@@ -1,13 +1,13 @@
 -- What is read so far is the field of the first k bits; a step appends the next n bits, which lie in one byte.
-use mathlib.Core.Bool.{true, false}
 use mathlib.Core.Path.{_≡_, refl, sym, ap, _∙_}
-use Prim.Native.Nat.{ℕ, _+_, _-_, _*_, _/_, _%_, _^_, _≤_, _<_}
+use Prim.Native.Nat.{ℕ, _+_, _-_, _*_, _/_, _%_, _^_, _≤_}
 use native.Mathlib.Omega.{arith}
 use borrow.Author.Tests.{not-true, not-false}
-use lib.ListN.{length, getD}
-use Rattle.bits.specs.Bits.{Bytes, number, field, got}
+use lib.Bits.{bitAnd, and-mask}
+use lib.ListN.{length}
+use Rattle.bits.specs.Bits.{Bytes, number, field}
 use Rattle.bits.specs.Laws.{there-width, there-end, got-there, got-not}
-use Rattle.bits.proofs.Steps.{field-in-byte, field-or}
+use Rattle.bits.proofs.Steps.{field-in-byte, field-more}
 use borrow.Author.Needs.{needs}
 use Rattle.bits.proofs.get_by_bytes.Statement.{statement}
 use Rattle.bits.proofs.get_by_bytes.Tie as tie
@@ -51,12 +51,6 @@ sub-m c = search needs
 sub-m-2 : tie.Need-sub-m-2 Inv-loop μ-loop
 sub-m-2 c = search needs
 
-cast-acc : tie.Need-cast-acc Inv-loop μ-loop
-cast-acc c = search needs
-
-shl-acc : tie.Need-shl-acc Inv-loop μ-loop
-shl-acc c = search needs
-
 cast-wide : tie.Need-cast-wide Inv-loop μ-loop
 cast-wide c = search needs
 
@@ -69,14 +63,20 @@ shared-slice-read-wide c = search needs
 wide-requires : tie.Need-wide-requires Inv-loop μ-loop
 wide-requires c κs = search needs
 
-cast-low : tie.Need-cast-low Inv-loop μ-loop
-cast-low c = search needs
+cast-acc : tie.Need-cast-acc Inv-loop μ-loop
+cast-acc c = search needs
 
-shr-low : tie.Need-shr-low Inv-loop μ-loop
-shr-low c = search needs
+shl-acc : tie.Need-shl-acc Inv-loop μ-loop
+shl-acc c = search needs
 
-low-requires : tie.Need-low-requires Inv-loop μ-loop
-low-requires c κs = search needs
+cast-acc-2 : tie.Need-cast-acc-2 Inv-loop μ-loop
+cast-acc-2 c = search needs
+
+shr-acc : tie.Need-shr-acc Inv-loop μ-loop
+shr-acc c = search needs
+
+ones-requires : tie.Need-ones-requires Inv-loop μ-loop
+ones-requires c κs = search needs
 
 add-k : tie.Need-add-k Inv-loop μ-loop
 add-k c = search needs
@@ -93,14 +93,15 @@ loop-again c =
     let q : ℕ = x .pos / 8 + at / 8 in
     let m : ℕ = 8 - at % 8 - n in
     let bytes : Bytes (x .s .now) = record { byte = λ i. c .before .before .shared-slice-known2 .given i .fits } in
-    let next : c .low .result ≡ field (x .s .now) (x .pos + v .k) n
-    = c .low .ensures
+    let next : bitAnd (c .before .wide .result / 2 ^ m) (c .ones .result) ≡ field (x .s .now) (x .pos + v .k) n
+    = ap (λ (z : ℕ). bitAnd (c .before .wide .result / 2 ^ m) z) (c .ones .ensures)
+    ∙ and-mask (c .before .wide .result / 2 ^ m) n
     ∙ ap (λ (z : ℕ). z / 2 ^ m % 2 ^ n) (c .before .wide .ensures)
     ∙ sym (field-in-byte bytes (x .pos + v .k) q (at % 8) n m (omega arith) (omega arith) (omega arith)) in (
       omega arith,
       omega arith,
       omega arith,
-      field-or (x .s .now) (x .pos) (x .pos + v .k) (v .k) n (v .acc) (c .low .result) refl (omega arith) (omega arith) (v .inv .3) next,
+      field-more (x .s .now) (x .pos) (x .pos + v .k) (v .k) n (v .acc) _ refl (omega arith) (omega arith) (v .inv .3) next,
     )
 
 returns-2 : tie.Need-returns-2 Inv-loop μ-loop
@@ -127,15 +128,15 @@ get-by-bytes-spec =
     chunk-requires
     sub-m
     sub-m-2
-    cast-acc
-    shl-acc
     cast-wide
     add-wide
     shared-slice-read-wide
     wide-requires
-    cast-low
-    shr-low
-    low-requires
+    cast-acc
+    shl-acc
+    cast-acc-2
+    shr-acc
+    ones-requires
     add-k
     loop-less
     loop-again

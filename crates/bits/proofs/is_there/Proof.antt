@@ -1,6 +1,5 @@
 -- The bits end in the last byte of those from byte pos / 8 on that pos % 8 + width bits touch.
-use mathlib.Core.Path.{_≡_, refl, sym, ap, ap₂, _∙_}
-use Prim.Native.Nat.{ℕ, _+_, _-_, _*_, _/_, _%_, _^_, _≤_, _<_}
+use mathlib.Core.Path.{sym}
 use native.Mathlib.Omega.{arith}
 use Rattle.bits.specs.Laws.{is-there, not-there}
 use borrow.Author.Needs.{needs}

@@ -1,10 +1,8 @@
 -- In one word where there is one (`put-in-word`), and else by bytes, which is proved to do the same.
-use Prim.Native.Nat.{ℕ, _+_, _-_, _*_, _/_, _%_, _^_, _≤_, _<_}
 use mathlib.Core.Path.{sym}
-use native.Mathlib.Nat.{mod-lt}
+use Prim.Native.Nat.{_+_, _/_, _%_, _≤_, _<_}
 use native.Mathlib.Omega.{arith}
 use lib.ListN.{length}
-use lib.Pow.{pow-pos}
 use Rattle.bits.specs.Laws.{is-there}
 use Rattle.bits.proofs.Steps.{put-in-word}
 use borrow.Author.Needs.{needs}
@@ -20,10 +18,6 @@ inside : (c : tie.Then1)
     × (c .before .before .before .before .args .pos / 8 + 8 ≤ length (c .before .before .before .before .args .s .now))
 inside c = c .before .in-one-word .ensures (c .if1 .taken)
 
--- the code that is put has width bits
-small : (c : tie.After-low) → c .low .result < 2 ^ c .before .before .before .before .before .before .before .args .width
-small c = rw (c .low .ensures) (mod-lt _ (pow-pos (c .before .before .before .before .before .before .before .args .width)))
-
 cast-m : tie.Need-cast-m
 cast-m c = search needs
 
@@ -36,14 +30,11 @@ sub-m-2 c = let w = inside c in omega arith
 eight-at-requires : tie.Need-eight-at-requires
 eight-at-requires c κs = let w = inside (c .before) in omega arith
 
-low-requires : tie.Need-low-requires
-low-requires c κs = let w = inside (c .before .before) in omega arith
-
 in-word-requires : tie.Need-in-word-requires
-in-word-requires c κs = let w = inside (c .before .before .before) in (omega arith, omega arith, small c)
+in-word-requires c κs = let w = inside (c .before .before) in omega arith
 
 put-eight-requires : tie.Need-put-eight-requires
-put-eight-requires c κs = let w = inside (c .before .before .before .before .before) in omega arith
+put-eight-requires c κs = let w = inside (c .before .before .before .before) in omega arith
 
 put-by-bytes-requires : tie.Need-put-by-bytes-requires
 put-by-bytes-requires c κs = search needs
@@ -53,10 +44,10 @@ same-length c = search needs
 
 returns : tie.Need-returns
 returns c =
-    let x = c .before .before .before .before .before .before .before .before .before .before .before .before .args in
-    let w = inside (c .before .before .before .before .before .before .before .before) in (
+    let x = c .before .before .before .before .before .before .before .before .before .before .before .args in
+    let w = inside (c .before .before .before .before .before .before .before) in (
       sym (is-there (x .s .now) (x .pos) (x .width) (omega arith) (omega arith)),
-      put-in-word (x .s .now) (x .pos) (x .width) _ (w .0) (w .1) (w .2) (c .before .before .before .before .before .before .eight-at .ensures) (x .code) _ _ _ (c .before .before .before .before .before .low .ensures) (small (c .before .before .before .before .before))
+      put-in-word (x .s .now) (x .pos) (x .width) _ (w .0) (w .1) (w .2) (c .before .before .before .before .before .eight-at .ensures) (x .code) _ _
           (c .before .before .before .before .in-word .ensures) (c .before .before .put-eight .ensures),
     )
 
@@ -75,7 +66,6 @@ put-spec =
     sub-m
     sub-m-2
     eight-at-requires
-    low-requires
     in-word-requires
     put-eight-requires
     put-by-bytes-requires

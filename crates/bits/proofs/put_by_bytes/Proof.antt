@@ -1,14 +1,13 @@
 -- The first k bits of the code are put; a step puts the next n, which lie in one byte.
-use mathlib.Core.Bool.{true, false}
 use mathlib.Core.Path.{_≡_, refl, sym, ap, ap₂, _∙_}
-use Prim.Native.Nat.{ℕ, _+_, _-_, _*_, _/_, _%_, _^_, _≤_, _<_}
-use native.Mathlib.Nat.{mod-lt, add-zero, sub-self, div-one}
+use Prim.Native.Nat.{ℕ, _+_, _-_, _*_, _/_, _%_, _^_, _≤_}
+use native.Mathlib.Nat.{add-zero, sub-self, div-one}
 use native.Mathlib.Omega.{arith}
 use borrow.Author.Tests.{not-true, not-false}
-use lib.ListN.{length, getD, take, drop, length-set, take-append-drop}
-use lib.Pow.{pow-pos}
-use Rattle.bits.specs.Bits.{toBits, bitsOf, Bytes, putTo, leaves}
-use Rattle.bits.specs.Laws.{is-there, there-width, there-end, leaves-there, leaves-not, length-toBits, put-more}
+use lib.ListN.{length, getD, length-set, take-append-drop}
+use lib.Pow.{shr-shr}
+use Rattle.bits.specs.Bits.{toBits, bitsOf, Bytes, putTo}
+use Rattle.bits.specs.Laws.{placed, is-there, there-width, there-end, leaves-there, leaves-not, length-toBits, put-join}
 use Rattle.bits.proofs.Steps.{store-in-byte}
 use borrow.Author.Needs.{needs}
 use Rattle.bits.proofs.put_by_bytes.Statement.{statement}
@@ -70,31 +69,26 @@ cast-i c = search needs
 add-i : tie.Need-add-i Inv-loop μ-loop
 add-i c = search needs
 
-sub-low : tie.Need-sub-low Inv-loop μ-loop
-sub-low c = search needs
-
-sub-low-2 : tie.Need-sub-low-2 Inv-loop μ-loop
-sub-low-2 c = search needs
-
-cast-low : tie.Need-cast-low Inv-loop μ-loop
-cast-low c = search needs
-
-shr-low : tie.Need-shr-low Inv-loop μ-loop
-shr-low c = search needs
-
-low-requires : tie.Need-low-requires Inv-loop μ-loop
-low-requires c κs = search needs
-
 slice-read-wide : tie.Need-slice-read-wide Inv-loop μ-loop
 slice-read-wide c = search needs
 
 wide-requires : tie.Need-wide-requires Inv-loop μ-loop
 wide-requires c κs = search needs
 
+sub-in-word : tie.Need-sub-in-word Inv-loop μ-loop
+sub-in-word c = search needs
+
+sub-in-word-2 : tie.Need-sub-in-word-2 Inv-loop μ-loop
+sub-in-word-2 c = search needs
+
+cast-in-word : tie.Need-cast-in-word Inv-loop μ-loop
+cast-in-word c = search needs
+
+shr-in-word : tie.Need-shr-in-word Inv-loop μ-loop
+shr-in-word c = search needs
+
 in-word-requires : tie.Need-in-word-requires Inv-loop μ-loop
-in-word-requires c κs =
-    let n = c .before .before .before .chunk .result in
-    (omega arith, omega arith, rw (c .before .before .low .ensures) (mod-lt _ (pow-pos n)))
+in-word-requires c κs = search needs
 
 narrow-requires : tie.Need-narrow-requires Inv-loop μ-loop
 narrow-requires c κs = search needs
@@ -110,30 +104,31 @@ loop-less c = search needs
 
 loop-again : tie.Need-loop-again Inv-loop μ-loop
 loop-again c =
-    let x = c .before .before .before .before .before .before .before .before .before .before .before .before .args in
-    let v = c .before .before .before .before .before .before .before .loop in
-    let n = c .before .before .before .before .before .chunk .result in
-    let y = c .before .before .before .before .low .result in
+    let x = c .before .before .before .before .before .before .before .before .before .before .before .args in
+    let v = c .before .before .before .before .before .before .loop in
+    let n = c .before .before .before .before .chunk .result in
     let at : ℕ = x .pos % 8 + v .k in
     let q : ℕ = x .pos / 8 + at / 8 in
     let m : ℕ = 8 - at % 8 - n in
     let r : ℕ = x .width - v .k - n in
+    let l = toBits (x .s .now) in
     let bytes : Bytes (v .s) = record { byte = λ i. c .before .before .before .slice-known2 .given i .fits } in
-    let ey : y ≡ x .code / 2 ^ r % 2 ^ n = c .before .before .before .before .low .ensures in
+    let y : ℕ = x .code / 2 ^ r in
     let left : x .width - v .k ≡ r + n = omega arith in
     let less : r ≡ x .width - (v .k + n) = omega arith in
-    let stored : c .narrow .result ≡ (getD (v .s) q 0 / 2 ^ (n + m) * 2 ^ (n + m) + (y * 2 ^ m + getD (v .s) q 0 % 2 ^ m)) % 256
+    let stored : c .narrow .result ≡ placed (getD (v .s) q 0) n m (y % 2 ^ n) % 256
     = c .narrow .ensures
     ∙ ap (λ (z : ℕ). z % 256)
-    (c .before .in-word .ensures ∙ ap (λ (b : ℕ). b / 2 ^ (n + m) * 2 ^ (n + m) + (y * 2 ^ m + b % 2 ^ m)) (c .before .before .wide .ensures)) in (
+    (c .before .in-word .ensures ∙ ap (λ (b : ℕ). placed b n m (y % 2 ^ n)) (c .before .before .wide .ensures)) in
+    let before : toBits (v .s) ≡ putTo l (x .pos) (v .k) (y / 2 ^ n)
+    = v .inv .4 ∙ ap (λ (z : ℕ). putTo l (x .pos) (v .k) z) (ap (λ (z : ℕ). x .code / 2 ^ z) left ∙ sym (shr-shr (x .code) r n)) in (
       omega arith,
       omega arith,
       omega arith,
       length-set (v .s) q (c .narrow .result) ∙ v .inv .3,
-      store-in-byte bytes (x .pos + v .k) q (at % 8) n m y _ (omega arith) (omega arith) (omega arith) (rw ey (mod-lt _ (pow-pos n))) stored
-          ∙ ap (λ (z : ℕ). putTo (toBits (v .s)) (x .pos + v .k) n z) ey
-          ∙ put-more (toBits (x .s .now)) (toBits (v .s)) (x .pos) (v .k) n r (x .code) (omega (arith, length-toBits (x .s .now))) (rw left at (v .inv .4))
-          ∙ ap (λ (z : ℕ). putTo (toBits (x .s .now)) (x .pos) (v .k + n) (x .code / 2 ^ z)) less,
+      store-in-byte bytes (x .pos + v .k) q (at % 8) n m y _ (omega arith) (omega arith) (omega arith) stored
+          ∙ put-join l (toBits (v .s)) (x .pos) (v .k) n y (omega (arith, length-toBits (x .s .now))) before
+          ∙ ap (λ (z : ℕ). putTo l (x .pos) (v .k + n) (x .code / 2 ^ z)) less,
     )
 
 same-length-2 : tie.Need-same-length-2 Inv-loop μ-loop
@@ -170,13 +165,12 @@ put-by-bytes-spec =
     sub-m-2
     cast-i
     add-i
-    sub-low
-    sub-low-2
-    cast-low
-    shr-low
-    low-requires
     slice-read-wide
     wide-requires
+    sub-in-word
+    sub-in-word-2
+    cast-in-word
+    shr-in-word
     in-word-requires
     narrow-requires
     slice-write-s

@@ -1,11 +1,9 @@
 -- Two bytes are two fields of 8 bits in a row (`field-or`).
-use mathlib.Core.Path.{_≡_, refl, sym, ap, ap₂, _∙_}
-use Prim.Native.Nat.{ℕ, _+_, _-_, _*_, _/_, _%_, _^_, _≤_, _<_}
+use mathlib.Core.Path.{_≡_, ap, _∙_}
+use Prim.Native.Nat.{ℕ, _+_, _*_, _^_}
 use native.Mathlib.Omega.{arith}
-use lib.ListN.{getD}
-use Rattle.bits.specs.Bits.{Bytes}
-use Rattle.bits.specs.Laws.{field-byte}
-use Rattle.bits.proofs.Steps.{field-or}
+use Rattle.bits.specs.Bits.{Bytes, field}
+use Rattle.bits.proofs.Steps.{byte-up, field-or}
 use borrow.Author.Needs.{needs}
 use Rattle.bits.proofs.two_at.Statement.{statement}
 use Rattle.bits.proofs.two_at.Tie as tie
@@ -16,6 +14,15 @@ shared-slice-read-wide c = search needs
 wide-requires : tie.Need-wide-requires
 wide-requires c κs = search needs
 
+add-result : tie.Need-add-result
+add-result c = search needs
+
+cast-result : tie.Need-cast-result
+cast-result c = search needs
+
+shl-result : tie.Need-shl-result
+shl-result c = search needs
+
 add-wide : tie.Need-add-wide
 add-wide c = search needs
 
@@ -25,13 +32,17 @@ shared-slice-read-wide-2 c = search needs
 wide-requires-2 : tie.Need-wide-requires-2
 wide-requires-2 c κs = search needs
 
+shl-result-2 : tie.Need-shl-result-2
+shl-result-2 c = search needs
+
 returns : tie.Need-returns
 returns c =
     let x = c .before .before .before .before .before .args in
     let bytes : Bytes (x .s .now) = record { byte = λ i. c .before .shared-slice-known3 .given i .fits } in
-    field-or (x .s .now) (8 * x .at) (8 * (x .at + 1)) 8 8 _ _ (omega arith) (omega arith) (omega arith)
-    (c .before .before .wide .ensures ∙ sym (field-byte bytes (x .at) (omega arith)))
-    (c .wide2 .ensures ∙ sym (field-byte bytes (x .at + 1) (omega arith)))
+    let e : x .up + 8 ≡ 8 + x .up = omega arith in
+    field-or (x .s .now) (8 * x .at) (8 * (x .at + 1)) 8 8 (x .up) _ _ (omega arith) (omega arith)
+    (byte-up bytes (x .at) (x .up + 8) _ (omega arith) (omega arith) (c .before .before .wide .ensures) ∙ ap (λ (z : ℕ). field (x .s .now) (8 * x .at) 8 * 2 ^ z) e)
+    (byte-up bytes (x .at + 1) (x .up) _ (omega arith) (omega arith) (c .wide2 .ensures))
 
 pub two-at-spec : {M : Type 1} → statement M
 two-at-spec =
@@ -39,7 +50,11 @@ two-at-spec =
     (tie.spec
     shared-slice-read-wide
     wide-requires
+    add-result
+    cast-result
+    shl-result
     add-wide
     shared-slice-read-wide-2
     wide-requires-2
+    shl-result-2
     returns)
