@@ -79,20 +79,20 @@ is-sealed s x k a b c d e h q ea eb ec ed = let z : eqb (tf004 s) 0 ≡ false = 
 pub is-frame : (s : List ℕ) (k k′ c c′ ty n su t tag so pr at to : ℕ) (seal : Seal) → k ≡ tf008 s → k′ ≡ k → c ≡ tf005 s → c′ ≡ c → seal ≡ sealOf s → ty ≡ tf002 s → n ≡ tf003 s
     → su ≡ tf007 s → t ≡ 16 + 16 * k′ → tag ≡ field s 37 t → so ≡ field s (37 + (16 + 16 * k′)) 7 → pr ≡ field s (44 + (16 + 16 * k′)) 4 → at ≡ payloadAt s → to ≡ checkAt s
     → _≡_ {A = Frame}
-      (record {
-        «message_type» = ty;
-        «payload_length» = n;
-        seal = seal;
-        «check_type» = c;
-        subtype = su;
-        «tag_kind» = k;
-        tag = tag;
-        solution = so;
-        processor = pr;
-        «payload_at» = at;
-        length = to + (c′ + 1)
-      })
-      (frameOf s)
+    (record {
+      «message_type» = ty;
+      «payload_length» = n;
+      seal = seal;
+      «check_type» = c;
+      subtype = su;
+      «tag_kind» = k;
+      tag = tag;
+      solution = so;
+      processor = pr;
+      «payload_at» = at;
+      length = to + (c′ + 1);
+    })
+    (frameOf s)
 unfolding frameOf
 is-frame s k k′ c c′ ty n su t tag so pr at to seal ek ek′ ec ec′ es et en eu eb eg eo ep ea eto = rw (et, en, es, eu, eg, eb, eo, ep, ea, eto, ec′, ec, ek′, ek)
 

@@ -36,7 +36,7 @@ frameOf s =
       solution = tf010 s;
       processor = tf011 s;
       «payload_at» = payloadAt s;
-      length = frameBytes s
+      length = frameBytes s;
     }
 
 -- "TF018 covers everything after the preamble up to itself"

@@ -43,7 +43,7 @@ in-range p e =
       kind-fits = ltb-true _ _ (d .1);
       tag-fits = ltb-true _ _ (c .1);
       solution-fits = ltb-true _ _ (b .1);
-      processor-fits = ltb-true _ _ (a .1)
+      processor-fits = ltb-true _ _ (a .1);
     }
 
 pub range-in : (p : Parts) → InRange p → inRange p ≡ true

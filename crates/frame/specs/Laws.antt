@@ -83,7 +83,7 @@ accepted s f e =
       known-length = i .0;
       there = j .0;
       right = eqb-true _ _ (not-false _ (k .0));
-      is = cc
+      is = cc;
     }
   where
     not-zero : (n : ℕ) → (n ≡ 0 → ⊥) → 1 ≤ n

@@ -6,3 +6,4 @@ pub mod Write
 pub mod WriteLaws
 pub mod Header
 pub mod RoundTrip
+pub mod Determined

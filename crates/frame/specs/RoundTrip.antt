@@ -94,7 +94,7 @@ starts s rest p n y r hn hy e =
       length-is = read-at s (a ++ b) (d ++ (f ++ (g ++ rest))) 15 10 _ (e ∙ simp append-assoc) (simp length-append (omega arith)) hn;
       plain-is = read-at s (a ++ (b ++ c)) (f ++ (g ++ rest)) 25 1 _ (e ∙ simp append-assoc) (simp length-append (omega arith)) (omega arith);
       check-is = read-at s (a ++ (b ++ (c ++ d))) (g ++ rest) 26 2 _ (e ∙ simp append-assoc) (simp length-append (omega arith)) (r .check-fits);
-      crc-is = read-at s (a ++ (b ++ (c ++ (d ++ f)))) rest 28 4 _ (e ∙ simp append-assoc) (simp length-append (omega arith)) hy
+      crc-is = read-at s (a ++ (b ++ (c ++ (d ++ f)))) rest 28 4 _ (e ∙ simp append-assoc) (simp length-append (omega arith)) hy;
     }
 
 -- TF007 to TF011 are read as they were laid, behind the four bytes of the start
@@ -131,7 +131,7 @@ says s front rest p r lo e =
       solution-is = ap (λ (k : ℕ). field s (37 + tagBits k) 7) kind
           ∙ read-at s (front ++ (a ++ (b ++ c))) (f ++ rest) (37 + w) 7 _ (e ∙ simp append-assoc) (simp length-append (omega arith)) (r .solution-fits);
       processor-is = ap (λ (k : ℕ). field s (44 + tagBits k) 4) kind
-          ∙ read-at s (front ++ (a ++ (b ++ (c ++ d)))) rest (44 + w) 4 _ (e ∙ simp append-assoc) (simp length-append (omega arith)) (r .processor-fits)
+          ∙ read-at s (front ++ (a ++ (b ++ (c ++ d)))) rest (44 + w) 4 _ (e ∙ simp append-assoc) (simp length-append (omega arith)) (r .processor-fits);
     }
 
 -- ---- a written frame is accepted
@@ -294,7 +294,7 @@ module _ (p : Parts) (r : InRange p) (payload : List ℕ) (some : 1 ≤ length p
         right =
             ap₂ messageCrc (its-start .check-is) covered ∙ sym check-code
             ∙ ap₂ (λ (a k : ℕ). field s (8 * a) (8 * (k + 1))) (sym checkAt-is) (sym (its-start .check-is));
-        is = refl
+        is = refl;
       }
 
   header-is : frameOf s ≡ headerOf p payload
@@ -356,7 +356,7 @@ parts-fit s =
       kind-fits = field-lt s 36 1;
       tag-fits = field-lt s 37 (tagBits (tf008 s));
       solution-fits = field-lt s (37 + tagBits (tf008 s)) 7;
-      processor-fits = field-lt s (44 + tagBits (tf008 s)) 4
+      processor-fits = field-lt s (44 + tagBits (tf008 s)) 4;
     }
 
 -- neighbouring pieces of a list are one
@@ -518,6 +518,7 @@ write-check p payload out n e =
     neither : (a b : Bool) → (a || b) ≡ false → (a ≡ false) × (b ≡ false)
     neither true b e = absurd (true≢false e)
     neither false b e = (refl, e)
+
     one : (n : ℕ) → (n ≡ 0 → ⊥) → 1 ≤ n
     one zero h = absurd (h refl)
     one (suc n) h = omega arith

@@ -91,7 +91,7 @@ partsOf f =
       «tag_kind» = f .«tag_kind»;
       tag = f .tag;
       solution = f .solution;
-      processor = f .processor
+      processor = f .processor;
     }
 
 abbrev pub headerOf : Parts → List ℕ → F.Frame
@@ -107,5 +107,5 @@ headerOf p payload =
       solution = p .solution;
       processor = p .processor;
       «payload_at» = 4 + descriptionBytes (p .«tag_kind») 0;
-      length = length (plain p payload)
+      length = length (plain p payload);
     }

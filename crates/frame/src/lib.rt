@@ -11,7 +11,6 @@ ghost use Rattle.frame.specs.Check.{checked, payloadIn, payloadOf, numbe
 ghost use Rattle.frame.specs.Write.{bytesOf, start, description, checkOver, body, plain, inRange, written, outAfter, numberOfWritten};
 ghost use Rattle.frame.specs.Header.{InRange};
 ghost use Rattle.frame.specs.Stages.{described, whole};
-
 use answer::Refusal;
 
 // TF012 to TF015, which a sealed frame has.
