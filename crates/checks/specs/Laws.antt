@@ -1,12 +1,11 @@
 -- Serves proofs, and is proved: the laws of the two checks for the layers above. How wide each is, and that TF006 does not look at the
 -- four bits where it stands.
-use mathlib.Core.Path.{_≡_, refl, sym, ap, _∙_, subst}
+use mathlib.Core.Path.{_≡_, ap}
 use mathlib.Core.List.{List, [], _∷_, _++_}
 use Prim.Native.Nat.{ℕ, zero, suc, _+_, _*_, _/_, _%_, _^_, _≤_, _<_}
 use native.Mathlib.Nat.{mod-lt}
 use native.Mathlib.Omega.{arith}
-use lib.Bits.{bitXor, xor-lt}
-use lib.Pow.{pow-pos}
+use lib.Bits.{xor-lt}
 use Rattle.bits.specs.Bits.{bitsOf, toBits, number}
 use Rattle.checks.specs.Crc.{crcBits, crc, lowFirst, reversed4, frameCrc, messageCrc}
 use Rattle.checks.specs.Steps.{crcByte}

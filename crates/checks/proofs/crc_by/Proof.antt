@@ -1,63 +1,54 @@
-use mathlib.Core.Path.{_≡_, refl, sym, ap, _∙_}
-use Prim.Native.Nat.{ℕ, _+_, _-_, _^_, _≤_, _<_}
+-- The loop's invariant: the check of what is left, from the register, is the check of all from the start; eight bytes a turn keep it. The measure is what is left.
+use mathlib.Core.Path.{_≡_, _∙_}
+use mathlib.Core.List.{List}
+use Prim.Native.Nat.{ℕ, _-_, _^_, _≤_, _<_}
 use native.Mathlib.Omega.{arith}
 use lib.ListN.{length, getD, drop}
 use Rattle.checks.specs.Crc.{crc}
-use Rattle.checks.specs.Register.{byte-lt, crc-next, crc-done}
+use Rattle.checks.specs.Steps.{polynomialOf}
+use Rattle.checks.proofs.Turns.{crc-words}
 use borrow.Author.Needs.{needs}
 use Rattle.checks.proofs.crc_by.Statement.{statement}
 use Rattle.checks.proofs.crc_by.Tie as tie
-use Rattle.checks.proofs.crc_by.Reads as reads
-use Rattle.checks.proofs.crc_by.Lts as lts
-use Rattle.checks.proofs.step.Reads as step-reads
 
 abbrev Inv-loop : tie.InvT-loop
-Inv-loop table start s reg₀ i₀ reg i = (i ≤ length s) × (reg < 2 ^ 32) × (crc 32 (getD table 1 0) reg (drop i s) ≡ crc 32 (getD table 1 0) start s)
+Inv-loop table start s reg₀ i₀ reg i =
+    (i ≤ length s) × (reg < 2 ^ 32) × (crc 32 (polynomialOf table) reg (drop i s) ≡ crc 32 (polynomialOf table) start s)
 
 abbrev μ-loop : tie.MeasureT-loop
 μ-loop table start s reg₀ i₀ reg i = length s - i
 
--- src/lib.rt:47:5
 loop-holds : tie.Need-loop-holds Inv-loop μ-loop
 loop-holds c = search needs
 
--- src/lib.rt:48:32
-shared-slice-read-step : tie.Need-shared-slice-read-step Inv-loop μ-loop
-shared-slice-read-step c = search needs
+sub-loop : tie.Need-sub-loop Inv-loop μ-loop
+sub-loop c = search needs
 
--- src/lib.rt:48:9
-step-requires : tie.Need-step-requires Inv-loop μ-loop
-step-requires c κs = search needs
+crc-words-requires : tie.Need-crc-words-requires Inv-loop μ-loop
+crc-words-requires c κs = search needs
 
--- src/lib.rt:49:9
 add-i : tie.Need-add-i Inv-loop μ-loop
 add-i c = search needs
 
--- src/lib.rt:47:5
 loop-less : tie.Need-loop-less Inv-loop μ-loop
 loop-less c = search needs
 
--- src/lib.rt:47:5
 loop-again : tie.Need-loop-again Inv-loop μ-loop
 loop-again c =
-    let e = c .before .before .before .before .before in
-    let x = e .args in
-    let v = c .before .before .before .loop in
-    let p : ℕ = getD (x .table .now) 1 0 in
-    let h : v .i < length (x .s .now) = omega arith in
-    let b : getD (x .s .now) (v .i) 0 < 256 = omega (arith, c .before .before .before .before .shared-slice-known .given (v .i)) in (
+    let start = c .before .before .before .before in
+    let s : List ℕ = start .args .s .now in
+    let v = c .before .before .loop in
+    let bytes : (k : ℕ) → getD s k 0 < 256 = λ k. c .before .before .before .shared-slice-known .given k .fits in (
       omega arith,
-      rw (c .step .ensures) (byte-lt 32 p (omega arith) (e .pre .small) (v .reg) (getD (x .s .now) (v .i) 0) (v .inv .1) b),
-      ap (λ (r : ℕ). crc 32 p r (drop (v .i + 1) (x .s .now))) (c .step .ensures)
-          ∙ crc-next 32 p (v .reg) (x .s .now) (v .i) (omega arith) (e .pre .small) (v .inv .1) b h ∙ v .inv .2,
+      omega arith,
+      crc-words _ (v .reg) (c .crc-words .result) s (v .i) (start .pre .small) (v .inv .1) bytes (omega arith) (c .crc-words .ensures) ∙ v .inv .2,
     )
 
--- src/lib.rt:41:1
+crc-end-requires : tie.Need-crc-end-requires Inv-loop μ-loop
+crc-end-requires c κs = search needs
+
 returns : tie.Need-returns Inv-loop μ-loop
-returns c =
-    let x = c .before .before .before .args in
-    let v = c .before .loop in
-    sym (crc-done 32 (getD (x .table .now) 1 0) (v .reg) (x .s .now) (v .i) (omega arith)) ∙ v .inv .2
+returns c = search needs
 
 pub crc-by-spec : {M : Type 1} → statement M
 crc-by-spec =
@@ -66,9 +57,10 @@ crc-by-spec =
     Inv-loop
     μ-loop
     loop-holds
-    shared-slice-read-step
-    step-requires
+    sub-loop
+    crc-words-requires
     add-i
     loop-less
     loop-again
+    crc-end-requires
     returns)

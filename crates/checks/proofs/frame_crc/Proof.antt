@@ -1,23 +1,38 @@
-use mathlib.Core.Path.{refl}
-use Rattle.bits.specs.Bits.{bitsOf, number}
-use Rattle.checks.specs.Crc.{shift, crcBits, lowFirst, reversed4}
-use Rattle.checks.specs.Steps.{frameStep}
-use Rattle.checks.proofs.Rules.{is-frame-table}
+-- TF006: three bytes from register 0, the last with the four filler bits, are the definition's list of bits; the register is in reverse all the way.
+use mathlib.Core.Path.{ap, _∙_}
+use Prim.Native.Nat.{ℕ, _*_, _/_}
+use Rattle.checks.specs.Steps.{frameByte}
+use Rattle.checks.proofs.Turns.{frame-bytes}
 use borrow.Author.Needs.{needs}
 use Rattle.checks.proofs.frame_crc.Statement.{statement}
 use Rattle.checks.proofs.frame_crc.Tie as tie
-use Rattle.checks.proofs.frame_crc.Reads as reads
-use Rattle.checks.proofs.frame_crc.Lts as lts
-use Rattle.checks.proofs.frame_by.Reads as frame-by-reads
 
--- src/lib.rt:38:5
-frame-by-requires : tie.Need-frame-by-requires
-unfolding frameStep reversed4 lowFirst crcBits shift bitsOf number
-frame-by-requires c κs = is-frame-table _ refl tt
+frame-byte-requires : tie.Need-frame-byte-requires
+frame-byte-requires c κs = search needs
 
--- src/lib.rt:35:1
+frame-byte-requires-2 : tie.Need-frame-byte-requires-2
+frame-byte-requires-2 c κs = search needs
+
+mul-frame-byte : tie.Need-mul-frame-byte
+mul-frame-byte c = search needs
+
+frame-byte-requires-3 : tie.Need-frame-byte-requires-3
+frame-byte-requires-3 c κs = search needs
+
 returns : tie.Need-returns
-returns c = search needs
+returns c =
+    let x = c .before .before .before .args in
+    c .frame-byte3 .ensures .0
+    ∙ ap (λ (r : ℕ). frameByte r (x .c / 16 * 16))
+    (c .before .frame-byte2 .ensures .0 ∙ ap (λ (r : ℕ). frameByte r (x .b)) (c .before .before .frame-byte .ensures .0))
+    ∙ frame-bytes (x .a) (x .b) (x .c)
 
 pub frame-crc-spec : {M : Type 1} → statement M
-frame-crc-spec = tie.close (tie.spec frame-by-requires returns)
+frame-crc-spec =
+    tie.close
+    (tie.spec
+    frame-byte-requires
+    frame-byte-requires-2
+    mul-frame-byte
+    frame-byte-requires-3
+    returns)
