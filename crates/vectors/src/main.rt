@@ -1,4 +1,8 @@
-// Runs published check values and frame headers over the functions of `checks` and prints each beside what it should be.
+// Runs published check values, frame headers and a whole frame over the real functions and prints each beside what it should be.
+use frame::Checked;
+use frame::Frame;
+use frame::Seal;
+use frame::Sealing;
 use libc::STDOUT_FILENO;
 ghost use Prim.Native.Nat.{_≤_};
 ghost use lib.ListN.{length};
@@ -109,11 +113,104 @@ fn put_headers(out: &mut [u8], at: usize) -> usize
     put_header(out, c, 0, 34, 3)
 }
 
+// A number that a frame's header gave beside what it should be.
+fn put_field(out: &mut [u8], at: usize, name: &[u8], given: u64, wanted: u64) -> usize
+    requires { ⌜ at ≤ length (now out) ⌝ }
+    ensures { λ r. ⌜ r ≤ length (now (out .exit)) ⌝ }
+{
+    let a = put(out, at, name);
+    let b = put_decimal(out, a, given);
+    let c = put(out, b, b" should be ");
+    let d = put_decimal(out, c, wanted);
+    put(out, d, b"\n")
+}
+
+// TF012 to TF015.
+fn put_sealing(out: &mut [u8], at: usize, sealing: Sealing) -> usize
+    requires { ⌜ at ≤ length (now out) ⌝ }
+    ensures { λ r. ⌜ r ≤ length (now (out .exit)) ⌝ }
+{
+    let a = put_field(out, at, b"TF012 ", sealing.id as u64, 1);
+    let b = put_field(out, a, b"TF013 ", sealing.sequence as u64, 9);
+    let c = put_field(out, b, b"TF014 ", sealing.authentication as u64, 1);
+    put_field(out, c, b"TF015 ", sealing.authentication_length as u64, 0)
+}
+
+fn put_seal(out: &mut [u8], at: usize, seal: Seal) -> usize
+    requires { ⌜ at ≤ length (now out) ⌝ }
+    ensures { λ r. ⌜ r ≤ length (now (out .exit)) ⌝ }
+{
+    match seal {
+        Seal::Plain => put(out, at, b"TF004 0 should be 1\n"),
+        Seal::Sealed(sealing) => {
+            let next = put(out, at, b"TF004 1 should be 1\n");
+            put_sealing(out, next, sealing)
+        }
+    }
+}
+
+// TF002 to TF008, but for TF004 and TF006.
+fn put_start(out: &mut [u8], at: usize, frame: Frame) -> usize
+    requires { ⌜ at ≤ length (now out) ⌝ }
+    ensures { λ r. ⌜ r ≤ length (now (out .exit)) ⌝ }
+{
+    let a = put_field(out, at, b"TF002 ", frame.message_type as u64, 0);
+    let b = put_field(out, a, b"TF003 ", frame.payload_length as u64, 37);
+    let c = put_field(out, b, b"TF005 ", frame.check_type as u64, 2);
+    let d = put_field(out, c, b"TF007 ", frame.subtype as u64, 0);
+    put_field(out, d, b"TF008 ", frame.tag_kind as u64, 0)
+}
+
+// TF009 to TF011, where the payload starts and the frame ends.
+fn put_rest(out: &mut [u8], at: usize, frame: Frame) -> usize
+    requires { ⌜ at ≤ length (now out) ⌝ }
+    ensures { λ r. ⌜ r ≤ length (now (out .exit)) ⌝ }
+{
+    let a = put_field(out, at, b"TF009 ", frame.tag, 3970);
+    let b = put_field(out, a, b"TF010 ", frame.solution as u64, 5);
+    let c = put_field(out, b, b"TF011 ", frame.processor as u64, 11);
+    let d = put_field(out, c, b"payload at ", frame.payload_at as u64, 10);
+    put_field(out, d, b"whole frame ", frame.length as u64, 50)
+}
+
+fn put_frame(out: &mut [u8], at: usize, frame: Frame) -> usize
+    requires { ⌜ at ≤ length (now out) ⌝ }
+    ensures { λ r. ⌜ r ≤ length (now (out .exit)) ⌝ }
+{
+    let a = put_start(out, at, frame);
+    let b = put_rest(out, a, frame);
+    let seal = frame.seal;
+    put_seal(out, b, seal)
+}
+
+// A published whole frame: a sealed GPS OCB.
+fn put_published(out: &mut [u8], at: usize) -> usize
+    requires { ⌜ at ≤ length (now out) ⌝ }
+    ensures { λ r. ⌜ r ≤ length (now (out .exit)) ⌝ }
+{
+    let published = [
+        0x73, 0x00, 0x12, 0xe2, 0x00, 0x7c, 0x10, 0x5b, 0x12, 0x48, 0xf5, 0x09,
+        0xa0, 0xb4, 0x2b, 0x99, 0x02, 0x15, 0xe2, 0x05, 0x85, 0xb7, 0x83, 0xc5,
+        0xfd, 0x0f, 0xfe, 0xdf, 0x18, 0xbe, 0x7f, 0x76, 0x20, 0xc3, 0x60, 0x82,
+        0x98, 0x10, 0x07, 0xdc, 0xeb, 0x82, 0x7f, 0xcf, 0xf8, 0x9e, 0xa3, 0x74,
+        0x61, 0xadu8,
+    ];
+    match frame::check(&published) {
+        Checked::Accepted(frame) => {
+            let next = put(out, at, b"the published frame is accepted\n");
+            put_frame(out, next, frame)
+        }
+        Checked::Short(_) => put(out, at, b"the published frame is SHORT\n"),
+        Checked::Refused(_) => put(out, at, b"the published frame is refused\n"),
+    }
+}
+
 fn put_all(out: &mut [u8]) -> usize
     ensures { λ r. ⌜ Counts r (now (out .exit)) ⌝ }
 {
     let headers = put_checks(out, 0);
-    put_headers(out, headers)
+    let published = put_headers(out, headers);
+    put_published(out, published)
 }
 
 fn main() {
