@@ -10,6 +10,9 @@ put-checks-requires c κs = search needs
 put-headers-requires : tie.Need-put-headers-requires
 put-headers-requires c κs = search needs
 
+put-published-requires : tie.Need-put-published-requires
+put-published-requires c κs = search needs
+
 same-length : tie.Need-same-length
 same-length c = search needs
 
@@ -17,4 +20,4 @@ returns : tie.Need-returns
 returns c = search (counts, needs)
 
 pub put-all-spec : {M : Type 1} → statement M
-put-all-spec = tie.close (tie.spec put-checks-requires put-headers-requires same-length returns)
+put-all-spec = tie.close (tie.spec put-checks-requires put-headers-requires put-published-requires same-length returns)
