@@ -149,28 +149,35 @@ fn put_seal(out: &mut [u8], at: usize, seal: Seal) -> usize
     }
 }
 
-// TF002 to TF008, but for TF004 and TF006.
+// TF002, TF003 and TF005.
 fn put_start(out: &mut [u8], at: usize, frame: Frame) -> usize
     requires { ⌜ at ≤ length (now out) ⌝ }
     ensures { λ r. ⌜ r ≤ length (now (out .exit)) ⌝ }
 {
     let a = put_field(out, at, b"TF002 ", frame.message_type as u64, 0);
     let b = put_field(out, a, b"TF003 ", frame.payload_length as u64, 37);
-    let c = put_field(out, b, b"TF005 ", frame.check_type as u64, 2);
-    let d = put_field(out, c, b"TF007 ", frame.subtype as u64, 0);
-    put_field(out, d, b"TF008 ", frame.tag_kind as u64, 0)
+    put_field(out, b, b"TF005 ", frame.check_type as u64, 2)
 }
 
-// TF009 to TF011, where the payload starts and the frame ends.
+// TF007 to TF009.
+fn put_tag(out: &mut [u8], at: usize, frame: Frame) -> usize
+    requires { ⌜ at ≤ length (now out) ⌝ }
+    ensures { λ r. ⌜ r ≤ length (now (out .exit)) ⌝ }
+{
+    let a = put_field(out, at, b"TF007 ", frame.subtype as u64, 0);
+    let b = put_field(out, a, b"TF008 ", frame.tag_kind as u64, 0);
+    put_field(out, b, b"TF009 ", frame.tag, 3970)
+}
+
+// TF010 and TF011, where the payload starts and the frame ends.
 fn put_rest(out: &mut [u8], at: usize, frame: Frame) -> usize
     requires { ⌜ at ≤ length (now out) ⌝ }
     ensures { λ r. ⌜ r ≤ length (now (out .exit)) ⌝ }
 {
-    let a = put_field(out, at, b"TF009 ", frame.tag, 3970);
-    let b = put_field(out, a, b"TF010 ", frame.solution as u64, 5);
-    let c = put_field(out, b, b"TF011 ", frame.processor as u64, 11);
-    let d = put_field(out, c, b"payload at ", frame.payload_at as u64, 10);
-    put_field(out, d, b"whole frame ", frame.length as u64, 50)
+    let a = put_field(out, at, b"TF010 ", frame.solution as u64, 5);
+    let b = put_field(out, a, b"TF011 ", frame.processor as u64, 11);
+    let c = put_field(out, b, b"payload at ", frame.payload_at as u64, 10);
+    put_field(out, c, b"whole frame ", frame.length as u64, 50)
 }
 
 fn put_frame(out: &mut [u8], at: usize, frame: Frame) -> usize
@@ -178,9 +185,10 @@ fn put_frame(out: &mut [u8], at: usize, frame: Frame) -> usize
     ensures { λ r. ⌜ r ≤ length (now (out .exit)) ⌝ }
 {
     let a = put_start(out, at, frame);
-    let b = put_rest(out, a, frame);
+    let b = put_tag(out, a, frame);
+    let c = put_rest(out, b, frame);
     let seal = frame.seal;
-    put_seal(out, b, seal)
+    put_seal(out, c, seal)
 }
 
 // A published whole frame: a sealed GPS OCB.
@@ -189,11 +197,56 @@ fn put_published(out: &mut [u8], at: usize) -> usize
     ensures { λ r. ⌜ r ≤ length (now (out .exit)) ⌝ }
 {
     let published = [
-        0x73, 0x00, 0x12, 0xe2, 0x00, 0x7c, 0x10, 0x5b, 0x12, 0x48, 0xf5, 0x09,
-        0xa0, 0xb4, 0x2b, 0x99, 0x02, 0x15, 0xe2, 0x05, 0x85, 0xb7, 0x83, 0xc5,
-        0xfd, 0x0f, 0xfe, 0xdf, 0x18, 0xbe, 0x7f, 0x76, 0x20, 0xc3, 0x60, 0x82,
-        0x98, 0x10, 0x07, 0xdc, 0xeb, 0x82, 0x7f, 0xcf, 0xf8, 0x9e, 0xa3, 0x74,
-        0x61, 0xadu8,
+        0x73,
+        0x00,
+        0x12,
+        0xe2,
+        0x00,
+        0x7c,
+        0x10,
+        0x5b,
+        0x12,
+        0x48,
+        0xf5,
+        0x09,
+        0xa0,
+        0xb4,
+        0x2b,
+        0x99,
+        0x02,
+        0x15,
+        0xe2,
+        0x05,
+        0x85,
+        0xb7,
+        0x83,
+        0xc5,
+        0xfd,
+        0x0f,
+        0xfe,
+        0xdf,
+        0x18,
+        0xbe,
+        0x7f,
+        0x76,
+        0x20,
+        0xc3,
+        0x60,
+        0x82,
+        0x98,
+        0x10,
+        0x07,
+        0xdc,
+        0xeb,
+        0x82,
+        0x7f,
+        0xcf,
+        0xf8,
+        0x9e,
+        0xa3,
+        0x74,
+        0x61,
+        0xadu8,
     ];
     match frame::check(&published) {
         Checked::Accepted(frame) => {
