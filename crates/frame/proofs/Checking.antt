@@ -12,7 +12,7 @@ use Rattle.answer.specs.declared.Refusal.the-variants.{Preamble, FrameCrc, Leng
 use Rattle.bits.specs.Bits.{field}
 use Rattle.checks.specs.Crc.{frameCrc, messageCrc}
 use Rattle.frame.specs.Fields.{tf002, tf003, tf004, tf005, tf006, tf007, tf008, tf009, tf010, tf011, tf015, payloadAt, authenticated, authenticationBytes, authentication, checkAt, frameBytes}
-use Rattle.frame.specs.Check.{sealOf, frameOf, badMessageCrc, badFrameCrc, checked, payloadIn, payloadOf}
+use Rattle.frame.specs.Check.{sealOf, frameOf, badMessageCrc, badFrameCrc, checked, fitsIn, payloadIn, placeIn, payloadOf, placeOf}
 use Rattle.frame.specs.Laws.{sealed-if}
 use Rattle.frame.specs.Stages.{whole, described, starting}
 use Rattle.frame.specs.declared.Seal.{Seal}
@@ -178,33 +178,69 @@ module _ (s : List ℕ) where
               let z : eqb (tf003 s) 0 ≡ false = ne-eqb (tf003 s) 0 (λ w. h (en ∙ w)) in
               rw (checked-is, le-ltb (length s) 1, eq-eqb (getD s 0 0) 0x73, le-ltb (length s) 4, start-tested, eq-eqb x y, z, q)
 
--- ---- the payload
+-- ---- the payload, and where it starts: x is where the lent bytes start
 
 module _ (f : Frame) (s : List ℕ) where
+  none : fitsIn f s ≡ false → [] ≡ payloadIn f s
+  unfolding payloadIn
+  none e = rw e
+
+  at-start : fitsIn f s ≡ false → (x : ℕ) → x ≡ x + placeIn f s
+  unfolding placeIn
+  at-start e x = rw e (omega arith)
+
+  early : length s < f .«payload_at» → fitsIn f s ≡ false
+  early h = lt-leb (f .«payload_at» + f .«payload_length») (length s) (omega arith)
+
   pub part-1 : length s < f .«payload_at» → [] ≡ payloadIn f s
-  unfolding payloadIn
-  part-1 h = rw (lt-leb (f .«payload_at» + f .«payload_length») (length s) (omega arith))
+  part-1 h = none (early h)
 
-  pub part-2 : f .«payload_at» ≤ length s → length s - f .«payload_at» < f .«payload_length» → [] ≡ payloadIn f s
-  unfolding payloadIn
-  part-2 h k = rw (lt-leb (f .«payload_at» + f .«payload_length») (length s) (omega arith))
+  pub place-1 : length s < f .«payload_at» → (x : ℕ) → x ≡ x + placeIn f s
+  place-1 h = at-start (early h)
 
-  pub part-3 : f .«payload_at» ≤ length s → f .«payload_length» ≤ length s - f .«payload_at»
-      → take (f .«payload_at» + f .«payload_length» - f .«payload_at») (drop (f .«payload_at») s) ≡ payloadIn f s
-  unfolding payloadIn
-  part-3 h k =
-      let e : f .«payload_at» + f .«payload_length» - f .«payload_at» ≡ f .«payload_length» = omega arith in
-      rw (le-leb (f .«payload_at» + f .«payload_length») (length s) (omega arith), e)
+  module _ (h : f .«payload_at» ≤ length s) where
+    cut : length s - f .«payload_at» < f .«payload_length» → fitsIn f s ≡ false
+    cut k = lt-leb (f .«payload_at» + f .«payload_length») (length s) (omega arith)
+
+    pub part-2 : length s - f .«payload_at» < f .«payload_length» → [] ≡ payloadIn f s
+    part-2 k = none (cut k)
+
+    pub place-2 : length s - f .«payload_at» < f .«payload_length» → (x : ℕ) → x ≡ x + placeIn f s
+    place-2 k = at-start (cut k)
+
+    whole-part : f .«payload_length» ≤ length s - f .«payload_at» → fitsIn f s ≡ true
+    whole-part k = le-leb (f .«payload_at» + f .«payload_length») (length s) (omega arith)
+
+    pub part-3 : f .«payload_length» ≤ length s - f .«payload_at»
+        → take (f .«payload_at» + f .«payload_length» - f .«payload_at») (drop (f .«payload_at») s) ≡ payloadIn f s
+    unfolding payloadIn
+    part-3 k = let e : f .«payload_at» + f .«payload_length» - f .«payload_at» ≡ f .«payload_length» = omega arith in rw (whole-part k, e)
+
+    pub place-3 : f .«payload_length» ≤ length s - f .«payload_at» → (x : ℕ) → f .«payload_at» + x ≡ x + placeIn f s
+    unfolding placeIn
+    place-3 k x = rw (whole-part k) (omega arith)
 
 module _ (s : List ℕ) (v : Checked) (is : v ≡ checked s) where
   pub of-accepted : (f : Frame) (r : List ℕ) → v ≡ Accepted f → r ≡ payloadIn f s → r ≡ payloadOf s
   unfolding payloadOf
   of-accepted f r e q = rw (← is, e, q)
 
+  pub place-accepted : (f : Frame) (x y : ℕ) → v ≡ Accepted f → y ≡ x + placeIn f s → y ≡ x + placeOf s
+  unfolding placeOf
+  place-accepted f x y e q = rw (← is, e, q)
+
   pub of-short : (n : ℕ) → v ≡ Short n → [] ≡ payloadOf s
   unfolding payloadOf
   of-short n e = rw (← is, e)
 
+  pub place-short : (n x : ℕ) → v ≡ Short n → x ≡ x + placeOf s
+  unfolding placeOf
+  place-short n x e = rw (← is, e) (omega arith)
+
   pub of-refused : (r : Refusal) → v ≡ Refused r → [] ≡ payloadOf s
   unfolding payloadOf
   of-refused r e = rw (← is, e)
+
+  pub place-refused : (r : Refusal) (x : ℕ) → v ≡ Refused r → x ≡ x + placeOf s
+  unfolding placeOf
+  place-refused r x e = rw (← is, e) (omega arith)

@@ -1,14 +1,16 @@
 -- Document 01, "The frame", second and third paragraph: when a frame is accepted, and what is handed back. Definitions to believe.
+use mathlib.Core.Path.{_≡_}
 use mathlib.Core.List.{List, []}
 use mathlib.Core.Bool.{Bool, true, false, cond, not, _&&_}
 use Prim.Native.Nat.{ℕ, _+_, _-_, _*_}
+use denote.Ref.{RefT, ptr}
 use lib.Dec.{leb, ltb, eqb}
 use lib.ListN.{length, getD, take, drop}
 use Rattle.answer.specs.Number.{numberOf}
 use Rattle.answer.specs.declared.Refusal.the-variants.{Preamble, FrameCrc, Length, MessageCrc}
 use Rattle.bits.specs.Bits.{field}
 use Rattle.checks.specs.Crc.{frameCrc, messageCrc}
-use Rattle.frame.specs.Fields.{longest, preamble, tf002, tf003, tf004, tf005, tf006, tf007, tf008, tf009, tf010, tf011, tf012, tf013, tf014, tf015, payloadAt, authenticated, checkBytes, checkAt, frameBytes}
+use Rattle.frame.specs.Fields.{preamble, tf002, tf003, tf004, tf005, tf006, tf007, tf008, tf009, tf010, tf011, tf012, tf013, tf014, tf015, payloadAt, authenticated, checkBytes, checkAt, frameBytes}
 use Rattle.frame.specs.declared.Frame.{Frame}
 use Rattle.frame.specs.declared.Sealing.{Sealing}
 use Rattle.frame.specs.declared.Seal.{Seal}
@@ -51,7 +53,7 @@ abbrev pub stop : Bool → Checked → Checked → Checked
 stop true answer rest = answer
 stop false answer rest = rest
 
--- SHORT where fewer than n bytes are there. The answer says n: it cannot change before so many bytes are there.
+-- SHORT where fewer than n bytes are there. The answer says n: it stays SHORT while fewer than n are there, though it may come to want more.
 abbrev pub want : ℕ → List ℕ → Checked → Checked
 want n s rest = stop (ltb (length s) n) (Short n) rest
 
@@ -75,12 +77,19 @@ numberOfChecked (Accepted frame) = 0
 numberOfChecked (Short wanted) = 1
 numberOfChecked (Refused refusal) = numberOf refusal
 
--- the part of the bytes that a header says is its payload, where so many bytes are there
+-- the part of the bytes that a header says is its payload, where so many bytes are there; else the empty part at their start
+abbrev pub fitsIn : Frame → List ℕ → Bool
+fitsIn frame s = leb (frame .«payload_at» + frame .«payload_length») (length s)
+
 unfoldable pub payloadIn : Frame → List ℕ → List ℕ
-payloadIn frame s = cond (leb (frame .«payload_at» + frame .«payload_length») (length s)) (take (frame .«payload_length») (drop (frame .«payload_at») s)) []
+payloadIn frame s = cond (fitsIn frame s) (take (frame .«payload_length») (drop (frame .«payload_at») s)) []
+
+-- and how many bytes of the lent ones are before that part
+unfoldable pub placeIn : Frame → List ℕ → ℕ
+placeIn frame s = cond (fitsIn frame s) (frame .«payload_at») 0
 
 -- "An accepted frame hands back its payload as a part of the bytes that were lent; a refused one, the empty part at their start."
--- (That the part of an accepted frame is there: `payload-there` of Laws.antt.)
+-- (That the payload of an accepted frame is there: `payload-there` of Laws.antt.)
 abbrev pub payloadBy : Checked → List ℕ → List ℕ
 payloadBy (Accepted frame) s = payloadIn frame s
 payloadBy (Short wanted) s = []
@@ -88,3 +97,16 @@ payloadBy (Refused refusal) s = []
 
 unfoldable pub payloadOf : List ℕ → List ℕ
 payloadOf s = payloadBy (checked s) s
+
+abbrev pub placeBy : Checked → List ℕ → ℕ
+placeBy (Accepted frame) s = placeIn frame s
+placeBy (Short wanted) s = 0
+placeBy (Refused refusal) s = 0
+
+unfoldable pub placeOf : List ℕ → ℕ
+placeOf s = placeBy (checked s) s
+
+-- r is a part of the bytes lent as s, and starts so many bytes behind their start
+pub record PartOf {X : Type 0} (r s : RefT X) (place : ℕ) : Type 0 where
+  pub same-bytes : ptr r .0 ≡ ptr s .0
+  pub starts-at : ptr r .1 ≡ ptr s .1 + place

@@ -7,7 +7,7 @@ ghost use Prim.Native.Nat.{ℕ, _+_, _-_, _*_, _^_, _<_, _≤_};
 ghost use lib.ListN.{length, take, drop};
 ghost use Rattle.bits.specs.Bits.{bitsOf, field};
 ghost use Rattle.frame.specs.Fields.{tagBits, tf003, tf004, tf008, tf014, tf015, payloadAt, authenticated, authenticationBytes, authentication, checkAt};
-ghost use Rattle.frame.specs.Check.{checked, payloadIn, payloadOf, numberOfChecked, sealOf, frameOf};
+ghost use Rattle.frame.specs.Check.{checked, payloadIn, placeIn, payloadOf, placeOf, PartOf, numberOfChecked, sealOf, frameOf};
 ghost use Rattle.frame.specs.Write.{bytesOf, start, description, checkOver, body, plain, inRange, written, outAfter, numberOfWritten};
 ghost use Rattle.frame.specs.Header.{InRange};
 ghost use Rattle.frame.specs.Stages.{described, whole};
@@ -42,7 +42,7 @@ pub struct Frame {
     pub length: usize,
 }
 
-// What lies first in some bytes. Short says how many bytes have to be there before the answer can change.
+// What lies first in some bytes. Short is SHORT, and stays so while fewer bytes are there than it says.
 pub enum Checked {
     Accepted(Frame),
     Short(usize),
@@ -294,6 +294,7 @@ pub fn check(bytes: &[u8]) -> Checked
 // hand and need no second check. The empty part at the start where so many bytes are not there.
 pub fn payload_in(bytes: &[u8], frame: Frame) -> &[u8]
     ensures { λ r. ⌜ now r ≡ payloadIn frame (now (bytes .entry)) ⌝ }
+    ensures { λ r. ⌜ PartOf r (bytes .entry) (placeIn frame (now (bytes .entry))) ⌝ }
 {
     let at = frame.payload_at;
     let size = frame.payload_length;
@@ -310,6 +311,7 @@ pub fn payload_in(bytes: &[u8], frame: Frame) -> &[u8]
 // The payload of an accepted frame as a part of the bytes; of a refused one the empty part at their start.
 pub fn payload(bytes: &[u8]) -> &[u8]
     ensures { λ r. ⌜ now r ≡ payloadOf (now (bytes .entry)) ⌝ }
+    ensures { λ r. ⌜ PartOf r (bytes .entry) (placeOf (now (bytes .entry))) ⌝ }
 {
     match check(bytes) {
         Checked::Accepted(frame) => payload_in(bytes, frame),

@@ -1,5 +1,5 @@
 -- `payload`: a case for each answer of the check.
-use Rattle.frame.proofs.Checking.{of-accepted, of-short, of-refused}
+use Rattle.frame.proofs.Checking.{of-accepted, of-short, of-refused, place-accepted, place-short, place-refused}
 use borrow.Author.Needs.{needs}
 use Rattle.frame.proofs.payload.Statement.{statement}
 use Rattle.frame.proofs.payload.Tie as tie
@@ -26,13 +26,13 @@ slice-aggregate-result-2 : tie.Need-slice-aggregate-result-2
 slice-aggregate-result-2 c = search needs
 
 returns : tie.Need-returns
-returns c = search (of-accepted, of-short, of-refused, needs)
+returns c = search (of-accepted, place-accepted, needs)
 
 returns-2 : tie.Need-returns-2
-returns-2 c = search (of-accepted, of-short, of-refused, needs)
+returns-2 c = search (of-short, place-short, needs)
 
 returns-3 : tie.Need-returns-3
-returns-3 c = search (of-accepted, of-short, of-refused, needs)
+returns-3 c = search (of-refused, place-refused, needs)
 
 pub payload-spec : {M : Type 1} → statement M
 payload-spec =

@@ -1,5 +1,5 @@
--- `payload_in`: the part is there, or it is empty.
-use Rattle.frame.proofs.Checking.{part-1, part-2, part-3}
+-- `payload_in`: the part is there, or it is empty and at the start.
+use Rattle.frame.proofs.Checking.{part-1, part-2, part-3, place-1, place-2, place-3}
 use borrow.Author.Needs.{needs}
 use Rattle.frame.proofs.payload_in.Statement.{statement}
 use Rattle.frame.proofs.payload_in.Tie as tie
@@ -8,7 +8,7 @@ slice-aggregate-result : tie.Need-slice-aggregate-result
 slice-aggregate-result c = search needs
 
 returns : tie.Need-returns
-returns c = search (part-1, needs)
+returns c = search (part-1, place-1, needs)
 
 sub-if2 : tie.Need-sub-if2
 sub-if2 c = search needs
@@ -17,7 +17,7 @@ slice-aggregate-result-2 : tie.Need-slice-aggregate-result-2
 slice-aggregate-result-2 c = search needs
 
 returns-2 : tie.Need-returns-2
-returns-2 c = search (part-2, needs)
+returns-2 c = search (part-2, place-2, needs)
 
 add-end : tie.Need-add-end
 add-end c = search needs
@@ -32,7 +32,7 @@ part-result-end : tie.Need-part-result-end
 part-result-end c = search needs
 
 returns-3 : tie.Need-returns-3
-returns-3 c = search (part-3, needs)
+returns-3 c = search (part-3, place-3, needs)
 
 pub payload-in-spec : {M : Type 1} → statement M
 payload-in-spec =
