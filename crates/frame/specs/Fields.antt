@@ -9,6 +9,10 @@ use Rattle.bits.specs.Bits.{field}
 abbrev pub longest : ℕ
 longest = 1103
 
+-- "payload of 0 or over 1,023 bytes" is LENGTH
+abbrev pub longestPayload : ℕ
+longestPayload = 1023
+
 -- "Preamble 0x73; TF002 type 7; TF003 payload bytes 10; TF004 encrypted 1; TF005 check type 2; TF006 4: four bytes."
 abbrev pub preamble : ℕ
 preamble = 0x73

@@ -9,7 +9,7 @@ use Rattle.answer.specs.Number.{numberOf}
 use Rattle.answer.specs.declared.Refusal.the-variants.{Room, Field, Length}
 use Rattle.bits.specs.Bits.{bitsOf, number}
 use Rattle.checks.specs.Crc.{frameCrc, messageCrc}
-use Rattle.frame.specs.Fields.{longest, preamble, tagBits, descriptionBytes}
+use Rattle.frame.specs.Fields.{longest, longestPayload, preamble, tagBits, descriptionBytes}
 use Rattle.frame.specs.declared.Frame as F
 use Rattle.frame.specs.declared.Seal.the-variants.{Plain}
 use Rattle.frame.specs.declared.Parts.{Parts}
@@ -65,7 +65,7 @@ unfoldable pub written : Parts → List ℕ → List ℕ → Written
 written p payload out =
     refuse (ltb (length out) longest) (Refused Room)
     (refuse (not (inRange p)) (Refused Field)
-    (refuse (eqb (length payload) 0 || ltb 1023 (length payload)) (Refused Length)
+    (refuse (eqb (length payload) 0 || ltb longestPayload (length payload)) (Refused Length)
     (Frame (length (plain p payload)))))
 
 -- what the buffer holds then: the frame and, past it, what was lent; a refusal writes nothing

@@ -13,6 +13,12 @@ ghost use Rattle.frame.specs.Header.{InRange};
 ghost use Rattle.frame.specs.Stages.{described, whole};
 use answer::Refusal;
 
+// The longest frame, 4 + 8 + 1,023 + 64 + 4 bytes: the room that the writer wants.
+const LONGEST: usize = 1103;
+
+// The longest payload that TF003 can say.
+const LONGEST_PAYLOAD: usize = 1023;
+
 // TF012 to TF015, which a sealed frame has.
 pub struct Sealing {
     pub id: u8,
@@ -219,7 +225,7 @@ fn frame_of(bytes: &[u8]) -> Frame
         check_type: check_type,
         subtype: small_at(bytes, 32, 4),
         tag_kind: tag_kind,
-        tag: number_at(bytes, 37, short(tag_bits)),
+        tag: number_at(bytes, 37, narrow(tag_bits)),
         solution: small_at(bytes, 37 + tag_bits, 7),
         processor: small_at(bytes, 44 + tag_bits, 4),
         payload_at: payload_at(bytes),
@@ -227,7 +233,7 @@ fn frame_of(bytes: &[u8]) -> Frame
     }
 }
 
-fn short(x: usize) -> u32
+fn narrow(x: usize) -> u32
     requires { ⌜ x < 2 ^ 32 ⌝ }
     ensures { λ r. ⌜ r ≡ x ⌝ }
 {
@@ -246,7 +252,7 @@ fn check_whole(bytes: &[u8]) -> Checked
         return Checked::Short(at + size);
     }
     let crc = checks::message_crc(check_type, &bytes[1..at]);
-    if crc != number_at(bytes, 8 * at, short(8 * size)) {
+    if crc != number_at(bytes, 8 * at, narrow(8 * size)) {
         return Checked::Refused(Refusal::MessageCrc);
     }
     Checked::Accepted(frame_of(bytes))
@@ -348,7 +354,7 @@ pub enum Written {
     Refused(Refusal),
 }
 
-fn octets(x: u8) -> u64
+fn code_of(x: u8) -> u64
     ensures { λ r. ⌜ r ≡ x ⌝ }
 {
     x as u64
@@ -395,12 +401,12 @@ fn start_code(parts: Parts, payload_length: u64) -> u64
     requires { ⌜ InRange parts × («payload_length» < 1024) ⌝ }
     ensures { λ r. ⌜ bytesOf 4 (bitsOf 32 r) ≡ start parts «payload_length» ⌝ }
 {
-    let above = (115 * 128 + octets(parts.message_type)) * 1024 + payload_length;
-    let open = (above * 8 + octets(parts.check_type)) * 16;
+    let above = (115 * 128 + code_of(parts.message_type)) * 1024 + payload_length;
+    let open = (above * 8 + code_of(parts.check_type)) * 16;
     let first = ((open / 65536) % 256) as u8;
     let second = ((open / 256) % 256) as u8;
     let third = (open % 256) as u8;
-    open + octets(checks::frame_crc(first, second, third))
+    open + code_of(checks::frame_crc(first, second, third))
 }
 
 // A tag of 16 bits, and one of 32, between the fields before it and those behind it.
@@ -424,8 +430,8 @@ fn description_code(parts: Parts) -> u64
     ensures { λ r. ⌜ bytesOf (4 + 2 * parts .«tag_kind») (bitsOf (8 * (4 + 2 * parts .«tag_kind»)) r) ≡ description parts ⌝ }
 {
     let kind = parts.tag_kind;
-    let first = octets(parts.subtype) * 2 + octets(kind);
-    let last = octets(parts.solution) * 16 + octets(parts.processor);
+    let first = code_of(parts.subtype) * 2 + code_of(kind);
+    let last = code_of(parts.solution) * 16 + code_of(parts.processor);
     if kind == 0 {
         return around_short(first, parts.tag, last);
     }
@@ -449,7 +455,7 @@ fn put_description(parts: Parts, out: &mut [u8]) -> usize
 {
     let size = 4 + 2 * wide(parts.tag_kind);
     let code = description_code(parts);
-    bits::put(out, 32, short(8 * size), code);
+    bits::put(out, 32, narrow(8 * size), code);
     4 + size
 }
 
@@ -471,7 +477,7 @@ fn put_check(check_type: u8, out: &mut [u8], at: usize) -> usize
 {
     let size = wide(check_type) + 1;
     let crc = checks::message_crc(check_type, &out[1..at]);
-    bits::put(out, 8 * at, short(8 * size), crc);
+    bits::put(out, 8 * at, narrow(8 * size), crc);
     at + size
 }
 
@@ -480,7 +486,7 @@ pub fn write(parts: Parts, payload: &[u8], out: &mut [u8]) -> Written
     ensures { λ r. ⌜ r ≡ written parts (now (payload .entry)) (now (out .entry)) ⌝ }
     ensures { λ _. ⌜ now (out .exit) ≡ outAfter parts (now (payload .entry)) (now (out .entry)) ⌝ }
 {
-    if out.len() < 1103 {
+    if out.len() < LONGEST {
         return Written::Refused(Refusal::Room);
     }
     if !in_range(parts) {
@@ -490,7 +496,7 @@ pub fn write(parts: Parts, payload: &[u8], out: &mut [u8]) -> Written
     if size == 0 {
         return Written::Refused(Refusal::Length);
     }
-    if 1023 < size {
+    if LONGEST_PAYLOAD < size {
         return Written::Refused(Refusal::Length);
     }
     put_start(parts, size, out);

@@ -40,11 +40,11 @@ message-crc-requires c κs = search needs
 mul-number-at : tie.Need-mul-number-at
 mul-number-at c = search needs
 
-mul-short : tie.Need-mul-short
-mul-short c = search needs
+mul-narrow : tie.Need-mul-narrow
+mul-narrow c = search needs
 
-short-requires : tie.Need-short-requires
-short-requires c κs = search needs
+narrow-requires : tie.Need-narrow-requires
+narrow-requires c κs = search needs
 
 number-at-requires : tie.Need-number-at-requires
 number-at-requires c κs = search needs
@@ -74,8 +74,8 @@ check-whole-spec =
     part-message-crc-end
     message-crc-requires
     mul-number-at
-    mul-short
-    short-requires
+    mul-narrow
+    narrow-requires
     number-at-requires
     returns-2
     frame-of-requires

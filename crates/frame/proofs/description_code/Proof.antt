@@ -4,26 +4,26 @@ use borrow.Author.Needs.{needs}
 use Rattle.frame.proofs.description_code.Statement.{statement}
 use Rattle.frame.proofs.description_code.Tie as tie
 
-octets-requires : tie.Need-octets-requires
-octets-requires c κs = search needs
+code-of-requires : tie.Need-code-of-requires
+code-of-requires c κs = search needs
 
 mul-first : tie.Need-mul-first
 mul-first c = search needs
 
-octets-requires-2 : tie.Need-octets-requires-2
-octets-requires-2 c κs = search needs
+code-of-requires-2 : tie.Need-code-of-requires-2
+code-of-requires-2 c κs = search needs
 
 add-first : tie.Need-add-first
 add-first c = search needs
 
-octets-requires-3 : tie.Need-octets-requires-3
-octets-requires-3 c κs = search needs
+code-of-requires-3 : tie.Need-code-of-requires-3
+code-of-requires-3 c κs = search needs
 
 mul-last : tie.Need-mul-last
 mul-last c = search needs
 
-octets-requires-4 : tie.Need-octets-requires-4
-octets-requires-4 c κs = search needs
+code-of-requires-4 : tie.Need-code-of-requires-4
+code-of-requires-4 c κs = search needs
 
 add-last : tie.Need-add-last
 add-last c = search needs
@@ -44,13 +44,13 @@ pub description-code-spec : {M : Type 1} → statement M
 description-code-spec =
     tie.close
     (tie.spec
-    octets-requires
+    code-of-requires
     mul-first
-    octets-requires-2
+    code-of-requires-2
     add-first
-    octets-requires-3
+    code-of-requires-3
     mul-last
-    octets-requires-4
+    code-of-requires-4
     add-last
     around-short-requires
     returns

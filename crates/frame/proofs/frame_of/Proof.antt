@@ -31,8 +31,8 @@ payload-length-requires c κs = search needs
 small-at-requires-4 : tie.Need-small-at-requires-4
 small-at-requires-4 c κs = search needs
 
-short-requires : tie.Need-short-requires
-short-requires c κs = search needs
+narrow-requires : tie.Need-narrow-requires
+narrow-requires c κs = search needs
 
 number-at-requires : tie.Need-number-at-requires
 number-at-requires c κs = search needs
@@ -73,7 +73,7 @@ returns c = let at = c .before .before in
     let cn = ty .before .before in
     is-frame _ _ _ _ _ _ _ _ _ _ _ _ _ _ _ (cn .before .before .small-at .ensures .0) (cn .before .wide .ensures .0) (cn .small-at2 .ensures .0) (c .wide2 .ensures .0)
     (ty .before .seal-of .ensures) (ty .small-at3 .ensures .0) (su .before .payload-length .ensures .0) (su .small-at4 .ensures .0)
-    (tag .before .short .ensures) (tag .number-at .ensures) (pr .before .small-at5 .ensures .0) (pr .small-at6 .ensures .0) (at .payload-at .ensures .0) (c .before .check-at .ensures .0)
+    (tag .before .narrow .ensures) (tag .number-at .ensures) (pr .before .small-at5 .ensures .0) (pr .small-at6 .ensures .0) (at .payload-at .ensures .0) (c .before .check-at .ensures .0)
 
 pub frame-of-spec : {M : Type 1} → statement M
 frame-of-spec =
@@ -88,7 +88,7 @@ frame-of-spec =
     small-at-requires-3
     payload-length-requires
     small-at-requires-4
-    short-requires
+    narrow-requires
     number-at-requires
     add-small-at
     small-at-requires-5

@@ -25,11 +25,11 @@ message-crc-requires c κs = search needs
 mul-put : tie.Need-mul-put
 mul-put c = search needs
 
-mul-short : tie.Need-mul-short
-mul-short c = search needs
+mul-narrow : tie.Need-mul-narrow
+mul-narrow c = search needs
 
-short-requires : tie.Need-short-requires
-short-requires c κs = search needs
+narrow-requires : tie.Need-narrow-requires
+narrow-requires c κs = search needs
 
 put-requires : tie.Need-put-requires
 put-requires c κs = search needs
@@ -47,7 +47,7 @@ returns c = let p = c .before .before in
     let start = w .before .before in (
       search needs,
       check-laid _ _ (λ i. w .before .slice-known .given i .fits) (λ i. c .slice-known2 .given i .fits) _ _ _ _ _ (start .pre .0) (start .pre .2) (w .wide .ensures .0)
-          (p .before .short .ensures) (m .message-crc .ensures) (p .put .ensures .1),
+          (p .before .narrow .ensures) (m .message-crc .ensures) (p .put .ensures .1),
     )
 
 pub put-check-spec : {M : Type 1} → statement M
@@ -61,8 +61,8 @@ put-check-spec =
     part-message-crc-end
     message-crc-requires
     mul-put
-    mul-short
-    short-requires
+    mul-narrow
+    narrow-requires
     put-requires
     add-result
     same-length

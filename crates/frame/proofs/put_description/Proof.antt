@@ -16,11 +16,11 @@ add-size c = search needs
 description-code-requires : tie.Need-description-code-requires
 description-code-requires c κs = search needs
 
-mul-short : tie.Need-mul-short
-mul-short c = search needs
+mul-narrow : tie.Need-mul-narrow
+mul-narrow c = search needs
 
-short-requires : tie.Need-short-requires
-short-requires c κs = search needs
+narrow-requires : tie.Need-narrow-requires
+narrow-requires c κs = search needs
 
 put-requires : tie.Need-put-requires
 put-requires c κs = search needs
@@ -37,7 +37,7 @@ returns c = let p = c .before .before in
     let start = w .before .before in (
       search needs,
       description-laid (start .args .out .now) _ (λ i. w .before .slice-known .given i .fits) (λ i. c .slice-known2 .given i .fits) _ _ _ _ (start .pre .0) (start .pre .1)
-          (w .wide .ensures .0) (p .before .short .ensures) (p .before .before .before .description-code .ensures) (p .put .ensures .1),
+          (w .wide .ensures .0) (p .before .narrow .ensures) (p .before .before .before .description-code .ensures) (p .put .ensures .1),
     )
 
 pub put-description-spec : {M : Type 1} → statement M
@@ -48,8 +48,8 @@ put-description-spec =
     mul-size
     add-size
     description-code-requires
-    mul-short
-    short-requires
+    mul-narrow
+    narrow-requires
     put-requires
     add-result
     same-length

@@ -7,8 +7,8 @@ use Rattle.frame.proofs.start_code.Tie as tie
 mul-above : tie.Need-mul-above
 mul-above c = search needs
 
-octets-requires : tie.Need-octets-requires
-octets-requires c κs = search needs
+code-of-requires : tie.Need-code-of-requires
+code-of-requires c κs = search needs
 
 add-above : tie.Need-add-above
 add-above c = search needs
@@ -22,8 +22,8 @@ add-above-2 c = search needs
 mul-open : tie.Need-mul-open
 mul-open c = search needs
 
-octets-requires-2 : tie.Need-octets-requires-2
-octets-requires-2 c κs = search needs
+code-of-requires-2 : tie.Need-code-of-requires-2
+code-of-requires-2 c κs = search needs
 
 add-open : tie.Need-add-open
 add-open c = search needs
@@ -43,8 +43,8 @@ cast-third c = search needs
 frame-crc-requires : tie.Need-frame-crc-requires
 frame-crc-requires c κs = search needs
 
-octets-requires-3 : tie.Need-octets-requires-3
-octets-requires-3 c κs = search needs
+code-of-requires-3 : tie.Need-code-of-requires-3
+code-of-requires-3 c κs = search needs
 
 add-result : tie.Need-add-result
 add-result c = search needs
@@ -57,18 +57,18 @@ start-code-spec =
     tie.close
     (tie.spec
     mul-above
-    octets-requires
+    code-of-requires
     add-above
     mul-above-2
     add-above-2
     mul-open
-    octets-requires-2
+    code-of-requires-2
     add-open
     mul-open-2
     cast-first
     cast-second
     cast-third
     frame-crc-requires
-    octets-requires-3
+    code-of-requires-3
     add-result
     returns)
