@@ -1,4 +1,4 @@
--- Document 01, "Answer numbers": each refusal's number. A definition to believe.
+-- Definitions to believe: document 01, "Answer numbers", each refusal's number.
 use Prim.Native.Nat.{ℕ}
 use Rattle.answer.specs.declared.Refusal.{Refusal}
 use Rattle.answer.specs.declared.Refusal.the-variants.{Short, Preamble, FrameCrc, Length, MessageCrc, UnknownType, MaskEmpty, Field, Room, Sealed, Tag, NotOurs, AreaOff, Conflict, BookFull, Leftover, State, Form}

@@ -1,4 +1,4 @@
--- Document 01, "The frame", second and third paragraph: when a frame is accepted, and what is handed back. Definitions to believe.
+-- Definitions to believe: document 01, "The frame", second and third paragraph. When a frame is accepted, and what is handed back.
 use mathlib.Core.Path.{_≡_}
 use mathlib.Core.List.{List, []}
 use mathlib.Core.Bool.{Bool, true, false, cond, not, _&&_}

@@ -1,4 +1,4 @@
--- Document 01, "The frame", first paragraph: the fields of a frame by position and width, and the sizes of its parts. Definitions to believe.
+-- Definitions to believe: document 01, "The frame", first paragraph. The fields of a frame by position and width, and the sizes of its parts.
 use mathlib.Core.List.{List}
 use mathlib.Core.Bool.{Bool, cond, _&&_}
 use Prim.Native.Nat.{ℕ, zero, suc, _+_, _*_}

@@ -1,4 +1,4 @@
--- Document 01, "The frame": the plain-frame writer. Definitions to believe.
+-- Definitions to believe: document 01, "The frame", the plain-frame writer.
 -- "The plain-frame writer (TF004 zero) gives back the bytes of any accepted plain frame from its parts."
 use mathlib.Core.List.{List, [], _∷_, _++_}
 use mathlib.Core.Bool.{Bool, true, false, not, _&&_, _||_}
