@@ -1,0 +1,4 @@
+pub mod Bpac
+pub mod Machine
+pub mod Examples
+pub mod Determined

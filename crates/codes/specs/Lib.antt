@@ -1,0 +1,6 @@
+pub mod Tables
+pub mod Fields
+pub mod Sizes
+pub mod Listing
+pub mod Examples
+pub mod Determined

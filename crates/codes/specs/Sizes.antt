@@ -1,0 +1,70 @@
+-- Serves proofs, and is proved: every mask has 1 to 64 bits, so each mask field is fine.
+use mathlib.Core.Path.{_≡_, refl}
+use mathlib.Core.Bool.{Bool, true, false}
+use mathlib.Core.List.{List, [], _∷_}
+use Prim.Native.Nat.{ℕ, zero, suc, _-_, _^_, _≤_, _<_}
+use native.Mathlib.Omega.{arith}
+use borrow.Author.Tests.{ltb-true, leb-true}
+use lib.Dec.{T, ltb, leb, lit<, lit≤}
+use lib.ListN.{getD}
+use lib.Pow.{pow-pos}
+use Rattle.layout.specs.Layout.{pick}
+use Rattle.layout.specs.Parts.{free}
+use Rattle.layout.specs.Walks.{Fine, fine-free}
+use Rattle.codes.specs.declared.Constellation.{Constellation}
+use Rattle.codes.specs.declared.Constellation.the-variants.{Gps, Glonass, Galileo, BeiDou, Qzss}
+use Rattle.codes.specs.Tables.{rowOf, maskSizes, maskSize, biasMaskSizes, biasSize}
+use Rattle.codes.specs.Fields.{maskField}
+
+-- 1 to 64
+pub record Word (w : ℕ) : Type 0 where
+  pub some : 0 < w
+  pub most : w ≤ 64
+
+abbrev words : List ℕ → Bool
+words [] = true
+words (x ∷ l) = pick (ltb 0 x) (pick (leb x 64) (words l) false) false
+
+word-at : (l : List ℕ) (i d : ℕ) → T (words l) → Word d → Word (getD l i d)
+word-at [] i d t h = h
+word-at (x ∷ l) i d t h = go (λ t i. word-at l i d t h) (ltb 0 x) (leb x 64) refl refl t i
+  where
+    go : (T (words l) → (i : ℕ) → Word (getD l i d)) → (a b : Bool) → ltb 0 x ≡ a → leb x 64 ≡ b
+        → T (pick a (pick b (words l) false) false) → (i : ℕ) → Word (getD (x ∷ l) i d)
+    go rest true true p q t zero = record { some = ltb-true 0 x p; most = leb-true x 64 q }
+    go rest true true p q t (suc i) = rest t i
+    go rest true false p q t i = absurd t
+    go rest false b p q t i = absurd t
+
+pub mask-word : (c : Constellation) (size : ℕ) → Word (maskSize c size)
+unfolding maskSize maskSizes
+mask-word Gps size = word-at (32 ∷ 44 ∷ 56 ∷ 64 ∷ []) size 64 tt (record { some = lit< tt; most = lit≤ tt })
+mask-word Glonass size = word-at (24 ∷ 36 ∷ 48 ∷ 63 ∷ []) size 64 tt (record { some = lit< tt; most = lit≤ tt })
+mask-word Galileo size = word-at (36 ∷ 45 ∷ 54 ∷ 64 ∷ []) size 64 tt (record { some = lit< tt; most = lit≤ tt })
+mask-word BeiDou size = word-at (37 ∷ 46 ∷ 55 ∷ 64 ∷ []) size 64 tt (record { some = lit< tt; most = lit≤ tt })
+mask-word Qzss size = word-at (10 ∷ 40 ∷ 48 ∷ 64 ∷ []) size 64 tt (record { some = lit< tt; most = lit≤ tt })
+
+pub bias-word : (c : Constellation) (size : ℕ) → Word (biasSize c size)
+unfolding biasSize biasMaskSizes
+bias-word Gps size = word-at (6 ∷ 11 ∷ []) size 15 tt (record { some = lit< tt; most = lit≤ tt })
+bias-word Glonass size = word-at (5 ∷ 9 ∷ []) size 15 tt (record { some = lit< tt; most = lit≤ tt })
+bias-word Galileo size = word-at (8 ∷ 15 ∷ []) size 15 tt (record { some = lit< tt; most = lit≤ tt })
+bias-word BeiDou size = word-at (8 ∷ 15 ∷ []) size 15 tt (record { some = lit< tt; most = lit≤ tt })
+bias-word Qzss size = word-at (6 ∷ 11 ∷ []) size 15 tt (record { some = lit< tt; most = lit≤ tt })
+
+fine-bits : (sf w : ℕ) → Word w → Fine (maskField sf w)
+fine-bits sf zero h = absurd (omega (arith, h .some))
+fine-bits sf (suc w) h =
+    record {
+      some = h .some;
+      word = h .most;
+      order = omega (arith, pow-pos w);
+      most = omega (arith, pow-pos w);
+      extra = omega (arith, pow-pos w);
+    }
+
+pub fine-mask : (sf : ℕ) (c : Constellation) (size : ℕ) → Fine (maskField sf (maskSize c size))
+fine-mask sf c size = fine-bits sf (maskSize c size) (mask-word c size)
+
+pub fine-bias : (sf : ℕ) (c : Constellation) (size : ℕ) → Fine (free sf (biasSize c size))
+fine-bias sf c size = fine-free sf (biasSize c size) (bias-word c size .some) (bias-word c size .most)

@@ -1,0 +1,82 @@
+// The satellites of a mask, and how many bits a mask has set.
+ghost use mathlib.Core.Path.{_≡_};
+ghost use Prim.Native.Nat.{_≤_};
+ghost use lib.Count.{ones};
+ghost use lib.ListN.{length};
+ghost use Rattle.codes.specs.Fields.{numbered, satellitesOf};
+ghost use Rattle.codes.specs.Listing.{listed, satelliteAt};
+use crate::Constellation;
+use crate::tables::first_satellite;
+use crate::tables::mask_size;
+
+// The satellite numbers of a mask in mask order, and zeros after them.
+pub struct Satellites {
+    pub count: u64,
+    pub numbers: [u64; 64],
+}
+
+// Lists the set bits among the low bits of a mask, the leftmost numbered `first`. Internal: every mask has 64 bits at most.
+fn set_numbers(first: u64, width: u32, mask: u64) -> Satellites
+    requires { ⌜ (first ≤ 193) × (width ≤ 64) ⌝ }
+    ensures { λ r. ⌜ r ≡ listed (numbered first width mask) ⌝ }
+{
+    let mut left = width;
+    let mut number = first;
+    let mut numbers = [0u64; 64];
+    let mut count: usize = 0;
+    while 0 < left {
+        left -= 1;
+        let bit = (mask >> left) % 2;
+        if bit == 1 {
+            numbers[count] = number;
+            number += 1;
+            count += 1;
+        } else {
+            number += 1;
+        }
+    }
+    Satellites {
+        count: count as u64,
+        numbers: numbers,
+    }
+}
+
+// The satellites of a mask of a size.
+pub fn satellites_of(constellation: Constellation, size: u64, mask: u64) -> Satellites
+    ensures { λ r. ⌜ r ≡ listed (satellitesOf constellation size mask) ⌝ }
+{
+    set_numbers(
+        first_satellite(constellation),
+        mask_size(constellation, size),
+        mask,
+    )
+}
+
+// How many satellites a mask has.
+pub fn satellite_count(constellation: Constellation, size: u64, mask: u64) -> u64
+    ensures { λ r. ⌜ r ≡ length (satellitesOf constellation size mask) ⌝ }
+{
+    let satellites = satellites_of(constellation, size, mask);
+    satellites.count
+}
+
+// The number of the satellite that has `more` of its mask after it.
+pub fn satellite_number(constellation: Constellation, size: u64, mask: u64, more: u64) -> u64
+    ensures { λ r. ⌜ r ≡ satelliteAt (satellitesOf constellation size mask) more ⌝ }
+{
+    let satellites = satellites_of(constellation, size, mask);
+    let count = satellites.count;
+    if more < count {
+        let at = (count - 1 - more) as usize;
+        let numbers = satellites.numbers;
+        return numbers[at];
+    }
+    0
+}
+
+// How many bits of a mask are set.
+pub fn set_bits(mask: u64) -> u64
+    ensures { λ r. ⌜ (r ≡ ones mask) × (r ≤ 64) ⌝ }
+{
+    u64::count_ones(mask) as u64
+}

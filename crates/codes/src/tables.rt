@@ -1,0 +1,115 @@
+// The sizes of masks and the fields of masks.
+ghost use mathlib.Core.Path.{_≡_};
+ghost use Prim.Native.Nat.{_+_, _%_, _<_};
+ghost use Rattle.layout.specs.Parts.{free};
+ghost use Rattle.codes.specs.Fields.{maskField};
+ghost use Rattle.codes.specs.Tables.{rowOf, maskSize, biasSize, firstSatellite, maskSf};
+use crate::Constellation;
+use crate::fields::full_width;
+use crate::fields::mask_bits;
+use layout::Field;
+use layout::up_to;
+
+// "Mask sizes for size codes 0 to 3"
+const MASK_SIZES: [[u32; 4]; 5] = [
+    [32, 44, 56, 64],
+    [24, 36, 48, 63],
+    [36, 45, 54, 64],
+    [37, 46, 55, 64],
+    [10, 40, 48, 64],
+];
+
+// "Bias masks", for size codes 0 and 1
+const BIAS_MASK_SIZES: [[u32; 2]; 5] = [[6, 11], [5, 9], [8, 15], [8, 15], [6, 11]];
+
+// The subtype, which is the row in each table.
+fn row_of(constellation: Constellation) -> usize
+    ensures { λ r. ⌜ (r ≡ rowOf constellation) × (r < 5) ⌝ }
+{
+    match constellation {
+        Constellation::Gps => 0,
+        Constellation::Glonass => 1,
+        Constellation::Galileo => 2,
+        Constellation::BeiDou => 3,
+        Constellation::Qzss => 4,
+    }
+}
+
+// The bits of a satellite mask. A size code has two bits.
+pub fn mask_size(constellation: Constellation, size: u64) -> u32
+    ensures { λ r. ⌜ r ≡ maskSize constellation size ⌝ }
+{
+    let row = row_of(constellation);
+    if size < 4 {
+        let column = size as usize;
+        MASK_SIZES[row][column]
+    } else {
+        64
+    }
+}
+
+// The bits of a bias mask. A size code has one bit.
+pub fn bias_size(constellation: Constellation, size: u64) -> u32
+    ensures { λ r. ⌜ r ≡ biasSize constellation size ⌝ }
+{
+    let row = row_of(constellation);
+    if size < 2 {
+        let column = size as usize;
+        BIAS_MASK_SIZES[row][column]
+    } else {
+        15
+    }
+}
+
+// The satellite number of mask position 0.
+pub fn first_satellite(constellation: Constellation) -> u64
+    ensures { λ r. ⌜ r ≡ firstSatellite constellation ⌝ }
+{
+    match constellation {
+        Constellation::Gps => 1,
+        Constellation::Glonass => 1,
+        Constellation::Galileo => 1,
+        Constellation::BeiDou => 1,
+        Constellation::Qzss => 193,
+    }
+}
+
+fn mask_sf(constellation: Constellation) -> u64
+    ensures { λ r. ⌜ r ≡ maskSf constellation ⌝ }
+{
+    match constellation {
+        Constellation::Gps => 11,
+        Constellation::Glonass => 12,
+        Constellation::Galileo => 93,
+        Constellation::BeiDou => 94,
+        Constellation::Qzss => 95,
+    }
+}
+
+// A satellite mask: its size, its bits.
+pub fn mask_size_field(constellation: Constellation) -> Field
+    ensures { λ r. ⌜ r ≡ free (maskSf constellation) 2 ⌝ }
+{
+    up_to(mask_sf(constellation), 2, 3)
+}
+
+pub fn mask_field(constellation: Constellation, size: u64) -> Field
+    ensures { λ r. ⌜ r ≡ maskField (maskSf constellation) (maskSize constellation size) ⌝ }
+{
+    mask_bits(mask_sf(constellation), mask_size(constellation, size))
+}
+
+// The bits of a bias mask, of field number `sf`.
+pub fn bias_field(sf: u64, constellation: Constellation, size: u64) -> Field
+    ensures { λ r. ⌜ r ≡ free sf (biasSize constellation size) ⌝ }
+{
+    full_width(sf, bias_size(constellation, size))
+}
+
+// The last group of a mask that is cut in groups of 64; `last` is the number of its last bit in the mask, the first being 0.
+pub fn last_group_field(sf: u64, last: u64) -> Field
+    ensures { λ r. ⌜ r ≡ free sf (last % 64 + 1) ⌝ }
+{
+    let width = (last % 64 + 1) as u32;
+    full_width(sf, width)
+}

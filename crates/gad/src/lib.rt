@@ -1,0 +1,101 @@
+// GAD, 2-0: tables 6.23 and 6.24. A state carries the codes of the block that were read.
+ghost use mathlib.Core.Path.{_≡_};
+ghost use Rattle.gad.specs.Machine.{gadField, gadStep, blocksFrom};
+use layout::Field;
+use layout::up_to;
+
+// SF031, the ID of an area of HPAC and GAD.
+pub struct AreaId(pub u8);
+
+// What is known where a block begins: both issues of update, and the blocks after it.
+pub struct Head {
+    pub siou: u64,
+    pub aiou: u64,
+    pub more: u64,
+}
+
+pub enum State {
+    Siou,
+    Aiou(u64),
+    Reserved(u64, u64),
+    Count(u64, u64),
+    Id(Head),
+    Latitude(Head, u64),
+    Longitude(Head, u64, u64),
+    Rows(Head, u64, u64, u64),
+    Columns(Head, u64, u64, u64, u64),
+    LatitudeSpacing(Head, u64, u64, u64, u64, u64),
+    LongitudeSpacing(Head, u64, u64, u64, u64, u64, u64),
+    Done,
+}
+
+pub fn field_of(s: State) -> Field
+    ensures { λ r. ⌜ r ≡ gadField s ⌝ }
+{
+    match s {
+        State::Siou => up_to(5, 9, 511),
+        State::Aiou(_) => up_to(68, 4, 15),
+        State::Reserved(_, _) => up_to(69, 1, 1),
+        State::Count(_, _) => up_to(30, 5, 31),
+        State::Id(_) => up_to(31, 8, 255),
+        State::Latitude(_, _) => up_to(32, 11, 1800),
+        State::Longitude(_, _, _) => up_to(33, 12, 3600),
+        State::Rows(_, _, _, _) => up_to(34, 3, 7),
+        State::Columns(_, _, _, _, _) => up_to(35, 3, 7),
+        State::LatitudeSpacing(_, _, _, _, _, _) => up_to(36, 5, 31),
+        State::LongitudeSpacing(_, _, _, _, _, _, _) => up_to(37, 5, 31),
+        State::Done => up_to(0, 0, 0),
+    }
+}
+
+fn blocks_from(siou: u64, aiou: u64, n: u64) -> State
+    ensures { λ r. ⌜ r ≡ blocksFrom siou aiou n ⌝ }
+{
+    if n == 0 {
+        return State::Done;
+    }
+    State::Id(Head {
+        siou: siou,
+        aiou: aiou,
+        more: n - 1,
+    })
+}
+
+fn next_block(head: Head) -> State
+    ensures { λ r. ⌜ r ≡ blocksFrom (head .siou) (head .aiou) (head .more) ⌝ }
+{
+    blocks_from(head.siou, head.aiou, head.more)
+}
+
+pub fn advance(s: State, code: u64) -> State
+    ensures { λ r. ⌜ r ≡ gadStep s code ⌝ }
+{
+    match s {
+        State::Siou => State::Aiou(code),
+        State::Aiou(siou) => State::Reserved(siou, code),
+        State::Reserved(siou, aiou) => State::Count(siou, aiou),
+        State::Count(siou, aiou) => State::Id(Head {
+            siou: siou,
+            aiou: aiou,
+            more: code,
+        }),
+        State::Id(head) => State::Latitude(head, code),
+        State::Latitude(head, id) => State::Longitude(head, id, code),
+        State::Longitude(head, id, latitude) => State::Rows(head, id, latitude, code),
+        State::Rows(head, id, latitude, longitude) => State::Columns(
+            head,
+            id,
+            latitude,
+            longitude,
+            code,
+        ),
+        State::Columns(head, id, latitude, longitude, rows) => {
+            State::LatitudeSpacing(head, id, latitude, longitude, rows, code)
+        }
+        State::LatitudeSpacing(head, id, latitude, longitude, rows, columns) => {
+            State::LongitudeSpacing(head, id, latitude, longitude, rows, columns, code)
+        }
+        State::LongitudeSpacing(head, _, _, _, _, _, _) => next_block(head),
+        State::Done => State::Done,
+    }
+}

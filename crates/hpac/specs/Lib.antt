@@ -1,0 +1,4 @@
+pub mod Hpac
+pub mod Machine
+pub mod Examples
+pub mod Determined

@@ -1,0 +1,269 @@
+-- Serves proofs, and is proved: the machine of lib.rt, and that it walks the layouts.
+use mathlib.Core.Path.{_≡_, refl, ap, sym, _∙_}
+use mathlib.Core.Bool.{Bool, true, false}
+use mathlib.Core.List.{List, []}
+use Prim.Native.Nat.{ℕ, zero, suc, _-_}
+use lib.Dec.{eqb, leb}
+use lib.ListN.{length}
+use Rattle.layout.specs.declared.Field.{Field}
+use Rattle.layout.specs.Layout.{pick}
+use Rattle.layout.specs.Parts.{upTo, free}
+use Rattle.layout.specs.Walks.{Fine, fine, fine-pick, goes, Leads, leads-optional, leads-times, leads-each}
+use Rattle.layout.specs.Tests.{one-less}
+use Rattle.codes.specs.declared.Constellation.{Constellation}
+use Rattle.codes.specs.declared.Constellation.the-variants.{Gps, Glonass, Galileo, BeiDou, Qzss}
+use Rattle.hpac.specs.declared.Head.{Head}
+use Rattle.hpac.specs.declared.Area.{Area}
+use Rattle.hpac.specs.declared.Walk.{Walk}
+use Rattle.hpac.specs.declared.State.{State}
+use Rattle.hpac.specs.declared.State.the-variants.{Siou, Aiou, Reserved, Count, Id, Points, TroposphereBlocks, IonosphereBlocks, TroposphereEquation, TroposphereQuality, Delay, TroposphereSize, T00, T01, T10, T11, TroposphereResidualSize, TroposphereResidual, IonosphereEquation, MaskSize, Mask, Quality, Size, C00, C01, C10, C11, ResidualSize, Residual, Done}
+use Rattle.codes.specs.Tables.{maskSf, maskSize}
+use Rattle.codes.specs.Sizes.{fine-mask}
+use Rattle.codes.specs.Fields.{steps, orInvalid, maskField, satellitesOf}
+use Rattle.hpac.specs.Hpac.{slopes, polynomial, grid, troposphereConstant, troposphereLinear, troposphereProduct, troposphereResidual, troposphere, ionosphereConstant, ionosphereLinear, ionosphereProduct, ionosphereResidual, slant, ionosphere, area, hpac}
+
+-- ---- the field at hand
+
+-- with SF063 over 0, and over 1
+abbrev pub widerResidual : ℕ → Field
+widerResidual size = pick (eqb size 2) (orInvalid 66 10) (orInvalid 67 14)
+
+abbrev pub wideResidual : ℕ → Field
+wideResidual size = pick (eqb size 1) (orInvalid 65 7) (widerResidual size)
+
+abbrev pub hpacField : State → Field
+hpacField (Siou c) = free 5 9
+hpacField (Aiou c siou) = free 68 4
+hpacField (Reserved c siou aiou) = free 69 1
+hpacField (Count c siou aiou) = free 30 5
+hpacField (Id head) = free 31 8
+hpacField (Points head id) = free 39 7
+hpacField (TroposphereBlocks head id points) = upTo 40 2 2
+hpacField (IonosphereBlocks head id points troposphere) = upTo 40 2 2
+hpacField (TroposphereEquation area) = upTo 41 3 2
+hpacField (TroposphereQuality area equation) = free 42 3
+hpacField (Delay area equation) = steps 43 8
+hpacField (TroposphereSize area equation) = free 44 1
+hpacField (T00 area equation size) = troposphereConstant size
+hpacField (T01 area equation size) = troposphereLinear size
+hpacField (T10 area equation size) = troposphereLinear size
+hpacField (T11 area equation size) = troposphereProduct size
+hpacField (TroposphereResidualSize area) = free 51 1
+hpacField (TroposphereResidual area size more) = troposphereResidual size
+hpacField (IonosphereEquation area) = upTo 54 3 2
+hpacField (MaskSize area equation) = free (maskSf (area .constellation)) 2
+hpacField (Mask area equation size) = maskField (maskSf (area .constellation)) (maskSize (area .constellation) size)
+hpacField (Quality area walk) = free 55 4
+hpacField (Size area walk) = free 56 1
+hpacField (C00 area walk size) = ionosphereConstant size
+hpacField (C01 area walk size) = ionosphereLinear size
+hpacField (C10 area walk size) = ionosphereLinear size
+hpacField (C11 area walk size) = ionosphereProduct size
+hpacField (ResidualSize area walk) = free 63 2
+hpacField (Residual area walk size more) = ionosphereResidual size
+hpacField Done = upTo 0 0 0
+
+-- ---- the next state
+
+-- where n areas are still to come
+abbrev pub areasFrom : Constellation → (siou aiou n : ℕ) → State
+areasFrom c siou aiou zero = Done
+areasFrom c siou aiou (suc more) = Id (record { constellation = c; siou = siou; aiou = aiou; more = more })
+
+abbrev pub areaEnd : Area → State
+areaEnd area = areasFrom (area .constellation) (area .siou) (area .aiou) (area .more)
+
+-- where n satellites of a mask are still to come
+abbrev pub slantsFrom : Area → (equation size mask n : ℕ) → State
+slantsFrom area equation size mask zero = areaEnd area
+slantsFrom area equation size mask (suc more) = Quality area (record { equation = equation; size = size; mask = mask; more = more })
+
+abbrev pub slantEnd : Area → Walk → State
+slantEnd area walk = slantsFrom area (walk .equation) (walk .size) (walk .mask) (walk .more)
+
+-- where n residuals of a satellite are still to come
+abbrev pub residualsFrom : Area → Walk → (size n : ℕ) → State
+residualsFrom area walk size zero = slantEnd area walk
+residualsFrom area walk size (suc more) = Residual area walk size more
+
+abbrev pub gridFrom : Area → Walk → State
+gridFrom area walk = pick (leb 2 (area .ionosphere)) (ResidualSize area walk) (slantEnd area walk)
+
+abbrev pub productFrom : Area → Walk → ℕ → State
+productFrom area walk size = pick (leb 2 (walk .equation)) (C11 area walk size) (gridFrom area walk)
+
+abbrev pub slopesFrom : Area → Walk → ℕ → State
+slopesFrom area walk size = pick (leb 1 (walk .equation)) (C01 area walk size) (productFrom area walk size)
+
+abbrev pub ionosphereFrom : Area → State
+ionosphereFrom area = pick (leb 1 (area .ionosphere)) (IonosphereEquation area) (areaEnd area)
+
+-- where n residuals of the troposphere are still to come
+abbrev pub tResidualsFrom : Area → (size n : ℕ) → State
+tResidualsFrom area size zero = ionosphereFrom area
+tResidualsFrom area size (suc more) = TroposphereResidual area size more
+
+abbrev pub tGridFrom : Area → State
+tGridFrom area = pick (leb 2 (area .troposphere)) (TroposphereResidualSize area) (ionosphereFrom area)
+
+abbrev pub tProductFrom : Area → (equation size : ℕ) → State
+tProductFrom area equation size = pick (leb 2 equation) (T11 area equation size) (tGridFrom area)
+
+abbrev pub tSlopesFrom : Area → (equation size : ℕ) → State
+tSlopesFrom area equation size = pick (leb 1 equation) (T01 area equation size) (tProductFrom area equation size)
+
+abbrev pub troposphereFrom : Area → State
+troposphereFrom area = pick (leb 1 (area .troposphere)) (TroposphereEquation area) (ionosphereFrom area)
+
+-- the area's head is complete
+abbrev pub areaOf : Head → (id points troposphere ionosphere : ℕ) → Area
+areaOf head id points troposphere ionosphere =
+    record {
+      constellation = head .constellation;
+      siou = head .siou;
+      aiou = head .aiou;
+      more = head .more;
+      id = id;
+      points = points;
+      troposphere = troposphere;
+      ionosphere = ionosphere;
+    }
+
+abbrev pub hpacStep : State → ℕ → State
+hpacStep (Siou c) code = Aiou c code
+hpacStep (Aiou c siou) code = Reserved c siou code
+hpacStep (Reserved c siou aiou) code = Count c siou aiou
+hpacStep (Count c siou aiou) code = areasFrom c siou aiou (suc code)
+hpacStep (Id head) code = Points head code
+hpacStep (Points head id) code = TroposphereBlocks head id code
+hpacStep (TroposphereBlocks head id points) code = IonosphereBlocks head id points code
+hpacStep (IonosphereBlocks head id points troposphere) code = troposphereFrom (areaOf head id points troposphere code)
+hpacStep (TroposphereEquation area) code = TroposphereQuality area code
+hpacStep (TroposphereQuality area equation) code = Delay area equation
+hpacStep (Delay area equation) code = TroposphereSize area equation
+hpacStep (TroposphereSize area equation) code = T00 area equation code
+hpacStep (T00 area equation size) code = tSlopesFrom area equation size
+hpacStep (T01 area equation size) code = T10 area equation size
+hpacStep (T10 area equation size) code = tProductFrom area equation size
+hpacStep (T11 area equation size) code = tGridFrom area
+hpacStep (TroposphereResidualSize area) code = tResidualsFrom area code (area .points)
+hpacStep (TroposphereResidual area size more) code = tResidualsFrom area size more
+hpacStep (IonosphereEquation area) code = MaskSize area code
+hpacStep (MaskSize area equation) code = Mask area equation code
+hpacStep (Mask area equation size) code = slantsFrom area equation size code (length (satellitesOf (area .constellation) size code))
+hpacStep (Quality area walk) code = Size area walk
+hpacStep (Size area walk) code = C00 area walk code
+hpacStep (C00 area walk size) code = slopesFrom area walk size
+hpacStep (C01 area walk size) code = C10 area walk size
+hpacStep (C10 area walk size) code = productFrom area walk size
+hpacStep (C11 area walk size) code = gridFrom area walk
+hpacStep (ResidualSize area walk) code = residualsFrom area walk code (area .points)
+hpacStep (Residual area walk size more) code = residualsFrom area walk size more
+hpacStep Done code = Done
+
+-- ---- an arm of the code's `match`, and a test of its helpers
+
+pub field-arm : {s t : State} {f : Field} → s ≡ t → f ≡ hpacField t → f ≡ hpacField s
+field-arm e h = h ∙ ap hpacField (sym e)
+
+pub step-arm : {s t r : State} (c : ℕ) → s ≡ t → r ≡ hpacStep t c → r ≡ hpacStep s c
+step-arm c e h = h ∙ ap (λ x. hpacStep x c) (sym e)
+
+pub areas-more : (c : Constellation) (siou aiou n : ℕ) → (n ≡ 0 → ⊥)
+    → Id (record { constellation = c; siou = siou; aiou = aiou; more = n - 1 }) ≡ areasFrom c siou aiou n
+areas-more c siou aiou n h = one-less (areasFrom c siou aiou) n h
+
+pub slants-none : (area : Area) (equation size mask n : ℕ) {r : State} → n ≡ 0 → r ≡ areaEnd area → r ≡ slantsFrom area equation size mask n
+slants-none area equation size mask n e h = h ∙ ap (slantsFrom area equation size mask) (sym e)
+
+pub slants-more : (area : Area) (equation size mask n : ℕ) → (n ≡ 0 → ⊥)
+    → Quality area (record { equation = equation; size = size; mask = mask; more = n - 1 }) ≡ slantsFrom area equation size mask n
+slants-more area equation size mask n h = one-less (slantsFrom area equation size mask) n h
+
+pub residuals-none : (area : Area) (walk : Walk) (size n : ℕ) {r : State} → n ≡ 0 → r ≡ slantEnd area walk → r ≡ residualsFrom area walk size n
+residuals-none area walk size n e h = h ∙ ap (residualsFrom area walk size) (sym e)
+
+pub residuals-more : (area : Area) (walk : Walk) (size n : ℕ) → (n ≡ 0 → ⊥) → Residual area walk size (n - 1) ≡ residualsFrom area walk size n
+residuals-more area walk size n h = one-less (residualsFrom area walk size) n h
+
+pub t-residuals-none : (area : Area) (size n : ℕ) {r : State} → n ≡ 0 → r ≡ ionosphereFrom area → r ≡ tResidualsFrom area size n
+t-residuals-none area size n e h = h ∙ ap (tResidualsFrom area size) (sym e)
+
+pub t-residuals-more : (area : Area) (size n : ℕ) → (n ≡ 0 → ⊥) → TroposphereResidual area size (n - 1) ≡ tResidualsFrom area size n
+t-residuals-more area size n h = one-less (tResidualsFrom area size) n h
+
+-- ---- the machine walks the layouts
+
+fine-residual : (size : ℕ) → Fine (ionosphereResidual size)
+fine-residual size = fine-pick (eqb size 0) (fine tt) (fine-pick (eqb size 1) (fine tt) (fine-pick (eqb size 2) (fine tt) (fine tt)))
+
+module _ {A : Type 0} where
+  leads-t-polynomial : (area : Area) (equation size : ℕ)
+      → Leads {A = A} hpacField hpacStep (T00 area equation size)
+      (polynomial (troposphereConstant size) (troposphereLinear size) (troposphereProduct size) equation) (tGridFrom area)
+  leads-t-polynomial area equation size k rest =
+      let small : (f g : Field) → Fine f → Fine g → Fine (pick (eqb size 0) f g) = λ f g. fine-pick (eqb size 0) in
+      goes refl (small _ _ (fine tt) (fine tt)) (λ constant _.
+      leads-optional hpacField hpacStep (leb 1 equation)
+      (λ k rest. goes refl (small _ _ (fine tt) (fine tt)) (λ _ _. goes refl (small _ _ (fine tt) (fine tt)) (λ _ _. rest _))) _ (λ slopes.
+      leads-optional hpacField hpacStep (leb 2 equation) (λ k rest. goes refl (small _ _ (fine tt) (fine tt)) (λ x _. rest x)) _ (λ product.
+      rest (record { constant = constant; slopes = slopes; product = product }))))
+
+  leads-troposphere : (area : Area)
+      → Leads {A = A} hpacField hpacStep (TroposphereEquation area) (troposphere (area .troposphere) (area .points)) (ionosphereFrom area)
+  leads-troposphere area k rest =
+      goes refl (fine tt) (λ equation _. goes refl (fine tt) (λ quality _. goes refl (fine tt) (λ delay _. goes refl (fine tt) (λ size _.
+      leads-t-polynomial area equation size _ (λ polynomial.
+      leads-optional hpacField hpacStep (leb 2 (area .troposphere))
+      (λ k rest. goes refl (fine tt) (λ size _.
+      leads-times hpacField hpacStep (tResidualsFrom area size)
+      (λ n k rest. goes refl (fine-pick (eqb size 0) (fine tt) (fine tt)) (λ x _. rest x)) (area .points) _ (λ residuals.
+      rest (record { size = size; residuals = residuals })))) _ (λ grid.
+      rest (record { equation = equation; quality = quality; delay = delay; coefficientSize = size; polynomial = polynomial; grid = grid })))))))
+
+  leads-polynomial : (area : Area) (walk : Walk) (size : ℕ)
+      → Leads {A = A} hpacField hpacStep (C00 area walk size)
+      (polynomial (ionosphereConstant size) (ionosphereLinear size) (ionosphereProduct size) (walk .equation)) (gridFrom area walk)
+  leads-polynomial area walk size k rest =
+      let small : (f g : Field) → Fine f → Fine g → Fine (pick (eqb size 0) f g) = λ f g. fine-pick (eqb size 0) in
+      goes refl (small _ _ (fine tt) (fine tt)) (λ constant _.
+      leads-optional hpacField hpacStep (leb 1 (walk .equation))
+      (λ k rest. goes refl (small _ _ (fine tt) (fine tt)) (λ _ _. goes refl (small _ _ (fine tt) (fine tt)) (λ _ _. rest _))) _ (λ slopes.
+      leads-optional hpacField hpacStep (leb 2 (walk .equation)) (λ k rest. goes refl (small _ _ (fine tt) (fine tt)) (λ x _. rest x)) _ (λ product.
+      rest (record { constant = constant; slopes = slopes; product = product }))))
+
+  leads-slant : (area : Area) (equation size mask n number : ℕ)
+      → Leads {A = A} hpacField hpacStep (slantsFrom area equation size mask (suc n)) (slant (area .ionosphere) (area .points) equation number)
+      (slantsFrom area equation size mask n)
+  leads-slant area equation size mask n number k rest =
+      let walk : Walk = record { equation = equation; size = size; mask = mask; more = n } in
+      goes refl (fine tt) (λ quality _. goes refl (fine tt) (λ coefficients _.
+      leads-polynomial area walk coefficients _ (λ polynomial.
+      leads-optional hpacField hpacStep (leb 2 (area .ionosphere))
+      (λ k rest. goes refl (fine tt) (λ size _.
+      leads-times hpacField hpacStep (residualsFrom area walk size)
+      (λ n k rest. goes refl (fine-residual size) (λ x _. rest x)) (area .points) _ (λ residuals.
+      rest (record { size = size; residuals = residuals })))) _ (λ grid.
+      rest (record { number = number; quality = quality; coefficientSize = coefficients; polynomial = polynomial; grid = grid })))))
+
+  leads-ionosphere : (area : Area)
+      → Leads {A = A} hpacField hpacStep (IonosphereEquation area) (ionosphere (area .constellation) (area .ionosphere) (area .points)) (areaEnd area)
+  leads-ionosphere area k rest =
+      let c : Constellation = area .constellation in
+      goes refl (fine tt) (λ equation _. goes refl (fine tt) (λ size _. goes refl (fine-mask (maskSf c) c size) (λ mask _.
+      leads-each hpacField hpacStep (slantsFrom area equation size mask) (leads-slant area equation size mask) (satellitesOf c size mask) _ (λ satellites.
+      rest (record { equation = equation; satellites = satellites })))))
+
+  leads-area : (c : Constellation) (siou aiou n : ℕ) → Leads {A = A} hpacField hpacStep (areasFrom c siou aiou (suc n)) (area c) (areasFrom c siou aiou n)
+  leads-area c siou aiou n k rest =
+      goes refl (fine tt) (λ id _. goes refl (fine tt) (λ points _. goes refl (fine tt) (λ t _. goes refl (fine tt) (λ i _.
+      let here : Area = areaOf (record { constellation = c; siou = siou; aiou = aiou; more = n }) id points t i in
+      leads-optional hpacField hpacStep (leb 1 t) (leads-troposphere here) _ (λ troposphere.
+      leads-optional hpacField hpacStep (leb 1 i) (leads-ionosphere here) _ (λ ionosphere.
+      rest (record { id = id; points = points; troposphereBlocks = t; ionosphereBlocks = i; troposphere = troposphere; ionosphere = ionosphere })))))))
+
+  pub leads-hpac : (c : Constellation) → Leads {A = A} hpacField hpacStep (Siou c) (hpac c) Done
+  leads-hpac c k rest =
+      goes refl (fine tt) (λ siou _. goes refl (fine tt) (λ aiou _. goes refl (fine tt) (λ _ _. goes refl (fine tt) (λ count _.
+      leads-times hpacField hpacStep (areasFrom c siou aiou) (leads-area c siou aiou) (suc count) _ (λ areas.
+      rest (record { siou = siou; aiou = aiou; areas = areas }))))))

@@ -1,0 +1,119 @@
+-- Serves proofs, and is proved: writing by a layout as a loop over a machine does it, with a position, a place in the sheet and the bits handed on.
+-- What it comes to is what `writeL` says.
+use mathlib.Core.Path.{_≡_, refl, ap, ap₂, sym, _∙_}
+use mathlib.Core.Bool.{Bool, true, false}
+use mathlib.Core.List.{List, [], _∷_, _++_}
+use Prim.Native.Nat.{ℕ, zero, suc, _+_, _^_, _≤_, _<_}
+use native.Mathlib.Nat.{add-zero}
+use native.Mathlib.Numerals.{add-one}
+use native.Mathlib.Omega.{arith}
+use borrow.Author.Tests.{lt-ltb, ltb-true, ltb-false}
+use lib.Dec.{ltb}
+use lib.ListN.{length, drop, set, getD, length-append}
+use lib.Seq.{sets, drop-cons, drop-length}
+use Rattle.answer.specs.declared.Refusal.{Refusal}
+use Rattle.answer.specs.declared.Refusal.the-variants as refusal
+use Rattle.bits.specs.Bits.{bitsOf}
+use Rattle.bits.specs.Laws.{length-bitsOf}
+use Rattle.layout.specs.declared.Field.{Field}
+use Rattle.layout.specs.declared.Verdict.{Verdict}
+use Rattle.layout.specs.declared.Verdict.the-variants.{Taken, Fault}
+use Rattle.layout.specs.Layout.{Layout, done, field, pick, judge, Written, written, unwritten, fitting, judgedW, behind, writeL}
+use Rattle.layout.specs.Walks.{Walks, ends, goes}
+use Rattle.layout.specs.Run.{Ended, finished, stopped, judgedE, taken-fits, wide-fault, On}
+
+unfoldable pub putL : {A : Type 0} → Layout A → (sheet : List ℕ) (pos at : ℕ) (out : List ℕ) → Ended
+putL (done v) [] pos at out = finished at pos out
+putL (done v) (c ∷ cs) pos at out = stopped refusal.Leftover
+putL (field f next) [] pos at out = stopped refusal.Short
+putL (field f next) (c ∷ cs) pos at out =
+    pick (ltb c (2 ^ f .width))
+    (judgedE (judge f c) (putL (next c) cs (pos + f .width) (at + 1) (sets out pos (bitsOf (f .width) c))))
+    (stopped refusal.Field)
+
+-- ---- a run comes to what the writing gives
+
+abbrev pub endedW : Written → (n pos at : ℕ) (out : List ℕ) → Ended
+endedW (written bs) n pos at out = finished (at + n) (pos + length bs) (sets out pos bs)
+endedW (unwritten why) n pos at out = stopped why
+
+sets-append : (l : List ℕ) (i : ℕ) (a b : List ℕ) → sets l i (a ++ b) ≡ sets (sets l i a) (i + length a) b
+sets-append l i [] b = ap (λ n. sets l n b) (sym (add-zero i))
+sets-append l i (v ∷ a) b = sets-append (set l i v) (suc i) a b ∙ ap (λ n. sets (sets (set l i v) (suc i) a) n b) (omega arith)
+
+ended-behind : (c w n : ℕ) (o : Written) (pos at : ℕ) (out : List ℕ)
+    → endedW o n (pos + w) (at + 1) (sets out pos (bitsOf w c)) ≡ endedW (behind (bitsOf w c) o) (suc n) pos at out
+ended-behind c w n (written bs) pos at out =
+    let p : at + 1 + n ≡ at + suc n = omega arith in
+    let q : pos + w + length bs ≡ pos + length (bitsOf w c ++ bs) = omega (arith, length-append (bitsOf w c) bs, length-bitsOf w c) in
+    let r : sets (sets out pos (bitsOf w c)) (pos + w) bs ≡ sets out pos (bitsOf w c ++ bs)
+    = ap (λ k. sets (sets out pos (bitsOf w c)) (pos + k) bs) (sym (length-bitsOf w c)) ∙ sym (sets-append out pos (bitsOf w c) bs) in
+    rw (p, q, r)
+ended-behind c w n (unwritten why) pos at out = refl
+
+ended-judged : (v : Verdict) (o : Written) (n pos at : ℕ) (out : List ℕ) → judgedE v (endedW o n pos at out) ≡ endedW (judgedW v o) n pos at out
+ended-judged Taken o n pos at out = refl
+ended-judged (Fault why) o n pos at out = refl
+
+ended-fitting : (b : Bool) (o : Written) (n pos at : ℕ) (out : List ℕ)
+    → pick b (endedW o n pos at out) (stopped refusal.Field) ≡ endedW (fitting b o) n pos at out
+ended-fitting true o n pos at out = refl
+ended-fitting false o n pos at out = refl
+
+pub put-writes : {A : Type 0} (l : Layout A) (cs : List ℕ) (pos at : ℕ) (out : List ℕ) → putL l cs pos at out ≡ endedW (writeL l cs) (length cs) pos at out
+unfolding putL writeL
+put-writes (done v) [] pos at out = rw (add-zero at, add-zero pos)
+put-writes (done v) (c ∷ cs) pos at out = refl
+put-writes (field f next) [] pos at out = refl
+put-writes (field f next) (c ∷ cs) pos at out =
+    let w : ℕ = f .width in
+    let o : Written = writeL (next c) cs in
+    ap (λ e. pick (ltb c (2 ^ w)) (judgedE (judge f c) e) (stopped refusal.Field))
+    (put-writes (next c) cs (pos + w) (at + 1) (sets out pos (bitsOf w c)) ∙ ended-behind c w (length cs) o pos at out)
+    ∙ ap (λ e. pick (ltb c (2 ^ w)) e (stopped refusal.Field)) (ended-judged (judge f c) (behind (bitsOf w c) o) (suc (length cs)) pos at out)
+    ∙ ended-fitting (ltb c (2 ^ w)) (judgedW (judge f c) (behind (bitsOf w c) o)) (suc (length cs)) pos at out
+
+-- ---- a turn of the loop, at a state that walks what is left
+
+module _ {S A : Type 0} {fieldOf : S → Field} {stepOf : S → ℕ → S} (sheet : List ℕ) (pos at : ℕ) (out : List ℕ) where
+  pub put-done : {s : S} {l : Layout A} → Walks fieldOf stepOf s l → fieldOf s .width ≡ 0 → at ≡ length sheet
+      → putL l (drop at sheet) pos at out ≡ finished at pos out
+  unfolding putL
+  put-done (ends e) z h = rw (h, drop-length)
+  put-done (goes e i rest) z h = absurd (omega (arith, i .some, ap (λ (x : Field). x .width) e))
+
+  pub put-over : {s : S} {l : Layout A} → Walks fieldOf stepOf s l → fieldOf s .width ≡ 0 → at < length sheet
+      → putL l (drop at sheet) pos at out ≡ stopped refusal.Leftover
+  unfolding putL
+  put-over (ends e) z h = rw (drop-cons sheet at 0 h)
+  put-over (goes e i rest) z h = absurd (omega (arith, i .some, ap (λ (x : Field). x .width) e))
+
+  pub put-short : {s : S} {l : Layout A} → Walks fieldOf stepOf s l → 0 < fieldOf s .width → at ≡ length sheet
+      → putL l (drop at sheet) pos at out ≡ stopped refusal.Short
+  unfolding putL
+  put-short (ends e) z h = absurd (omega arith)
+  put-short (goes e i rest) z h = rw (h, drop-length)
+
+  pub put-fault : {s : S} {l : Layout A} (c : ℕ) (why : Refusal) → Walks fieldOf stepOf s l → 0 < fieldOf s .width → at < length sheet
+      → c ≡ getD sheet at 0 → judge (fieldOf s) c ≡ Fault why → putL l (drop at sheet) pos at out ≡ stopped why
+  unfolding putL
+  put-fault c why (ends e) z h n j = absurd (omega arith)
+  put-fault c why (goes {f} {next} e i rest) z h n j =
+      let k : judge f c ≡ Fault why = ap (λ (x : Field). judge x c) (sym e) ∙ j in
+      rw (drop-cons sheet at 0 h, ← n, k) (go (ltb c (2 ^ f .width)) refl k)
+    where
+      go : (b : Bool) → ltb c (2 ^ f .width) ≡ b → judge f c ≡ Fault why → pick b (stopped why) (stopped refusal.Field) ≡ stopped why
+      go true p k = refl
+      go false p k = let q : judge f c ≡ Fault refusal.Field = wide-fault i (ltb-false c (2 ^ f .width) p) in cc
+
+  pub put-on : {s : S} {l : Layout A} (c : ℕ) → Walks fieldOf stepOf s l → 0 < fieldOf s .width → at < length sheet
+      → c ≡ getD sheet at 0 → judge (fieldOf s) c ≡ Taken
+      → On fieldOf stepOf (stepOf s c) (putL l (drop at sheet) pos at out)
+      (λ (next : Layout A). putL next (drop (at + 1) sheet) (pos + fieldOf s .width) (at + 1) (sets out pos (bitsOf (fieldOf s .width) c)))
+  unfolding putL
+  put-on c (ends e) z h n j = absurd (omega arith)
+  put-on {s} c (goes {f} {next} e i rest) z h n j =
+      let same : fieldOf s .width ≡ f .width = ap (λ (x : Field). x .width) e in
+      let k : judge f c ≡ Taken = ap (λ (x : Field). judge x c) (sym e) ∙ j in
+      let t : ltb c (2 ^ f .width) ≡ true = lt-ltb c (2 ^ f .width) (taken-fits i k) in
+      record { left = next c; walks = rest c (taken-fits i k); same = rw (drop-cons sheet at 0 h, ← n, ← add-one at, t, k, same) }

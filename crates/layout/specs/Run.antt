@@ -1,0 +1,145 @@
+-- Serves proofs, and is proved: reading by a layout as a loop over a machine does it, with a position, a place in the sheet and the sheet handed on.
+-- What it comes to is what `readL` says.
+use mathlib.Core.Path.{_≡_, refl, ap, ap₂, sym, _∙_, subst}
+use mathlib.Core.Bool.{Bool, true, false}
+use mathlib.Core.List.{List, [], _∷_}
+use Prim.Native.Nat.{ℕ, zero, suc, _+_, _^_, _≤_, _<_}
+use native.Mathlib.Nat.{add-zero, add-assoc}
+use native.Mathlib.Numerals.{add-one}
+use native.Mathlib.Omega.{arith}
+use borrow.Author.Tests.{le-leb, lt-leb, le-ltb, ltb-true, leb-true, eqb-true, ne-eqb}
+use lib.Dec.{eqb, ltb, leb}
+use lib.ListN.{length, take, drop, set}
+use lib.Seq.{sets}
+use Rattle.answer.specs.declared.Refusal.{Refusal}
+use Rattle.answer.specs.declared.Refusal.the-variants as refusal
+use Rattle.bits.specs.Bits.{number}
+use Rattle.layout.specs.declared.Field.{Field}
+use Rattle.layout.specs.declared.Verdict.{Verdict}
+use Rattle.layout.specs.declared.Verdict.the-variants.{Taken, Fault}
+use Rattle.layout.specs.Layout.{Layout, done, field, pick, judge, Outcome, accepted, refused, enough, judged, before, readL}
+use Rattle.layout.specs.Walks.{Fine, Walks, ends, goes}
+
+-- entries, bits, and the list that was filled; or the refusal
+pub data Ended : Type 0 where
+  finished : (count used : ℕ) (filled : List ℕ) → Ended
+  stopped : (why : Refusal) → Ended
+
+abbrev pub judgedE : Verdict → Ended → Ended
+judgedE Taken e = e
+judgedE (Fault why) e = stopped why
+
+unfoldable pub runL : {A : Type 0} → Layout A → (bits : List ℕ) (pos at : ℕ) (sheet : List ℕ) → Ended
+runL (done v) bits pos at sheet = finished at pos sheet
+runL (field f next) bits pos at sheet =
+    let c : ℕ = number (take (f .width) bits) in
+    pick (leb (f .width) (length bits))
+    (judgedE (judge f c) (runL (next c) (drop (f .width) bits) (pos + f .width) (at + 1) (set sheet at c)))
+    (stopped refusal.Short)
+
+-- ---- a run comes to what the reading finds
+
+abbrev pub endedOf : {A : Type 0} → Outcome A → (pos at : ℕ) (sheet : List ℕ) → Ended
+endedOf (accepted v cs n) pos at sheet = finished (at + length cs) (pos + n) (sets sheet at cs)
+endedOf (refused why) pos at sheet = stopped why
+
+module _ {A : Type 0} where
+  ended-before : (c w : ℕ) (o : Outcome A) (pos at : ℕ) (sheet : List ℕ) → endedOf o (pos + w) (at + 1) (set sheet at c) ≡ endedOf (before c w o) pos at sheet
+  ended-before c w (accepted v cs n) pos at sheet =
+      let p : at + 1 + length cs ≡ at + suc (length cs) = omega arith in
+      let q : pos + w + n ≡ pos + (w + n) = omega arith in
+      rw (p, q, add-one at)
+  ended-before c w (refused why) pos at sheet = refl
+
+  ended-judged : (v : Verdict) (o : Outcome A) (pos at : ℕ) (sheet : List ℕ) → judgedE v (endedOf o pos at sheet) ≡ endedOf (judged v o) pos at sheet
+  ended-judged Taken o pos at sheet = refl
+  ended-judged (Fault why) o pos at sheet = refl
+
+  ended-enough : (b : Bool) (o : Outcome A) (pos at : ℕ) (sheet : List ℕ)
+      → pick b (endedOf o pos at sheet) (stopped refusal.Short) ≡ endedOf (enough b o) pos at sheet
+  ended-enough true o pos at sheet = refl
+  ended-enough false o pos at sheet = refl
+
+  pub run-reads : (l : Layout A) (bits : List ℕ) (pos at : ℕ) (sheet : List ℕ) → runL l bits pos at sheet ≡ endedOf (readL l bits) pos at sheet
+  unfolding runL readL
+  run-reads (done v) bits pos at sheet = rw (add-zero at, add-zero pos)
+  run-reads (field f next) bits pos at sheet =
+      let w : ℕ = f .width in
+      let c : ℕ = number (take w bits) in
+      let o : Outcome A = readL (next c) (drop w bits) in
+      ap (λ e. pick (leb w (length bits)) (judgedE (judge f c) e) (stopped refusal.Short))
+      (run-reads (next c) (drop w bits) (pos + w) (at + 1) (set sheet at c) ∙ ended-before c w o pos at sheet)
+      ∙ ap (λ e. pick (leb w (length bits)) e (stopped refusal.Short)) (ended-judged (judge f c) (before c w o) pos at sheet)
+      ∙ ended-enough (leb w (length bits)) (judged (judge f c) (before c w o)) pos at sheet
+
+-- ---- codes that a field takes fit its width
+
+judge-cases : (f : Field) (c : ℕ) → judge f c ≡ Taken → Fine f → c < 2 ^ f .width
+unfolding judge
+judge-cases f c e h = go (eqb c (f .extra)) (ltb c (f .least)) (leb c (f .most)) refl refl refl e
+  where
+    go : (x y z : Bool) → eqb c (f .extra) ≡ x → ltb c (f .least) ≡ y → leb c (f .most) ≡ z
+        → pick x Taken (pick y (Fault (f .under)) (pick z Taken (Fault refusal.Field))) ≡ Taken → c < 2 ^ f .width
+    go true y z p q r e = omega (arith, eqb-true c (f .extra) p, h .extra)
+    go false true z p q r e = let x : _≡_ {A = ℕ} 0 1 = cc in absurd (omega arith)
+    go false false true p q r e = omega (arith, leb-true c (f .most) r, h .most)
+    go false false false p q r e = let x : _≡_ {A = ℕ} 0 1 = cc in absurd (omega arith)
+
+pub taken-fits : {f : Field} {c : ℕ} → Fine f → judge f c ≡ Taken → c < 2 ^ f .width
+taken-fits {f} {c} h e = judge-cases f c e h
+
+-- a code too wide for its field is FIELD by the field's range too
+pub wide-fault : {f : Field} {c : ℕ} → Fine f → 2 ^ f .width ≤ c → judge f c ≡ Fault refusal.Field
+unfolding judge
+wide-fault {f} {c} h w =
+    let x : eqb c (f .extra) ≡ false = ne-eqb c (f .extra) (λ e. omega (arith, h .extra)) in
+    let y : ltb c (f .least) ≡ false = le-ltb c (f .least) (omega (arith, h .order, h .most)) in
+    let z : leb c (f .most) ≡ false = lt-leb c (f .most) (omega (arith, h .most)) in
+    rw (x, y, z)
+
+-- ---- a turn of the loop, at a state that walks what is left
+
+-- The machine walks on, and the run from here is the run from there.
+pub record On {S A : Type 0} (fieldOf : S → Field) (stepOf : S → ℕ → S) (t : S) (here : Ended) (there : Layout A → Ended) : Type 0 where
+  pub left : Layout A
+  pub walks : Walks fieldOf stepOf t left
+  pub same : here ≡ there left
+
+module _ {S A : Type 0} {fieldOf : S → Field} {stepOf : S → ℕ → S} (bits : List ℕ) (pos at : ℕ) (sheet : List ℕ) where
+  pub run-done : {s : S} {l : Layout A} → Walks fieldOf stepOf s l → fieldOf s .width ≡ 0 → runL l bits pos at sheet ≡ finished at pos sheet
+  unfolding runL
+  run-done (ends e) z = refl
+  run-done {s} (goes {f} e h rest) z = absurd (omega (arith, h .some, ap (λ (x : Field). x .width) e))
+
+  pub run-short : {s : S} {l : Layout A} → Walks fieldOf stepOf s l → 0 < fieldOf s .width → length bits < fieldOf s .width → runL l bits pos at sheet ≡ stopped refusal.Short
+  unfolding runL
+  run-short (ends e) z h = absurd (omega arith)
+  run-short {s} (goes {f} e i rest) z h =
+      let same : fieldOf s .width ≡ f .width = ap (λ (x : Field). x .width) e in
+      rw (lt-leb (f .width) (length bits) (omega arith))
+
+  pub run-fault : {s : S} {l : Layout A} (c : ℕ) (why : Refusal) → Walks fieldOf stepOf s l → 0 < fieldOf s .width → fieldOf s .width ≤ length bits
+      → c ≡ number (take (fieldOf s .width) bits) → judge (fieldOf s) c ≡ Fault why → runL l bits pos at sheet ≡ stopped why
+  unfolding runL
+  run-fault c why (ends e) z h n j = absurd (omega arith)
+  run-fault {s} c why (goes {f} e i rest) z h n j =
+      let same : fieldOf s .width ≡ f .width = ap (λ (x : Field). x .width) e in
+      let m : number (take (f .width) bits) ≡ c = ap (λ (x : ℕ). number (take x bits)) (sym same) ∙ sym n in
+      let k : judge f c ≡ Fault why = ap (λ (x : Field). judge x c) (sym e) ∙ j in
+      rw (le-leb (f .width) (length bits) (omega arith), m, k)
+
+  pub run-on : {s : S} {l : Layout A} (c : ℕ) → Walks fieldOf stepOf s l → 0 < fieldOf s .width → fieldOf s .width ≤ length bits
+      → c ≡ number (take (fieldOf s .width) bits) → judge (fieldOf s) c ≡ Taken
+      → On fieldOf stepOf (stepOf s c) (runL l bits pos at sheet)
+      (λ (next : Layout A). runL next (drop (fieldOf s .width) bits) (pos + fieldOf s .width) (at + 1) (set sheet at c))
+  unfolding runL
+  run-on c (ends e) z h n j = absurd (omega arith)
+  run-on {s} c (goes {f} {next} e i rest) z h n j =
+      let same : fieldOf s .width ≡ f .width = ap (λ (x : Field). x .width) e in
+      let m : number (take (f .width) bits) ≡ c = ap (λ (x : ℕ). number (take x bits)) (sym same) ∙ sym n in
+      let k : judge f c ≡ Taken = ap (λ (x : Field). judge x c) (sym e) ∙ j in
+      record {
+        left = next c;
+        walks = rest c (taken-fits i k);
+        same = rw (le-leb (f .width) (length bits) (omega arith), m, k, same);
+      }

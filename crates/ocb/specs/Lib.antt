@@ -1,0 +1,5 @@
+pub mod Tables
+pub mod Ocb
+pub mod Machine
+pub mod Examples
+pub mod Determined
