@@ -1,7 +1,8 @@
 -- Serves proofs, and is proved: the machine of lib.rt over all twelve payloads, and that from its start it walks the payload's layout.
-use mathlib.Core.Path.{_≡_, refl, ap, sym, _∙_}
+use mathlib.Core.Path.{_≡_, refl, ap, sym, _∙_, subst}
 use mathlib.Core.Bool.{Bool, true, false}
 use Prim.Native.Nat.{ℕ}
+use native.Mathlib.Omega.{arith}
 use lib.Dec.{eqb}
 use Rattle.layout.specs.declared.Field.{Field}
 use Rattle.layout.specs.Layout.{Layout, done, pick}
@@ -130,3 +131,23 @@ starts kind subtype =
     starts-pick (eqb kind 2) (starts-pick (eqb subtype 0) (known walks-gad) unknown) (
     starts-pick (eqb kind 3) (starts-pick (eqb subtype 0) (known walks-bpac) unknown)
     unknown)))
+
+-- ---- the same, from what `start_of` gave
+
+starts-known : {x : Start} {p : Part (Layout Message)} (s : State) → Starts x p → x ≡ start.Known s
+    → (l : Layout Message) × (p ≡ present l) × Walks fieldOf stepOf s l
+starts-known s (known {s = t} {l} w) e =
+    let same : t ≡ s = cc in
+    (l, refl, subst (λ x. Walks fieldOf stepOf x l) same w)
+starts-known s unknown e = let z : _≡_ {A = ℕ} 0 1 = cc in absurd (omega arith)
+
+starts-unknown : {x : Start} {p : Part (Layout Message)} → Starts x p → x ≡ start.Unknown → p ≡ absent
+starts-unknown (known w) e = let z : _≡_ {A = ℕ} 0 1 = cc in absurd (omega arith)
+starts-unknown unknown e = refl
+
+pub start-known : (kind subtype : ℕ) (s : State) → startOf kind subtype ≡ start.Known s
+    → (l : Layout Message) × (layoutFor kind subtype ≡ present l) × Walks fieldOf stepOf s l
+start-known kind subtype s e = starts-known s (starts kind subtype) e
+
+pub start-unknown : (kind subtype : ℕ) → startOf kind subtype ≡ start.Unknown → layoutFor kind subtype ≡ absent
+start-unknown kind subtype e = starts-unknown (starts kind subtype) e
