@@ -1,0 +1,123 @@
+-- The returns of `call` and `finish`, in plain values: ROOM, STATE, and past them the shown frame is dropped and the loop's outcome is that of the definition.
+use mathlib.Core.Path.{_≡_, refl, sym, ap, _∙_, subst}
+use mathlib.Core.List.{List, []}
+use mathlib.Core.Bool.{Bool, true, false, not}
+use Prim.Native.Nat.{ℕ, zero, _+_, _-_, _≤_, _<_}
+use native.Mathlib.Omega.{arith}
+use lib.ListN.{length, take, drop}
+use lib.Seq.{length-take-le}
+use lib.Dec.{ltb}
+use borrow.Author.Tests.{lt-ltb, le-ltb, not-true, not-false}
+use Rattle.answer.specs.declared.Refusal.{Refusal}
+use Rattle.answer.specs.declared.Refusal.the-variants.{Room, State}
+use Rattle.frame.specs.Fields.{longest}
+use Rattle.stream.specs.declared.Tray.{Tray}
+use Rattle.stream.specs.declared.Answer.{Answer}
+use Rattle.stream.specs.declared.Place.{Place}
+use Rattle.stream.specs.Tray.{sound, Outcome, refused, told, hungry, done, feed, close, closeEnd, called, finished, freshTray, answerOf, laid, bytesOf, callAnswer, callBytes, finishAnswer, finishBytes}
+use Rattle.stream.specs.Driver.{Ready}
+use Rattle.stream.specs.Kept.{Good}
+use Rattle.stream.specs.Sound.{sound-parts, laid-self, take-laid, drop-laid}
+use Rattle.stream.specs.Steps.{liveOf, called-is, finished-is, call-kept, end-kept}
+use Rattle.stream.specs.Walk.{shifted, Standing, plus, fedFrom, closedFrom, droppedPlace}
+use Rattle.stream.proofs.Parts.{length-part}
+use Rattle.stream.proofs.Places.{held-in, shown-in}
+use Rattle.stream.proofs.Feeding.{plus-zero}
+use Rattle.stream.proofs.Turns.{shifted-laid, stand-laid}
+use Rattle.stream.proofs.Loop.{same-bytes}
+
+-- ---- ROOM, STATE
+
+module _ (bytes : List ℕ) (tray : Tray) (h : length bytes < 1103) where
+  pub room-call : (input : List ℕ) (r : Answer) → r ≡ answerOf tray (refused Room) → r ≡ callAnswer bytes tray input
+  unfolding called
+  room-call input r e = e ∙ rw (lt-ltb (length bytes) 1103 h)
+
+  pub room-call-bytes : (input : List ℕ) → bytes ≡ callBytes bytes tray input
+  unfolding called
+  room-call-bytes input = rw (lt-ltb (length bytes) 1103 h)
+
+  pub room-finish : (r : Answer) → r ≡ answerOf tray (refused Room) → r ≡ finishAnswer bytes tray
+  unfolding finished
+  room-finish r e = e ∙ rw (lt-ltb (length bytes) 1103 h)
+
+  pub room-finish-bytes : bytes ≡ finishBytes bytes tray
+  unfolding finished
+  room-finish-bytes = rw (lt-ltb (length bytes) 1103 h)
+
+module _ (bytes : List ℕ) (tray : Tray) (h : 1103 ≤ length bytes) (s : Bool) (q : s ≡ sound bytes tray) where
+  module _ (n : not s ≡ true) where
+    unsound : sound bytes tray ≡ false
+    unsound = sym q ∙ not-true s n
+
+    pub state-call : (input : List ℕ) (r : Answer) → r ≡ answerOf tray (refused State) → r ≡ callAnswer bytes tray input
+    unfolding called
+    state-call input r e = e ∙ rw (le-ltb (length bytes) 1103 h, unsound)
+
+    pub state-call-bytes : (input : List ℕ) → bytes ≡ callBytes bytes tray input
+    unfolding called
+    state-call-bytes input = rw (le-ltb (length bytes) 1103 h, unsound)
+
+    pub state-finish : (r : Answer) → r ≡ answerOf tray (refused State) → r ≡ finishAnswer bytes tray
+    unfolding finished
+    state-finish r e = e ∙ rw (le-ltb (length bytes) 1103 h, unsound)
+
+    pub state-finish-bytes : bytes ≡ finishBytes bytes tray
+    unfolding finished
+    state-finish-bytes = rw (le-ltb (length bytes) 1103 h, unsound)
+
+  pub ready-now : not s ≡ false → Ready bytes tray
+  ready-now n = record { room = h; is-sound = sym q ∙ not-false s n }
+
+-- ---- past them
+
+same-answer : (t t′ : Tray) (o : Outcome) → Good o → answerOf t o ≡ answerOf t′ o
+same-answer t t′ (refused r) g = absurd g
+same-answer t t′ (told e c n) g = refl
+same-answer t t′ (hungry c n) g = refl
+same-answer t t′ (done c) g = refl
+
+module _ (bytes : List ℕ) (tray : Tray) (r : Ready bytes tray) (bytes₁ : List ℕ) (place : Place)
+    (d : bytes₁ ≡ shifted bytes (tray .held) (tray .shown)) (p : place ≡ droppedPlace tray) where
+  live-length : length (liveOf bytes tray) ≡ tray .held - tray .shown
+  live-length = length-part bytes (tray .shown) (tray .held) (held-in bytes tray r)
+
+  live-fits : length (liveOf bytes tray) ≤ longest
+  live-fits = omega (arith, live-length, sound-parts bytes tray (r .is-sound) .held-most)
+
+  dropped : bytes₁ ≡ laid bytes (liveOf bytes tray)
+  dropped =
+      let s = sound-parts bytes tray (r .is-sound) in
+      d ∙ shifted-laid bytes (tray .held) (s .held-most) (r .room) (sym (laid-self bytes (tray .held) (r .room) (s .held-most) (s .zeros-after))) (tray .shown) (shown-in bytes tray r)
+
+  pub stands : (input : List ℕ) → Standing place bytes₁ input
+  stands input =
+      let s = sound-parts bytes tray (r .is-sound) in
+      rw (p, dropped)
+      (stand-laid bytes (liveOf bytes tray) input (droppedPlace tray) live-length (omega arith) (omega (arith, s .held-most)) (r .room) (s .noise-less) (omega arith))
+
+  live-now : take (tray .held - tray .shown) bytes₁ ≡ liveOf bytes tray
+  live-now = rw (dropped, ← live-length) (take-laid bytes (liveOf bytes tray) live-fits)
+
+  beyond : drop longest bytes₁ ≡ drop longest bytes
+  beyond = rw dropped (drop-laid bytes (liveOf bytes tray) live-fits)
+
+  fed : (input : List ℕ) → fedFrom bytes₁ place input ≡ called bytes tray input
+  unfolding fedFrom
+  fed input = rw (p, live-now) (plus-zero (feed input (liveOf bytes tray) (tray .noise)) ∙ sym (called-is bytes tray input r))
+
+  closed : closedFrom bytes₁ place ≡ finished bytes tray
+  unfolding closedFrom
+  closed = rw (p, live-now) (plus-zero (closeEnd (close (liveOf bytes tray) (tray .noise))) ∙ sym (finished-is bytes tray r))
+
+  pub fed-answer : (input : List ℕ) (a : Answer) → a ≡ answerOf freshTray (fedFrom bytes₁ place input) → a ≡ callAnswer bytes tray input
+  fed-answer input a e = e ∙ ap (answerOf freshTray) (fed input) ∙ same-answer freshTray tray (called bytes tray input) (call-kept bytes tray input r)
+
+  pub fed-bytes : (input now : List ℕ) → now ≡ bytesOf bytes₁ (fedFrom bytes₁ place input) → now ≡ callBytes bytes tray input
+  fed-bytes input now e = e ∙ ap (bytesOf bytes₁) (fed input) ∙ same-bytes bytes₁ bytes beyond (called bytes tray input) (call-kept bytes tray input r)
+
+  pub closed-answer : (a : Answer) → a ≡ answerOf freshTray (closedFrom bytes₁ place) → a ≡ finishAnswer bytes tray
+  closed-answer a e = e ∙ ap (answerOf freshTray) closed ∙ same-answer freshTray tray (finished bytes tray) (end-kept bytes tray r)
+
+  pub closed-bytes : (now : List ℕ) → now ≡ bytesOf bytes₁ (closedFrom bytes₁ place) → now ≡ finishBytes bytes tray
+  closed-bytes now e = e ∙ ap (bytesOf bytes₁) closed ∙ same-bytes bytes₁ bytes beyond (finished bytes tray) (end-kept bytes tray r)

@@ -1,0 +1,48 @@
+-- The returns of `is_sound`, in plain values: each test is one part of the definition.
+use mathlib.Core.Path.{_≡_, refl, sym, ap, _∙_}
+use mathlib.Core.List.{List, [], _∷_}
+use mathlib.Core.Bool.{Bool, true, false, not, _&&_, _||_, and-false, or-false, or-true}
+use Prim.Native.Nat.{ℕ, zero, suc, _+_, _-_, _≤_, _<_}
+use native.Mathlib.Omega.{arith}
+use lib.ListN.{length, take, drop}
+use lib.Dec.{ltb, leb, eqb}
+use borrow.Author.Tests.{lt-ltb, le-ltb, lt-leb, le-leb, eq-eqb, ne-eqb, not-true, not-false}
+use Rattle.frame.specs.declared.Frame.{Frame}
+use Rattle.frame.specs.declared.Checked.{Checked}
+use Rattle.frame.specs.declared.Checked.the-variants.{Accepted, Short, Refused}
+use Rattle.frame.specs.Check.{checked}
+use Rattle.stream.specs.declared.Tray.{Tray}
+use Rattle.stream.specs.Tray.{zeros, isFrame, sound}
+use Rattle.stream.proofs.Parts.{part-is}
+
+module _ (bytes : List ℕ) (tray : Tray) where
+  pub unsound-held : 1103 < tray .held → false ≡ sound bytes tray
+  unfolding sound
+  unsound-held h = rw (lt-leb (tray .held) 1103 h)
+
+  pub unsound-noise : 65535 ≤ tray .noise → false ≡ sound bytes tray
+  unfolding sound
+  unsound-noise h = rw (le-ltb (tray .noise) 65535 h, and-false (leb (tray .held) 1103 && zeros (drop (tray .held) (take 1103 bytes))))
+
+  module _ (r : Bool) (q : r ≡ zeros (take (1103 - tray .held) (drop (tray .held) bytes))) where
+    pub unsound-zeros : not r ≡ true → false ≡ sound bytes tray
+    unfolding sound
+    unsound-zeros e =
+        let z : zeros (drop (tray .held) (take 1103 bytes)) ≡ false = sym (ap zeros (part-is bytes (tray .held) 1103)) ∙ sym q ∙ not-true r e in
+        rw (z, and-false (leb (tray .held) 1103))
+
+    module _ (e : not r ≡ false) (h : tray .held ≤ 1103) (n : tray .noise < 65535) where
+      pub so-far : sound bytes tray ≡ (eqb (tray .shown) 0 || isFrame (tray .shown) (checked (take (tray .held) bytes)))
+      unfolding sound
+      so-far =
+          let z : zeros (drop (tray .held) (take 1103 bytes)) ≡ true = sym (ap zeros (part-is bytes (tray .held) 1103)) ∙ sym q ∙ not-false r e in
+          rw (z, le-leb (tray .held) 1103 h, lt-ltb (tray .noise) 65535 n)
+
+      pub sound-none : tray .shown ≡ 0 → true ≡ sound bytes tray
+      sound-none s = sym (so-far ∙ rw (eq-eqb (tray .shown) 0 s))
+
+      pub sound-shown : (v : Checked) (s : Bool) → v ≡ checked (take (tray .held) bytes) → s ≡ isFrame (tray .shown) v → (tray .shown ≡ 0 → ⊥) → s ≡ sound bytes tray
+      sound-shown v s w a n = sym (so-far ∙ rw (ne-eqb (tray .shown) 0 n, ← w) (sym a))
+
+pub frame-case : (n : ℕ) (v : Checked) (f : Frame) → v ≡ Accepted f → eqb (f .length) n ≡ isFrame n v
+frame-case n v f e = rw e

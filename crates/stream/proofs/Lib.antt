@@ -1,0 +1,12 @@
+pub mod Moves
+pub mod Parts
+pub mod Judging
+pub mod Places
+pub mod Feeding
+pub mod Turns
+pub mod Along
+pub mod Returns
+pub mod Tracking
+pub mod Loop
+pub mod Ending
+pub mod Calling

@@ -1,0 +1,13 @@
+pub mod Scan
+pub mod Tray
+pub mod Driver
+pub mod Theorems
+pub mod Determined
+pub mod Check
+pub mod Machine
+pub mod Ahead
+pub mod Kept
+pub mod Sound
+pub mod Steps
+pub mod Driving
+pub mod Walk

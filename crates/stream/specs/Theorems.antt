@@ -1,0 +1,65 @@
+-- The theorems of the stream, about the definitions that the contracts of `call` and `finish` cite. The proofs rest on Driving.antt.
+use mathlib.Core.Path.{_≡_}
+use mathlib.Core.List.{List, [], _∷_, _++_, flatten}
+use Prim.Native.Nat.{ℕ, _≤_}
+use lib.ListN.{length, replicate}
+use Rattle.frame.specs.Fields.{longest}
+use Rattle.stream.specs.declared.Tray.{Tray}
+use Rattle.stream.specs.declared.Said.{Said}
+use Rattle.stream.specs.Scan.{Event, scan}
+use Rattle.stream.specs.Tray.{freshTray, callAnswer, callBytes, finishAnswer, finishBytes}
+use Rattle.stream.specs.Driver.{Ready, Clear, Feeds, Closes, Whole}
+use Rattle.stream.specs.Driving as Driving
+
+-- However a stream is cut into portions, some of them empty: calling on each until hungry and then finishing until done tells exactly the events of
+-- `scan` on the joined bytes, and leaves the fresh tray, with its bytes as they were lent.
+pub stream : {bytes : List ℕ} {portions : List (List ℕ)} → Clear bytes → (w : Whole bytes portions)
+    → (w .before ++ w .after ≡ scan (flatten portions)) × (w .tray₂ ≡ freshTray) × (w .bytes₂ ≡ bytes)
+stream c w = Driving.stream c (w .feeds) (w .closes)
+
+-- And the calls end, whatever the portions are.
+pub stream-ends : {bytes : List ℕ} → Clear bytes → (portions : List (List ℕ)) → Whole bytes portions
+stream-ends {bytes} c portions =
+    let r = Driving.fresh-ready c in
+    let f = Driving.feeds-end portions bytes freshTray r in
+    let g = Driving.closes-end (f .1) (f .2) (Driving.feeds-ready (f .3) r) in
+    record { before = f .0; bytes₁ = f .1; tray₁ = f .2; feeds = f .3; after = g .0; bytes₂ = g .1; tray₂ = g .2; closes = g .3 }
+
+-- Before finish, the events, the tray and its bytes depend on the joined bytes alone.
+pub cut : {bytes b b′ : List ℕ} {t t′ : Tray} {portions portions′ : List (List ℕ)} {es es′ : List Event} → Clear bytes
+    → Feeds bytes freshTray portions es b t → Feeds bytes freshTray portions′ es′ b′ t′ → flatten portions ≡ flatten portions′
+    → (es ≡ es′) × (t ≡ t′) × (b ≡ b′)
+cut c f f′ q = Driving.cut c f f′ q
+
+-- The events told before finish on a stream are the first ones told on any longer stream that begins with it.
+pub prefix : {bytes b b′ : List ℕ} {t t′ : Tray} {portions portions′ : List (List ℕ)} {es es′ : List Event} → Clear bytes
+    → Feeds bytes freshTray portions es b t → Feeds bytes freshTray portions′ es′ b′ t′
+    → (more : List ℕ) → flatten portions′ ≡ flatten portions ++ more → (rest : List Event) × (es′ ≡ es ++ rest)
+prefix c f f′ more q = Driving.prefix c f f′ more q
+
+-- A sound tray stays sound ..
+pub call-sound : {bytes : List ℕ} {tray : Tray} → Ready bytes tray → (input : List ℕ) → Ready (callBytes bytes tray input) (callAnswer bytes tray input .tray)
+call-sound r input = Driving.call-ready r input
+
+pub finish-sound : {bytes : List ℕ} {tray : Tray} → Ready bytes tray → Ready (finishBytes bytes tray) (finishAnswer bytes tray .tray)
+finish-sound r = Driving.finish-ready r
+
+pub fresh-sound : {bytes : List ℕ} → Clear bytes → Ready bytes freshTray
+fresh-sound c = Driving.fresh-ready c
+
+pub zeros-clear : (n : ℕ) → longest ≤ n → Clear (replicate n 0)
+zeros-clear n h = Driving.zeros-clear n h
+
+-- .. and never holds more than 1,103 bytes.
+pub call-held : {bytes : List ℕ} {tray : Tray} → Ready bytes tray → (input : List ℕ) → callAnswer bytes tray input .tray .held ≤ longest
+call-held r input = Driving.held-most (Driving.call-ready r input)
+
+pub finish-held : {bytes : List ℕ} {tray : Tray} → Ready bytes tray → finishAnswer bytes tray .tray .held ≤ longest
+finish-held r = Driving.held-most (Driving.finish-ready r)
+
+-- No more input is used than there is, and a call that says hungry has used all of it.
+pub call-used : (bytes : List ℕ) (tray : Tray) (input : List ℕ) → callAnswer bytes tray input .used ≤ length input
+call-used bytes tray input = Driving.call-used bytes tray input
+
+pub hungry-used : (bytes : List ℕ) (tray : Tray) (input : List ℕ) → callAnswer bytes tray input .said ≡ Said.Hungry → callAnswer bytes tray input .used ≡ length input
+hungry-used bytes tray input q = Driving.hungry-used bytes tray input q

@@ -1,0 +1,119 @@
+-- What the code's own steps compute. Serves proofs: no contract of a public function cites these.
+use mathlib.Core.Path.{_≡_}
+use mathlib.Core.List.{List, [], _∷_, _++_}
+use mathlib.Core.Bool.{Bool, true, false, cond}
+use Prim.Native.Nat.{ℕ, zero, suc, _+_, _-_, _*_, _≤_, _<_, min}
+use lib.ListN.{length, take, drop, replicate}
+use lib.Dec.{ltb}
+use Rattle.frame.specs.declared.Frame.{Frame}
+use Rattle.frame.specs.declared.Checked.the-variants.{Short}
+use Rattle.frame.specs.Check.{checked}
+use Rattle.frame.specs.Fields.{longest}
+use Rattle.stream.specs.declared.Tray.{Tray}
+use Rattle.stream.specs.declared.Said.{Said}
+use Rattle.stream.specs.declared.Answer.{Answer}
+use Rattle.stream.specs.declared.Place.{Place}
+use Rattle.stream.specs.Scan.{most}
+use Rattle.stream.specs.Tray.{Outcome, refused, told, hungry, done, feed, close, closeEnd, laid}
+
+-- the first `start` of the bytes held go, the rest moves to the front, and zeros fill the end
+unfoldable pub shifted : List ℕ → ℕ → ℕ → List ℕ
+shifted bytes held start = drop start (take held bytes) ++ (replicate start 0 ++ drop held bytes)
+
+-- a place within the tray and the input
+pub record Within (place : Place) (bytes input : List ℕ) : Type 0 where
+  pub start-in : place .start ≤ place .held
+  pub held-most : place .held ≤ longest
+  pub room : longest ≤ length bytes
+  pub noise-less : place .noise < most
+  pub used-in : place .used ≤ length input
+
+-- and zeros after the bytes held
+pub record Standing (place : Place) (bytes input : List ℕ) : Type 0 where
+  pub within : Within place bytes input
+  pub padded : bytes ≡ laid bytes (take (place .held) bytes)
+
+-- so many more bytes of the input were used
+abbrev pub plus : ℕ → Outcome → Outcome
+plus u (refused r) = refused r
+plus u (told e c n) = told e c (u + n)
+plus u (hungry c n) = hungry c (u + n)
+plus u (done c) = done c
+
+-- what a call comes to from a place on
+unfoldable pub fedFrom : List ℕ → Place → List ℕ → Outcome
+fedFrom bytes place input = plus (place .used) (feed (drop (place .used) input) (drop (place .start) (take (place .held) bytes)) (place .noise))
+
+-- what finish comes to from a place on
+unfoldable pub closedFrom : List ℕ → Place → Outcome
+closedFrom bytes place = plus (place .used) (closeEnd (close (drop (place .start) (take (place .held) bytes)) (place .noise)))
+
+-- how far a place is from the end: each turn of the loop comes nearer
+abbrev pub toGo : Place → List ℕ → ℕ
+toGo place input = 3 * (length input - place .used) + (place .held - place .start) + place .held
+
+-- a step from a place on: what the call comes to stays the same
+pub record Onward (place : Place) (bytes input : List ℕ) (place′ : Place) (bytes′ : List ℕ) : Type 0 where
+  pub standing : Standing place′ bytes′ input
+  pub beyond : drop longest bytes′ ≡ drop longest bytes
+  pub on : fedFrom bytes′ place′ input ≡ fedFrom bytes place input
+  pub nearer : toGo place′ input < toGo place input
+
+-- the live bytes
+abbrev pub liveAt : Place → List ℕ → List ℕ
+liveAt place bytes = drop (place .start) (take (place .held) bytes)
+
+-- SHORT, and there is input left
+pub record Wanting (place : Place) (bytes input : List ℕ) (wanted : ℕ) : Type 0 where
+  pub short : checked (liveAt place bytes) ≡ Short wanted
+  pub some-left : place .used < length input
+
+-- a place whose live bytes lie in the input, up to those used
+pub record Seen (place : Place) (input : List ℕ) : Type 0 where
+  pub start-in : place .start ≤ place .held
+  pub held-used : place .held ≡ place .used
+  pub held-most : place .held - place .start ≤ longest
+  pub noise-less : place .noise < most
+  pub used-in : place .used ≤ length input
+
+-- how far such a place is from the end
+abbrev pub toEnd : Place → List ℕ → ℕ
+toEnd place input = 2 * (length input - place .used) + (place .held - place .start)
+
+-- a step along the input: what the call comes to stays the same
+pub record Along (place : Place) (input : List ℕ) (place′ : Place) : Type 0 where
+  pub seen : Seen place′ input
+  pub on : fedFrom input place′ input ≡ fedFrom input place input
+  pub no-further : toEnd place′ input ≤ toEnd place input
+
+-- where so many bytes are wanted, the input is used up to there
+abbrev pub reached : Place → List ℕ → ℕ → Place
+reached place input wanted =
+    cond (ltb (place .start + min wanted (length input - place .start)) (place .held)) place
+    (record {
+      start = place .start;
+      held = place .start + min wanted (length input - place .start);
+      noise = place .noise;
+      used = place .start + min wanted (length input - place .start);
+    })
+
+-- a tray with room that holds nothing
+pub record Empty (bytes : List ℕ) : Type 0 where
+  pub room : longest ≤ length bytes
+  pub padded : bytes ≡ laid bytes []
+
+-- one byte of noise
+abbrev pub noised : Place → Place
+noised place = record { start = place .start + 1; held = place .held; noise = place .noise + 1; used = place .used }
+
+-- an answer at a place, whose live bytes stay in the tray
+abbrev pub settled : Place → Said → ℕ → ℕ → Answer
+settled place said shown noise = record { said = said; used = place .used; tray = record { held = place .held - place .start; shown = shown; noise = noise } }
+
+-- noise is told just before a frame
+abbrev pub shownAnswer : Place → Frame → Answer
+shownAnswer place frame = cond (ltb 0 (place .noise)) (settled place (Said.Noise (place .noise)) 0 0) (settled place (Said.Frame frame) (frame .length) 0)
+
+-- where a call starts: the frame last shown is dropped
+abbrev pub droppedPlace : Tray → Place
+droppedPlace tray = record { start = 0; held = tray .held - tray .shown; noise = tray .noise; used = 0 }

@@ -1,0 +1,457 @@
+// Frames and noise in a stream of bytes that comes in portions: document 01, "The stream".
+ghost use mathlib.Core.Path.{_≡_};
+ghost use mathlib.Core.List.{[], _++_};
+ghost use Prim.Native.Nat.{ℕ, _+_, _-_, _≤_, _<_, min};
+ghost use lib.ListN.{length, take, drop, replicate};
+ghost use Rattle.stream.specs.Tray.{zeros, isFrame, sound, freshTray, numberOfSaid, refused, answerOf, bytesOf, callAnswer, callBytes, finishAnswer, finishBytes};
+ghost use Rattle.stream.specs.Driver.{Ready};
+ghost use Rattle.stream.specs.Walk.{shifted, Standing, fedFrom, closedFrom, Wanting, Onward, Seen, Along, reached, Empty, noised, settled, shownAnswer, droppedPlace};
+use answer::Refusal;
+use frame::Checked;
+use frame::Frame;
+
+// The longest frame: the tray's room.
+const LONGEST: usize = 1103;
+
+// Noise is told at this count.
+const MOST: u32 = 65535;
+
+// The first byte of a frame.
+const PREAMBLE: u8 = 0x73;
+
+// The tray beside its lent bytes: how many are held, the length of the frame last shown, the noise not yet told.
+pub struct Tray {
+    pub held: usize,
+    pub shown: usize,
+    pub noise: u32,
+}
+
+// What a call says: a frame, which lies first in the tray; a count of noise; all input is used; all is told; or a refusal.
+pub enum Said {
+    Frame(Frame),
+    Noise(u32),
+    Hungry,
+    Done,
+    Refused(Refusal),
+}
+
+// What is said, how many bytes of the input were used, and the tray as it is now.
+pub struct Answer {
+    pub said: Said,
+    pub used: usize,
+    pub tray: Tray,
+}
+
+// Where a call stands: the live bytes are those of the tray from start to held, or those of the input; so much noise is untold, so many bytes
+// of the input are used.
+struct Place {
+    start: usize,
+    held: usize,
+    noise: u32,
+    used: usize,
+}
+
+// The tray at the start of a stream; its bytes are lent as zeros.
+pub fn fresh() -> Tray
+    ensures { λ r. ⌜ r ≡ freshTray ⌝ }
+{
+    Tray {
+        held: 0,
+        shown: 0,
+        noise: 0,
+    }
+}
+
+// All bytes are checked at, with no way out on the way, so that many are checked at together.
+fn all_zero(bytes: &[u8]) -> bool
+    ensures { λ r. ⌜ r ≡ zeros (now (bytes .entry)) ⌝ }
+{
+    let mut joined: u8 = 0;
+    let mut i = 0;
+    while i < bytes.len() {
+        joined = joined | bytes[i];
+        i += 1;
+    }
+    joined == 0
+}
+
+// A frame of so many bytes was accepted.
+fn is_frame(length: usize, first: Checked) -> bool
+    ensures { λ r. ⌜ r ≡ isFrame length first ⌝ }
+{
+    match first {
+        Checked::Accepted(frame) => frame.length == length,
+        Checked::Short(_) => false,
+        Checked::Refused(_) => false,
+    }
+}
+
+// Every condition of soundness is tested; the shown frame is checked again.
+fn is_sound(bytes: &[u8], tray: Tray) -> bool
+    requires { ⌜ 1103 ≤ length (now bytes) ⌝ }
+    ensures { λ r. ⌜ r ≡ sound (now (bytes .entry)) tray ⌝ }
+{
+    let held = tray.held;
+    if LONGEST < held {
+        return false;
+    }
+    if MOST <= tray.noise {
+        return false;
+    }
+    if !all_zero(&bytes[held..LONGEST]) {
+        return false;
+    }
+    if tray.shown == 0 {
+        return true;
+    }
+    let first = frame::check(&bytes[..held]);
+    is_frame(tray.shown, first)
+}
+
+fn clear(part: &mut [u8])
+    ensures { λ r. ⌜ now (part .exit) ≡ replicate (length (now (part .entry))) 0 ⌝ }
+{
+    let mut i = 0;
+    while i < part.len() {
+        part[i] = 0;
+        i += 1;
+    }
+}
+
+// The bytes from start on move to the front.
+fn slide(part: &mut [u8], start: usize)
+    requires { ⌜ start ≤ length (now part) ⌝ }
+    ensures { λ r. ⌜ now (part .exit) ≡ drop start (now (part .entry)) ++ drop (length (now (part .entry)) - start) (now (part .entry)) ⌝ }
+{
+    let left = part.len() - start;
+    let mut i = 0;
+    while i < left {
+        part[i] = part[i + start];
+        i += 1;
+    }
+}
+
+// The first bytes of those held go.
+fn shift(bytes: &mut [u8], held: usize, start: usize)
+    requires { ⌜ (start ≤ held) × (held ≤ length (now bytes)) ⌝ }
+    ensures { λ r. ⌜ now (bytes .exit) ≡ shifted (now (bytes .entry)) held start ⌝ }
+{
+    if start == 0 {
+        return;
+    }
+    slide(&mut bytes[..held], start);
+    let left = held - start;
+    clear(&mut bytes[left..held]);
+}
+
+// The first live byte is noise.
+fn noisy(place: Place) -> Place
+    requires { ⌜ (place .start < place .held) × (place .noise < 65535) ⌝ }
+    ensures { λ r. ⌜ r ≡ noised place ⌝ }
+{
+    Place {
+        start: place.start + 1,
+        held: place.held,
+        noise: place.noise + 1,
+        used: place.used,
+    }
+}
+
+fn least(a: usize, b: usize) -> usize
+    ensures { λ r. ⌜ r ≡ min a b ⌝ }
+{
+    if a < b {
+        return a;
+    }
+    b
+}
+
+// As many bytes of the input are taken into the tray as are wanted. Where they do not fit behind the live bytes, these move to the front
+// instead.
+fn take_more(bytes: &mut [u8], place: Place, input: &[u8], wanted: usize) -> Place
+    requires { ⌜ Standing place (now bytes) (now input) ⌝ }
+    requires { ⌜ Wanting place (now bytes) (now input) wanted ⌝ }
+    ensures { λ r. ⌜ Onward place (now (bytes .entry)) (now (input .entry)) r (now (bytes .exit)) ⌝ }
+{
+    let start = place.start;
+    let held = place.held;
+    let used = place.used;
+    if LONGEST < start + wanted {
+        shift(bytes, held, start);
+        return Place {
+            start: 0,
+            held: held - start,
+            noise: place.noise,
+            used: used,
+        };
+    }
+    let count = least(wanted - (held - start), input.len() - used);
+    let end = held + count;
+    let upto = used + count;
+    bytes::copy(&input[used..upto], &mut bytes[held..end]);
+    Place {
+        start: start,
+        held: end,
+        noise: place.noise,
+        used: upto,
+    }
+}
+
+// Something is said at a place, whose live bytes stay in the tray.
+fn say(place: Place, said: Said, shown: usize, noise: u32) -> Answer
+    requires { ⌜ place .start ≤ place .held ⌝ }
+    ensures { λ r. ⌜ r ≡ settled place said shown noise ⌝ }
+{
+    Answer {
+        said: said,
+        used: place.used,
+        tray: Tray {
+            held: place.held - place.start,
+            shown: shown,
+            noise: noise,
+        },
+    }
+}
+
+// A frame lies first among the live bytes: it is shown, unless noise is told just before it.
+fn show(place: Place, frame: Frame) -> Answer
+    requires { ⌜ place .start ≤ place .held ⌝ }
+    ensures { λ r. ⌜ r ≡ shownAnswer place frame ⌝ }
+{
+    let before = place.noise;
+    if 0 < before {
+        return say(place, Said::Noise(before), 0, 0);
+    }
+    say(place, Said::Frame(frame), frame.length, 0)
+}
+
+// Where no byte is live, bytes that are no preamble are noise without a check, up to a count below 65,535.
+fn pass(place: Place, input: &[u8]) -> Place
+    requires { ⌜ Seen place (now input) ⌝ }
+    ensures { λ r. ⌜ Along place (now (input .entry)) r ⌝ }
+{
+    if place.start != place.held {
+        return place;
+    }
+    let used = place.used;
+    let limit = (MOST - 1 - place.noise) as usize;
+    let end = used + least(limit, input.len() - used);
+    let found = bytes::scan::find(input, used, end, PREAMBLE);
+    Place {
+        start: found,
+        held: found,
+        noise: place.noise + (found - used) as u32,
+        used: found,
+    }
+}
+
+// The input is used up to so many bytes from the first live one, unless more of it is used already.
+fn reach(place: Place, input: &[u8], wanted: usize) -> Place
+    requires { ⌜ Seen place (now input) ⌝ }
+    ensures { λ r. ⌜ r ≡ reached place (now (input .entry)) wanted ⌝ }
+{
+    let start = place.start;
+    let end = start + least(wanted, input.len() - start);
+    if end < place.held {
+        return place;
+    }
+    Place {
+        start: start,
+        held: end,
+        noise: place.noise,
+        used: end,
+    }
+}
+
+// One byte is wanted in any case, and four where the first is a preamble.
+fn widen(place: Place, input: &[u8]) -> Place
+    requires { ⌜ Seen place (now input) ⌝ }
+    ensures { λ r. ⌜ Along place (now (input .entry)) r ⌝ }
+{
+    let start = place.start;
+    if start == input.len() {
+        return place;
+    }
+    if input[start] == PREAMBLE {
+        return reach(place, input, 4);
+    }
+    reach(place, input, 1)
+}
+
+// What can be done without a check.
+fn ahead(place: Place, input: &[u8]) -> Place
+    requires { ⌜ Seen place (now input) ⌝ }
+    ensures { λ r. ⌜ Along place (now (input .entry)) r ⌝ }
+{
+    widen(pass(place, input), input)
+}
+
+// The call from a place on where no byte is live in the tray: the live bytes lie in the input, and go into the tray with the answer.
+fn feed_input(bytes: &mut [u8], place: Place, input: &[u8]) -> Answer
+    requires { ⌜ Seen place (now input) ⌝ }
+    requires { ⌜ Empty (now bytes) ⌝ }
+    ensures { λ r. ⌜ r ≡ answerOf freshTray (fedFrom (now (input .entry)) place (now (input .entry))) ⌝ }
+    ensures { λ _. ⌜ now (bytes .exit) ≡ bytesOf (now (bytes .entry)) (fedFrom (now (input .entry)) place (now (input .entry))) ⌝ }
+{
+    let mut place = place;
+    loop {
+        place = ahead(place, input);
+        let start = place.start;
+        let held = place.held;
+        match frame::check(&input[start..held]) {
+            Checked::Accepted(frame) => {
+                bytes::copy(&input[start..held], bytes);
+                return show(place, frame);
+            }
+            Checked::Short(wanted) => {
+                if held == input.len() {
+                    bytes::copy(&input[start..held], bytes);
+                    return say(place, Said::Hungry, 0, place.noise);
+                }
+                place = reach(place, input, wanted);
+            }
+            Checked::Refused(_) => {
+                place = noisy(place);
+                if place.noise == MOST {
+                    let start = place.start;
+                    bytes::copy(&input[start..held], bytes);
+                    return say(place, Said::Noise(MOST), 0, 0);
+                }
+            }
+        }
+    }
+}
+
+// The call from a place on while bytes are live in the tray, and then where none is.
+fn feed(bytes: &mut [u8], place: Place, input: &[u8]) -> Answer
+    requires { ⌜ Standing place (now bytes) (now input) ⌝ }
+    ensures { λ r. ⌜ r ≡ answerOf freshTray (fedFrom (now (bytes .entry)) place (now (input .entry))) ⌝ }
+    ensures { λ _. ⌜ now (bytes .exit) ≡ bytesOf (now (bytes .entry)) (fedFrom (now (bytes .entry)) place (now (input .entry))) ⌝ }
+{
+    let mut place = place;
+    while place.start < place.held {
+        let start = place.start;
+        let held = place.held;
+        match frame::check(&bytes[start..held]) {
+            Checked::Accepted(frame) => {
+                shift(bytes, held, start);
+                return show(place, frame);
+            }
+            Checked::Short(wanted) => {
+                if place.used == input.len() {
+                    shift(bytes, held, start);
+                    return say(place, Said::Hungry, 0, place.noise);
+                }
+                place = take_more(bytes, place, input, wanted);
+            }
+            Checked::Refused(_) => {
+                place = noisy(place);
+                if place.noise == MOST {
+                    let start = place.start;
+                    shift(bytes, held, start);
+                    return say(place, Said::Noise(MOST), 0, 0);
+                }
+            }
+        }
+    }
+    let start = place.start;
+    let held = place.held;
+    shift(bytes, held, start);
+    let used = place.used;
+    let outside = Place {
+        start: used,
+        held: used,
+        noise: place.noise,
+        used: used,
+    };
+    feed_input(bytes, outside, input)
+}
+
+// Finish from a place on: every byte that is left is tried as the first of a frame.
+fn close(bytes: &mut [u8], place: Place) -> Answer
+    requires { ⌜ Standing place (now bytes) [] ⌝ }
+    ensures { λ r. ⌜ r ≡ answerOf freshTray (closedFrom (now (bytes .entry)) place) ⌝ }
+    ensures { λ _. ⌜ now (bytes .exit) ≡ bytesOf (now (bytes .entry)) (closedFrom (now (bytes .entry)) place) ⌝ }
+{
+    let mut place = place;
+    while place.start < place.held {
+        let start = place.start;
+        let held = place.held;
+        if let Checked::Accepted(frame) = frame::check(&bytes[start..held]) {
+            shift(bytes, held, start);
+            return show(place, frame);
+        }
+        place = noisy(place);
+        if place.noise == MOST {
+            let start = place.start;
+            shift(bytes, held, start);
+            return say(place, Said::Noise(MOST), 0, 0);
+        }
+    }
+    let start = place.start;
+    let held = place.held;
+    shift(bytes, held, start);
+    let untold = place.noise;
+    if 0 < untold {
+        return say(place, Said::Noise(untold), 0, 0);
+    }
+    say(place, Said::Done, 0, 0)
+}
+
+// A refusal returns the old state and uses no input.
+fn refused(tray: Tray, refusal: Refusal) -> Answer
+    ensures { λ r. ⌜ r ≡ answerOf tray (refused refusal) ⌝ }
+{
+    Answer {
+        said: Said::Refused(refusal),
+        used: 0,
+        tray: tray,
+    }
+}
+
+// The frame last shown is dropped.
+fn drop_shown(bytes: &mut [u8], tray: Tray) -> Place
+    requires { ⌜ Ready (now bytes) tray ⌝ }
+    ensures { λ r. ⌜ r ≡ droppedPlace tray ⌝ }
+    ensures { λ _. ⌜ now (bytes .exit) ≡ shifted (now (bytes .entry)) (tray .held) (tray .shown) ⌝ }
+{
+    let held = tray.held;
+    let shown = tray.shown;
+    shift(bytes, held, shown);
+    Place {
+        start: 0,
+        held: held - shown,
+        noise: tray.noise,
+        used: 0,
+    }
+}
+
+// One call on a portion of the input: document 01, "The stream".
+pub fn call(bytes: &mut [u8], tray: Tray, input: &[u8]) -> Answer
+    ensures { λ r. ⌜ r ≡ callAnswer (now (bytes .entry)) tray (now (input .entry)) ⌝ }
+    ensures { λ _. ⌜ now (bytes .exit) ≡ callBytes (now (bytes .entry)) tray (now (input .entry)) ⌝ }
+{
+    if bytes.len() < LONGEST {
+        return refused(tray, Refusal::Room);
+    }
+    if !is_sound(bytes, tray) {
+        return refused(tray, Refusal::State);
+    }
+    let place = drop_shown(bytes, tray);
+    feed(bytes, place, input)
+}
+
+// One call at the end of the stream, until it says done.
+pub fn finish(bytes: &mut [u8], tray: Tray) -> Answer
+    ensures { λ r. ⌜ r ≡ finishAnswer (now (bytes .entry)) tray ⌝ }
+    ensures { λ _. ⌜ now (bytes .exit) ≡ finishBytes (now (bytes .entry)) tray ⌝ }
+{
+    if bytes.len() < LONGEST {
+        return refused(tray, Refusal::Room);
+    }
+    if !is_sound(bytes, tray) {
+        return refused(tray, Refusal::State);
+    }
+    let place = drop_shown(bytes, tray);
+    close(bytes, place)
+}
