@@ -9,8 +9,7 @@ use Rattle.layout.specs.Determined.{determined}
 use Rattle.codes.specs.declared.Constellation.{Constellation}
 use Rattle.codes.specs.declared.satellites.Satellites.{Satellites}
 use Rattle.codes.specs.Tables.{maskSize, biasSize, firstSatellite, maskSf}
-use Rattle.codes.specs.Fields.{maskField, satellitesOf}
-use Rattle.codes.specs.Listing.{listed, satelliteAt}
+use Rattle.codes.specs.Fields.{maskField, satellitesOf, listed, satelliteAt}
 
 pub mask-size-determined : (c : Constellation) (size : ℕ) {r r' : ℕ} → r ≡ maskSize c size → r' ≡ maskSize c size → r ≡ r'
 mask-size-determined c size p q = determined p q

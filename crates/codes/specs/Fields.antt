@@ -1,13 +1,15 @@
 -- Definitions to believe: the kinds of fields (document 01, "Codes") and the satellite mask.
 use mathlib.Core.Bool.{Bool, true, false}
-use mathlib.Core.List.{List, [], _∷_}
+use mathlib.Core.List.{List, [], _∷_, _++_}
 use Prim.Native.Nat.{ℕ, zero, suc, _-_, _/_, _%_, _^_}
-use lib.Dec.{eqb}
+use lib.Dec.{eqb, ltb}
+use lib.ListN.{length, getD, replicate}
 use Rattle.answer.specs.declared.Refusal.the-variants as refusal
 use Rattle.layout.specs.declared.Field.{Field}
 use Rattle.layout.specs.Layout.{Layout, field, pick}
 use Rattle.layout.specs.Parts.{upTo, free}
 use Rattle.codes.specs.declared.Constellation.{Constellation}
+use Rattle.codes.specs.declared.satellites.Satellites.{Satellites}
 use Rattle.codes.specs.Tables.{maskSf, maskSize, firstSatellite}
 
 -- ---- fields: SF number, width, codes. `free` takes its full width, `upTo` the codes from 0 on.
@@ -48,3 +50,13 @@ satelliteMask constellation k =
     field (free (maskSf constellation) 2) (λ size.
     field (maskField (maskSf constellation) (maskSize constellation size)) (λ mask.
     k (satellitesOf constellation size mask)))
+
+-- ---- the satellites of a mask as the code hands them out
+
+-- a list of numbers in the code's array: how many, and zeros after them
+abbrev pub listed : List ℕ → Satellites
+listed ms = record { count = length ms; numbers = ms ++ replicate (64 - length ms) 0 }
+
+-- the element that has so many after it, 0 if there is none
+abbrev pub satelliteAt : List ℕ → ℕ → ℕ
+satelliteAt ms more = pick (ltb more (length ms)) (getD ms (length ms - 1 - more) 0) 0

@@ -15,15 +15,7 @@ use Rattle.codes.specs.declared.Constellation.the-variants.{Gps, Glonass
 use Rattle.codes.specs.declared.satellites.Satellites.{Satellites}
 use Rattle.codes.specs.Tables.{maskSize, firstSatellite}
 use Rattle.codes.specs.Sizes.{mask-word}
-use Rattle.codes.specs.Fields.{numbered, satellitesOf}
-
--- a list of numbers in the code's array: how many, and zeros after them
-abbrev pub listed : List ℕ → Satellites
-listed ms = record { count = length ms; numbers = ms ++ replicate (64 - length ms) 0 }
-
--- the element that has so many after it, 0 if there is none
-abbrev pub satelliteAt : List ℕ → ℕ → ℕ
-satelliteAt ms more = pick (ltb more (length ms)) (getD ms (length ms - 1 - more) 0) 0
+use Rattle.codes.specs.Fields.{numbered, satellitesOf, listed, satelliteAt}
 
 -- ---- one bit more
 

@@ -1,13 +1,22 @@
 // HPAC, 1-0 to 1-4: tables 6.13 to 6.22. A state carries the area's head and where its mask walk stands, so that what is told of a code can be
 // a function of state and code.
 ghost use mathlib.Core.Path.{_≡_};
-ghost use Rattle.codes.specs.Fields.{orInvalid};
-ghost use Rattle.hpac.specs.Hpac.{troposphereConstant, troposphereLinear, troposphereProduct, troposphereResidual, ionosphereConstant, ionosphereLinear, ionosphereProduct, ionosphereResidual};
-ghost use Rattle.hpac.specs.Machine.{wideResidual, widerResidual, hpacField, hpacStep, areasFrom, areaEnd, troposphereFrom, tSlopesFrom, tProductFrom, tGridFrom, tResidualsFrom, ionosphereFrom, slantsFrom, slantEnd, slopesFrom, productFrom, gridFrom, residualsFrom};
+ghost use Rattle.hpac.specs.Machine.{hpacField, hpacStep, areasFrom, areaEnd, troposphereFrom, tSlopesFrom, tProductFrom, tGridFrom, tResidualsFrom, ionosphereFrom, slantsFrom, slantEnd, slopesFrom, productFrom, gridFrom, residualsFrom};
+
+mod fields;
+
 use codes::Constellation;
 use codes::satellites::satellite_count;
 use codes::tables::mask_field;
 use codes::tables::mask_size_field;
+use fields::c00_field;
+use fields::c01_field;
+use fields::c11_field;
+use fields::residual_field;
+use fields::t00_field;
+use fields::t01_field;
+use fields::t11_field;
+use fields::troposphere_residual_field;
 use layout::Field;
 use layout::up_to;
 
@@ -74,99 +83,6 @@ pub enum State {
     // SF063, and the residuals after this one
     Residual(Area, Walk, u64, u64),
     Done,
-}
-
-// The fields that go by a size code.
-fn t00_field(size: u64) -> Field
-    ensures { λ r. ⌜ r ≡ troposphereConstant size ⌝ }
-{
-    if size == 0 {
-        return up_to(45, 7, 126);
-    }
-    up_to(48, 9, 510)
-}
-
-fn t01_field(size: u64) -> Field
-    ensures { λ r. ⌜ r ≡ troposphereLinear size ⌝ }
-{
-    if size == 0 {
-        return up_to(46, 7, 126);
-    }
-    up_to(49, 9, 510)
-}
-
-fn t11_field(size: u64) -> Field
-    ensures { λ r. ⌜ r ≡ troposphereProduct size ⌝ }
-{
-    if size == 0 {
-        return up_to(47, 9, 510);
-    }
-    up_to(50, 11, 2046)
-}
-
-fn troposphere_residual_field(size: u64) -> Field
-    ensures { λ r. ⌜ r ≡ troposphereResidual size ⌝ }
-{
-    if size == 0 {
-        return up_to(52, 6, 63);
-    }
-    up_to(53, 8, 255)
-}
-
-fn c00_field(size: u64) -> Field
-    ensures { λ r. ⌜ r ≡ ionosphereConstant size ⌝ }
-{
-    if size == 0 {
-        return up_to(57, 12, 4094);
-    }
-    up_to(60, 14, 16382)
-}
-
-fn c01_field(size: u64) -> Field
-    ensures { λ r. ⌜ r ≡ ionosphereLinear size ⌝ }
-{
-    if size == 0 {
-        return up_to(58, 12, 4094);
-    }
-    up_to(61, 14, 16382)
-}
-
-fn c11_field(size: u64) -> Field
-    ensures { λ r. ⌜ r ≡ ionosphereProduct size ⌝ }
-{
-    if size == 0 {
-        return up_to(59, 13, 8190);
-    }
-    up_to(62, 15, 32766)
-}
-
-fn residual_field(size: u64) -> Field
-    ensures { λ r. ⌜ r ≡ ionosphereResidual size ⌝ }
-{
-    if size == 0 {
-        return up_to(64, 4, 15);
-    }
-    wide_residual_field(size)
-}
-
-// SF063 over 0
-fn wide_residual_field(size: u64) -> Field
-    ensures { λ r. ⌜ r ≡ wideResidual size ⌝ }
-{
-    if size == 1 {
-        return up_to(65, 7, 127);
-    }
-    wider_residual_field(size)
-}
-
-// SF063 over 1
-fn wider_residual_field(size: u64) -> Field
-    ensures { λ r. ⌜ r ≡ widerResidual size ⌝ }
-{
-    if size == 2 {
-        return up_to(66, 10, 1023);
-    }
-    up_to(67, 14, 16383)
 }
 
 pub fn field_of(s: State) -> Field

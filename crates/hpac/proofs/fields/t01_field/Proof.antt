@@ -1,8 +1,8 @@
 -- Each side of the test gives what the definition picks.
 use Rattle.layout.specs.Tests.{if-same, if-other}
 use borrow.Author.Needs.{needs}
-use Rattle.hpac.proofs.t01_field.Statement.{statement}
-use Rattle.hpac.proofs.t01_field.Tie as tie
+use Rattle.hpac.proofs.fields.t01_field.Statement.{statement}
+use Rattle.hpac.proofs.fields.t01_field.Tie as tie
 
 pub t01-field-spec : {M : Type 1} → statement M
 t01-field-spec =

@@ -1,11 +1,11 @@
 -- Each side of the test gives what the definition picks.
 use Rattle.layout.specs.Tests.{if-same, if-other}
 use borrow.Author.Needs.{needs}
-use Rattle.hpac.proofs.c00_field.Statement.{statement}
-use Rattle.hpac.proofs.c00_field.Tie as tie
+use Rattle.hpac.proofs.fields.t11_field.Statement.{statement}
+use Rattle.hpac.proofs.fields.t11_field.Tie as tie
 
-pub c00-field-spec : {M : Type 1} → statement M
-c00-field-spec =
+pub t11-field-spec : {M : Type 1} → statement M
+t11-field-spec =
     tie.close (
     tie.spec
     (λ c κs. search needs)

@@ -1,11 +1,11 @@
 -- Each side of the test gives what the definition picks.
 use Rattle.layout.specs.Tests.{if-same, if-other}
 use borrow.Author.Needs.{needs}
-use Rattle.hpac.proofs.c01_field.Statement.{statement}
-use Rattle.hpac.proofs.c01_field.Tie as tie
+use Rattle.hpac.proofs.fields.troposphere_residual_field.Statement.{statement}
+use Rattle.hpac.proofs.fields.troposphere_residual_field.Tie as tie
 
-pub c01-field-spec : {M : Type 1} → statement M
-c01-field-spec =
+pub troposphere-residual-field-spec : {M : Type 1} → statement M
+troposphere-residual-field-spec =
     tie.close (
     tie.spec
     (λ c κs. search needs)
