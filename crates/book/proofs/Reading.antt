@@ -1,0 +1,200 @@
+-- One lemma for each turn and each answer of the functions that read a book, in plain variables, premises worded as the code makes them. Assumes nothing.
+use mathlib.Core.Path.{_≡_, refl, ap, ap₂, sym, _∙_, subst}
+use mathlib.Core.Bool.{Bool, true, false, cond, not, _&&_}
+use mathlib.Core.List.{List, [], _∷_, _++_}
+use Prim.Native.Nat.{ℕ, zero, suc, _+_, _-_, _*_, _/_, _%_, _^_, _≤_, _<_}
+use native.Mathlib.Omega.{arith}
+use lib.Dec.{leb, ltb, eqb}
+use lib.ListN.{length, getD, take, drop}
+use lib.Seq.{drop-drop, getD-drop}
+use borrow.Author.Tests.{lt-ltb, le-ltb, le-leb, lt-leb, leb-true, ltb-true, eq-eqb, ne-eqb, not-true, not-false}
+use Rattle.area.specs.Area.{sf031, isArea, numberIn, numberAt}
+use Rattle.book.specs.Book.{both, areaIn, areasIn, headSound, areasSound, sound, placeOf, found}
+use Rattle.book.specs.Laws.{Sound, sound-areas}
+use Rattle.book.specs.Judge.{Image}
+use Rattle.bits.specs.Bits.{Bytes}
+use Rattle.book.specs.declared.Book.{Book}
+
+-- ---- the head
+
+module _ (book : Book) where
+  pub head-none : book .«aiou_plus_one» ≡ 0 → eqb (book .count) 0 ≡ headSound book
+  unfolding headSound
+  head-none e = rw e (go (eqb (book .count) 0) refl)
+    where
+      go : (b : Bool) → eqb (book .count) 0 ≡ b → b ≡ (b && (true && leb (book .count) 32))
+      go false z = refl
+      go true z = sym (le-leb (book .count) 32 (omega (arith, borrow.Author.Tests.eqb-true (book .count) 0 z)))
+
+  module _ (some : book .«aiou_plus_one» ≡ 0 → ⊥) where
+    pub head-bare : book .count ≡ 0 → false ≡ headSound book
+    unfolding headSound
+    head-bare e = rw (ne-eqb _ _ some, e)
+
+    module _ (h : book .count ≡ 0 → ⊥) where
+      pub head-over : 16 < book .«aiou_plus_one» → false ≡ headSound book
+      unfolding headSound
+      head-over k = rw (ne-eqb _ _ some, ne-eqb _ _ h, lt-leb _ _ k)
+
+      pub head-rest : book .«aiou_plus_one» ≤ 16 → leb (book .count) 32 ≡ headSound book
+      unfolding headSound
+      head-rest k = rw (ne-eqb _ _ some, ne-eqb _ _ h, le-leb _ _ k)
+
+pub head-count : (book : Book) (b : Bool) → b ≡ headSound book → not b ≡ false → book .count ≤ 32
+unfolding headSound
+head-count book b e k = leb-true _ _ (go (both (eqb (book .«aiou_plus_one») 0) (eqb (book .count) 0)) (leb (book .«aiou_plus_one») 16) _ (sym e ∙ not-false b k))
+  where
+    go : (a b c : Bool) → (a && (b && c)) ≡ true → c ≡ true
+    go true true c e = e
+    go true false c e = absurd (mathlib.Core.Bool.false≢true e)
+    go false b c e = absurd (mathlib.Core.Bool.false≢true e)
+
+-- ---- the areas, one after the other
+
+-- of the areas from the i-th on, the first and the rest
+pub areas-left : (n i : ℕ) → i < n → n - i ≡ suc (n - (i + 1))
+areas-left n i h = omega arith
+
+pub next-six : (s : List ℕ) (i : ℕ) → drop 6 (drop (6 * i) s) ≡ drop (6 * (i + 1)) s
+next-six s i = drop-drop 6 (6 * i) s ∙ ap (λ k. drop k s) {x = 6 * i + 6} {y = 6 * (i + 1)} (omega arith)
+
+pub number-there : (s : List ℕ) (n i x : ℕ) → i < n → 6 * n ≤ length s → x ≡ numberAt s (6 * i) → x ≡ numberIn (drop (6 * i) s)
+number-there s n i x h k e = e ∙ ap (λ b. cond b (numberIn (drop (6 * i) s)) 0) (le-leb (6 * i + 6) (length s) (omega arith))
+
+pub record Judging (s : List ℕ) (n i least : ℕ) : Type 0 where
+  pub inside : i ≤ n
+  pub small : least ≤ 256
+  pub same : areasSound (n - i) least (drop (6 * i) s) ≡ areasSound n 0 s
+
+pub judging-start : (s : List ℕ) (n : ℕ) → Judging s n 0 0
+judging-start s n = record { inside = omega arith; small = omega arith; same = ap (λ k. areasSound k 0 s) {x = n - 0} {y = n} (omega arith) }
+
+pub judging-end : (s : List ℕ) (n i least : ℕ) → Judging s n i least → n ≤ i → true ≡ areasSound n 0 s
+unfolding areasSound
+judging-end s n i least p h =
+    let e : n - i ≡ 0 = omega arith in
+    ap (λ k. areasSound k least (drop (6 * i) s)) (sym e) ∙ p .same
+
+module _ (s : List ℕ) (n i least x d w : ℕ) (p : Judging s n i least) (h : i < n) (fits : 6 * n ≤ length s) (ex : x ≡ numberAt s (6 * i)) (ed : d ≡ sf031 (x / 2)) (ew : w ≡ d) where
+  opened : areasSound n 0 s ≡ (eqb (x % 2) 0 && (leb least w && (isArea (x / 2) && areasSound (n - (i + 1)) (suc w) (drop (6 * (i + 1)) s))))
+  unfolding areasSound
+  opened =
+      let e : numberIn (drop (6 * i) s) ≡ x = sym (number-there s n i x h fits ex) in
+      let f : sf031 (areaIn (drop (6 * i) s)) ≡ w = ap (λ x. sf031 (x / 2)) e ∙ sym (ew ∙ ed) in
+      sym (p .same)
+      ∙ ap (λ k. areasSound k least (drop (6 * i) s)) (areas-left n i h)
+      ∙ ap₂ (λ y z. eqb (y % 2) 0 && (leb least z && (isArea (y / 2) && areasSound (n - (i + 1)) (suc z) (drop 6 (drop (6 * i) s))))) e f
+      ∙ ap (λ z. eqb (x % 2) 0 && (leb least w && (isArea (x / 2) && areasSound (n - (i + 1)) (suc w) z))) (next-six s i)
+
+  pub judged-odd : (x % 2 ≡ 0 → ⊥) → false ≡ areasSound n 0 s
+  judged-odd k = rw opened (rw (ne-eqb _ _ k))
+
+  module _ (even : x % 2 ≡ 0) where
+    pub judged-low : w < least → false ≡ areasSound n 0 s
+    judged-low k = rw opened (rw (eq-eqb _ _ even, lt-leb _ _ k))
+
+    module _ (up : least ≤ w) (b : Bool) (eb : b ≡ isArea (x / 2)) where
+      pub judged-bad : not b ≡ true → false ≡ areasSound n 0 s
+      judged-bad k = let z : isArea (x / 2) ≡ false = sym eb ∙ not-true b k in rw opened (rw (eq-eqb _ _ even, le-leb _ _ up, z))
+
+      pub judged-good : not b ≡ false → w < 256 → Judging s n (i + 1) (w + 1)
+      judged-good k l =
+          let z : isArea (x / 2) ≡ true = sym eb ∙ not-false b k in
+          let g : w + 1 ≡ suc w = omega arith in
+          record {
+            inside = omega arith;
+            small = omega arith;
+            same = sym (rw (eq-eqb _ _ even, le-leb _ _ up, z, sym g) at opened);
+          }
+
+-- ---- the whole book
+
+module _ (book : Book) (s : List ℕ) where
+  pub sound-room : length s < 192 → false ≡ sound book s
+  unfolding sound
+  sound-room h = rw (lt-leb 192 (length s) h)
+
+  module _ (h : 192 ≤ length s) (b : Bool) (e : b ≡ headSound book) where
+    pub sound-head : not b ≡ true → false ≡ sound book s
+    unfolding sound
+    sound-head k = let z : headSound book ≡ false = sym e ∙ not-true b k in rw (le-leb 192 (length s) h, z)
+
+    pub sound-rest : not b ≡ false → (r : Bool) → r ≡ areasSound (book .count) 0 s → r ≡ sound book s
+    unfolding sound
+    sound-rest k r f = let z : headSound book ≡ true = sym e ∙ not-false b k in rw (le-leb 192 (length s) h, z) f
+
+both-left : (a b : Bool) → (a && b) ≡ true → a ≡ true
+both-left true b e = refl
+both-left false b e = e
+
+both-right : (a b : Bool) → (a && b) ≡ true → b ≡ true
+both-right true b e = e
+both-right false b e = absurd (mathlib.Core.Bool.false≢true e)
+
+-- what a sound book has
+module _ (book : Book) (s : List ℕ) (e : sound book s ≡ true) where
+  sound-parts : (headSound book ≡ true) × (areasSound (book .count) 0 s ≡ true) × (192 ≤ length s)
+  unfolding sound
+  sound-parts =
+      let r : (headSound book && areasSound (book .count) 0 s) ≡ true = both-right (leb 192 (length s)) _ e in
+      (both-left _ _ r, both-right (headSound book) _ r, leb-true _ _ (both-left (leb 192 (length s)) (headSound book && areasSound (book .count) 0 s) e))
+
+  pub sound-count : book .count ≤ 32
+  sound-count = head-count book true (sym (sound-parts .0)) refl
+
+  pub sound-image : Bytes s → Image (book .count) s
+  sound-image b =
+      let w : Sound (book .count) 0 s = sound-areas (book .count) 0 s b (omega (arith, sound-count, sound-parts .2)) (sound-parts .1) in
+      record { ascending = w .ascending; image = w .image }
+
+-- ---- the place of an ID
+
+module _ (s : List ℕ) (id : ℕ) where
+  pub record Seeking (n i : ℕ) : Type 0 where
+    pub inside : i ≤ n
+    pub same : i + placeOf id (n - i) (drop (6 * i) s) ≡ placeOf id n s
+
+  pub seek-start : (n : ℕ) → Seeking n 0
+  seek-start n = record { inside = omega arith; same = let e : placeOf id (n - 0) s ≡ placeOf id n s = ap (λ k. placeOf id k s) {x = n - 0} {y = n} (omega arith) in omega arith }
+
+  module _ (n i : ℕ) (p : Seeking n i) where
+    pub seek-end : n ≤ i → n ≡ placeOf id n s
+    unfolding placeOf
+    seek-end h = let e : n - i ≡ 0 = omega arith in (omega (arith, p .inside)) ∙ ap (λ k. i + placeOf id k (drop (6 * i) s)) (sym e) ∙ p .same
+
+    module _ (h : i < n) where
+      opened-place : i + cond (eqb (getD s (6 * i) 0) id) zero (suc (placeOf id (n - (i + 1)) (drop (6 * (i + 1)) s))) ≡ placeOf id n s
+      unfolding placeOf
+      opened-place =
+          ap₂ (λ y z. i + cond (eqb y id) zero (suc (placeOf id (n - (i + 1)) z)))
+          (ap (λ k. getD s k 0) {x = 6 * i} {y = 6 * i + 0} (omega arith) ∙ sym (getD-drop (6 * i) s 0 0)) (sym (next-six s i))
+          ∙ ap (λ k. i + placeOf id k (drop (6 * i) s)) (sym (areas-left n i h))
+          ∙ p .same
+
+      pub seek-found : getD s (6 * i) 0 ≡ id → i ≡ placeOf id n s
+      seek-found e = omega (arith, rw (eq-eqb _ _ e) at opened-place)
+
+      pub seek-turn : (getD s (6 * i) 0 ≡ id → ⊥) → Seeking n (i + 1)
+      seek-turn k = record { inside = omega arith; same = omega (arith, rw (ne-eqb _ _ k) at opened-place) }
+
+-- ---- finding
+
+module _ (book : Book) (s : List ℕ) (id : ℕ) where
+  pub find-short : length s / 6 < book .count → [] ≡ found book s id
+  unfolding found
+  find-short h = let z : leb (6 * book .count) (length s) ≡ false = lt-leb (6 * book .count) (length s) (omega arith) in rw z
+
+  module _ (h : book .count ≤ length s / 6) (i : ℕ) (e : i ≡ placeOf id (book .count) s) where
+    pub find-none : book .count ≤ i → [] ≡ found book s id
+    unfolding found
+    find-none k =
+        let z : leb (6 * book .count) (length s) ≡ true = le-leb (6 * book .count) (length s) (omega arith) in
+        let y : ltb (placeOf id (book .count) s) (book .count) ≡ false = le-ltb _ _ (subst (λ i. book .count ≤ i) e k) in
+        rw (z, y)
+
+    pub find-part : i < book .count → take (6 * i + 6 - 6 * i) (drop (6 * i) s) ≡ found book s id
+    unfolding found
+    find-part k =
+        let z : leb (6 * book .count) (length s) ≡ true = le-leb (6 * book .count) (length s) (omega arith) in
+        let y : ltb (placeOf id (book .count) s) (book .count) ≡ true = lt-ltb _ _ (subst (λ i. i < book .count) e k) in
+        rw (z, y) (ap (λ m. take m (drop (6 * i) s)) {x = 6 * i + 6 - 6 * i} {y = 6} (omega arith) ∙ ap (λ i. take 6 (drop (6 * i) s)) e)

@@ -1,0 +1,470 @@
+-- One lemma for each turn and each answer of the functions that take a GAD, in plain variables, premises worded as the code makes them. Assumes nothing.
+use mathlib.Core.Path.{_≡_, refl, ap, ap₂, sym, _∙_, subst}
+use mathlib.Core.Bool.{Bool, true, false, cond, not, _&&_}
+use mathlib.Core.List.{List, [], _∷_, _++_, append-assoc}
+use Prim.Native.Nat.{ℕ, zero, suc, _+_, _-_, _*_, _/_, _%_, _^_, _≤_, _<_}
+use native.Mathlib.Omega.{arith}
+use native.Mathlib.Numerals.{add-one}
+use lib.Dec.{leb, ltb, eqb}
+use lib.ListN.{length, getD, take, drop, length-append, length-drop, take-append-drop, drop-of-length-le}
+use lib.Seq.{drop-cons, drop-drop, drop-at, take-at, drop-append-le, length-take-le}
+use borrow.Author.Tests.{lt-ltb, le-ltb, ltb-true, ltb-false, le-leb, eq-eqb, ne-eqb, eqb-true, not-true, not-false}
+use Rattle.answer.specs.declared.Refusal.{Refusal}
+use Rattle.answer.specs.declared.Refusal.the-variants.{Short, Room, State}
+use Rattle.bits.specs.Bits.{Bytes}
+use Rattle.area.specs.Area.{sf031, bytesOf, numberIn, numberAt, putAt}
+use Rattle.area.specs.Laws.{number-bytes, half-number}
+use Rattle.book.specs.Book.{areasIn, bytesOfAll, sound}
+use Rattle.book.specs.Laws.{Ascending, length-areas, length-bytes, bytes-join, areas-bytes}
+use Rattle.book.specs.Take.{aiouOf, blockCount, blockAt, blocksFrom, blocksOf, cutShort, lookup, insert, Outcome, taken, refused, andThen, takeBlock, takeAll, before, outcome, answerOf, leftBy, takenOf, bytesAfter}
+use Rattle.book.specs.TakeLaws.{orElse, or-assoc, lookup-append, Took, took, lookup-block, length-insert, ascending-insert}
+use Rattle.book.specs.Judge.{judgedBy, isTaken, judgeFound, judgeBlock, judge-is, Image}
+use Rattle.book.specs.declared.Book.{Book}
+use Rattle.book.specs.declared.Found.{Found}
+use Rattle.book.specs.declared.Found.the-variants.{Area, Nothing}
+use Rattle.book.specs.declared.Judged.{Judged}
+use Rattle.book.specs.declared.Judged.the-variants.{Held, Refused}
+use Rattle.book.specs.declared.Taken.the-variants as Taken
+use Rattle.book.proofs.Reading.{areas-left, sound-count, sound-image}
+
+-- ---- the blocks one after the other
+
+blocks-next : (n i : ℕ) (p : List ℕ) → i < n → blocksFrom (n - i) i p ≡ blockAt p i ∷ blocksFrom (n - (i + 1)) (i + 1) p
+unfolding blocksFrom
+blocks-next n i p h =
+    ap (λ k. blocksFrom k i p) (areas-left n i h) ∙ ap (λ j. blockAt p i ∷ blocksFrom (n - (i + 1)) j p) (sym (add-one i))
+
+blocks-end : (n i : ℕ) (p : List ℕ) → n ≤ i → blocksFrom (n - i) i p ≡ []
+unfolding blocksFrom
+blocks-end n i p h = let e : n - i ≡ 0 = omega arith in ap (λ k. blocksFrom k i p) e
+
+blocks-snoc : (i j : ℕ) (p : List ℕ) → blocksFrom (suc i) j p ≡ blocksFrom i j p ++ (blockAt p (j + i) ∷ [])
+unfolding blocksFrom
+blocks-snoc zero j p = ap (λ k. blockAt p k ∷ []) {x = j} {y = j + 0} (omega arith)
+blocks-snoc (suc i) j p =
+    ap (λ l. blockAt p j ∷ l) (blocks-snoc i (suc j) p ∙ ap (λ k. blocksFrom i (suc j) p ++ (blockAt p k ∷ [])) {x = suc j + i} {y = j + suc i} (omega arith))
+
+-- ---- judging
+
+-- so many areas are held: these
+pub record IsHeld (o : Outcome) (n : ℕ) : Type 0 where
+  pub list : List ℕ
+  pub is : o ≡ taken list
+  pub many : length list ≡ n
+
+is-held : (o : Outcome) (n : ℕ) → Held n ≡ judgedBy o → IsHeld o n
+is-held (taken l) n e = record { list = l; is = refl; many = cc }
+is-held (refused r) n e = let z : _≡_ {A = ℕ} 0 1 = cc in absurd (omega arith)
+
+is-refused : (o : Outcome) (r : Refusal) → Refused r ≡ judgedBy o → o ≡ refused r
+is-refused (taken l) r e = let z : _≡_ {A = ℕ} 0 1 = cc in absurd (omega arith)
+is-refused (refused q) r e = cc
+
+-- the areas held after the blocks before block i, and what is still to be answered
+pub record JudgingBlocks (s p : List ℕ) (count n i held : ℕ) : Type 0 where
+  pub areas : List ℕ
+  pub inside : i ≤ n
+  pub ends : takeAll (blocksFrom (n - i) i p) areas ≡ takeAll (blocksOf p) (areasIn count s)
+  pub many : length areas ≡ held
+  pub looks : (id : ℕ) → lookup id areas ≡ orElse (lookup id (areasIn count s)) (lookup id (blocksFrom i 0 p))
+
+or-none : (f : Found) → f ≡ orElse f Nothing
+or-none (Area a) = refl
+or-none Nothing = refl
+
+pub judge-start : (s p : List ℕ) (count n : ℕ) → n ≡ blockCount p → JudgingBlocks s p count n 0 count
+unfolding blocksFrom lookup
+judge-start s p count n e =
+    record {
+      areas = areasIn count s;
+      inside = omega arith;
+      ends = ap (λ k. takeAll (blocksFrom k 0 p) (areasIn count s)) {x = n - 0} {y = blockCount p} (omega arith);
+      many = length-areas count s;
+      looks = λ id. or-none (lookup id (areasIn count s));
+    }
+
+pub judge-end : (s p : List ℕ) (count n i held : ℕ) → JudgingBlocks s p count n i held → n ≤ i → Held held ≡ judgedBy (takeAll (blocksOf p) (areasIn count s))
+unfolding takeAll
+judge-end s p count n i held q h =
+    ap Held (sym (q .many)) ∙ ap judgedBy (ap (λ l. takeAll l (q .areas)) (sym (blocks-end n i p h)) ∙ q .ends)
+
+module _ (s p : List ℕ) (count n i held : ℕ) (q : JudgingBlocks s p count n i held) (h : i < n) (v : Judged)
+    (e : v ≡ judgeBlock (blockAt p i) (orElse (lookup (sf031 (blockAt p i)) (areasIn count s)) (lookup (sf031 (blockAt p i)) (blocksFrom i 0 p))) held) where
+  judged : v ≡ judgedBy (takeBlock (blockAt p i) (q .areas))
+  judged =
+      e ∙ ap₂ (λ f n. judgeBlock (blockAt p i) f n) (sym (q .looks (sf031 (blockAt p i)))) (sym (q .many))
+      ∙ sym (judge-is (blockAt p i) (q .areas))
+
+  opened : andThen (takeBlock (blockAt p i) (q .areas)) (λ l. takeAll (blocksFrom (n - (i + 1)) (i + 1) p) l) ≡ takeAll (blocksOf p) (areasIn count s)
+  unfolding takeAll
+  opened = ap (λ l. takeAll l (q .areas)) (sym (blocks-next n i p h)) ∙ q .ends
+
+  pub judge-refused : (r : Refusal) → v ≡ Refused r → Refused r ≡ judgedBy (takeAll (blocksOf p) (areasIn count s))
+  judge-refused r z =
+      ap judgedBy (ap (λ o. andThen o (λ l. takeAll (blocksFrom (n - (i + 1)) (i + 1) p) l)) (sym (is-refused (takeBlock (blockAt p i) (q .areas)) r (sym z ∙ judged))) ∙ opened)
+
+  pub judge-turn : (m : ℕ) → v ≡ Held m → JudgingBlocks s p count n (i + 1) m
+  judge-turn m z =
+      let w : IsHeld (takeBlock (blockAt p i) (q .areas)) m = is-held _ m (sym z ∙ judged) in
+      record {
+        areas = w .list;
+        inside = omega arith;
+        ends = ap (λ o. andThen o (λ l. takeAll (blocksFrom (n - (i + 1)) (i + 1) p) l)) (sym (w .is)) ∙ opened;
+        many = w .many;
+        looks = λ id.
+            lookup-block id (blockAt p i) (q .areas) (w .list) (took (blockAt p i) (q .areas) (w .list) (w .is))
+            ∙ ap (λ f. orElse f (lookup id (blockAt p i ∷ []))) (q .looks id)
+            ∙ or-assoc (lookup id (areasIn count s)) (lookup id (blocksFrom i 0 p)) (lookup id (blockAt p i ∷ []))
+            ∙ ap (orElse (lookup id (areasIn count s)))
+            (sym (lookup-append id (blocksFrom i 0 p) (blockAt p i ∷ [])) ∙ ap (lookup id)
+            (ap (λ k. blocksFrom i 0 p ++ (blockAt p k ∷ [])) {x = i} {y = 0 + i} (omega arith) ∙ sym (blocks-snoc i 0 p) ∙ ap (λ k. blocksFrom k 0 p) (sym (add-one i))));
+      }
+
+-- ---- a new area takes its place
+
+-- the smaller ID is put down, the other carried on
+unfoldable pub carry : ℕ → List ℕ → List ℕ
+carry a [] = a ∷ []
+carry a (b ∷ l) = cond (ltb (sf031 a) (sf031 b)) (a ∷ carry b l) (b ∷ carry a l)
+
+-- an area before all others is put down before them
+carry-first : (a : ℕ) (l : List ℕ) → Ascending (suc (sf031 a)) l → carry a l ≡ a ∷ l
+unfolding carry
+carry-first a [] p = refl
+carry-first a (b ∷ l) (Ascending.more h k p) = rw (lt-ltb _ _ h) (ap (λ l. a ∷ l) (carry-first b l p))
+
+carry-insert : (a : ℕ) (l : List ℕ) (least : ℕ) → Ascending least l → carry a l ≡ insert a l
+unfolding carry insert
+carry-insert a [] least p = refl
+carry-insert a (b ∷ l) least (Ascending.more h k p) = go (ltb (sf031 a) (sf031 b)) (carry-first b l p) (carry-insert a l _ p)
+  where
+    go : (t : Bool) → carry b l ≡ b ∷ l → carry a l ≡ insert a l → cond t (a ∷ carry b l) (b ∷ carry a l) ≡ cond t (a ∷ b ∷ l) (b ∷ insert a l)
+    go true e f = ap (λ l. a ∷ l) e
+    go false e f = ap (λ l. b ∷ l) f
+
+-- the areas from the i-th on are numbers of 47 bits
+small-at : (l : List ℕ) (least i : ℕ) → Ascending least l → i < length l → getD l i 0 < 2 ^ 47
+small-at [] least i p h = absurd (omega arith)
+small-at (a ∷ l) least zero (Ascending.more q k p) h = k
+small-at (a ∷ l) least (suc i) (Ascending.more q k p) h = small-at l _ i p (omega arith)
+
+append-none : (l : List ℕ) → l ++ [] ≡ l
+append-none [] = refl
+append-none (x ∷ l) = ap (λ m. x ∷ m) (append-none l)
+
+bytes-snoc : (d t : List ℕ) (c : ℕ) → bytesOfAll d ++ (bytesOf c ++ t) ≡ bytesOfAll (d ++ (c ∷ [])) ++ t
+unfolding bytesOfAll
+bytes-snoc d t c =
+    sym (append-assoc (bytesOfAll d) (bytesOf c) t)
+    ∙ ap (λ l. l ++ t) (sym (bytes-join d (c ∷ []) ∙ ap (λ l. bytesOfAll d ++ l) (append-none (bytesOf c))))
+
+-- six bytes put behind areas are one area more
+put-image : (d t b : List ℕ) (i c : ℕ) → b ≡ bytesOfAll d ++ t → length d ≡ i → 6 ≤ length t → putAt b (6 * i) c ≡ bytesOfAll (d ++ (c ∷ [])) ++ drop 6 t
+put-image d t b i c e f h =
+    let n : length (bytesOfAll d) ≡ 6 * i = length-bytes d ∙ ap (λ k. 6 * k) f in
+    let m : length b ≡ 6 * i + length t = ap length e ∙ length-append (bytesOfAll d) t ∙ ap (λ k. k + length t) n in
+    let z : leb (6 * i + 6) (length b) ≡ true = le-leb (6 * i + 6) (length b) (omega arith) in
+    let first : take (6 * i) b ≡ bytesOfAll d = ap (take (6 * i)) e ∙ take-at (bytesOfAll d) t (6 * i) n in
+    let last : drop (6 * i + 6) b ≡ drop 6 t
+    = sym (drop-drop 6 (6 * i) b) ∙ ap (λ l. drop 6 (drop (6 * i) l)) e ∙ ap (drop 6) (drop-at (bytesOfAll d) t (6 * i) n) in
+    rw z
+    (ap₂ (λ x y. x ++ (bytesOf c ++ y)) first last ∙ bytes-snoc d (drop 6 t) c)
+
+-- and the number behind areas is twice the next one
+read-image : (d t b : List ℕ) (i a x : ℕ) → b ≡ bytesOfAll d ++ (bytesOf a ++ t) → length d ≡ i → a < 2 ^ 47 → x ≡ numberAt b (6 * i) → x / 2 ≡ a
+read-image d t b i a x e f h ex =
+    let n : length (bytesOfAll d) ≡ 6 * i = length-bytes d ∙ ap (λ k. 6 * k) f in
+    let m : length b ≡ 6 * i + (6 + length t) = ap length e ∙ length-append (bytesOfAll d) (bytesOf a ++ t) ∙ omega (arith, n) in
+    let z : leb (6 * i + 6) (length b) ≡ true = le-leb (6 * i + 6) (length b) (omega arith) in
+    ap (λ x. x / 2) (ex ∙ ap (λ b′. cond b′ (numberIn (drop (6 * i) b)) 0) z
+    ∙ ap numberIn (ap (drop (6 * i)) e ∙ drop-at (bytesOfAll d) (bytesOf a ++ t) (6 * i) n) ∙ number-bytes a t h) ∙ half-number a
+
+pub record Inserting (s : List ℕ) (n a i c : ℕ) (b : List ℕ) : Type 0 where
+  pub down : List ℕ
+  pub inside : i ≤ n
+  pub many : length down ≡ i
+  pub bytes : b ≡ bytesOfAll down ++ (bytesOfAll (drop i (areasIn n s)) ++ drop (6 * n) s)
+  pub rest : down ++ carry c (drop i (areasIn n s)) ≡ carry a (areasIn n s)
+  pub small : c < 2 ^ 47
+
+pub insert-start : (s : List ℕ) (n a : ℕ) → Image n s → a < 2 ^ 47 → Inserting s n a 0 a s
+unfolding bytesOfAll
+insert-start s n a p h =
+    record {
+      down = [];
+      inside = omega arith;
+      many = refl;
+      bytes = sym (take-append-drop (6 * n) s) ∙ ap (λ l. l ++ drop (6 * n) s) (p .image);
+      rest = refl;
+      small = h;
+    }
+
+module _ (s : List ℕ) (n a i c : ℕ) (b : List ℕ) (p : Image n s) (fits : 6 * n + 6 ≤ length s) (q : Inserting s n a i c b) where
+  pub insert-length : length b ≡ length s
+  insert-length =
+      ap length (q .bytes) ∙ length-append (bytesOfAll (q .down)) _
+      ∙ omega (arith, length-append (bytesOfAll (drop i (areasIn n s))) (drop (6 * n) s), length-bytes (q .down), length-bytes (drop i (areasIn n s)), length-drop i (areasIn n s), length-drop (6 * n) s, length-areas n s, q .many, q .inside)
+
+  pub insert-end : n ≤ i → (z : List ℕ) → z ≡ putAt b (6 * n) c → z ≡ bytesOfAll (insert a (areasIn n s)) ++ drop (6 * n + 6) s
+  unfolding carry bytesOfAll
+  insert-end h z ez =
+      let e : i ≡ n = omega (arith, q .inside) in
+      let none : drop i (areasIn n s) ≡ [] = drop-of-length-le (areasIn n s) {i = i} (omega (arith, length-areas n s)) in
+      let all : q .down ++ (c ∷ []) ≡ insert a (areasIn n s)
+      = ap (λ l. q .down ++ carry c l) (sym none) ∙ q .rest ∙ carry-insert a (areasIn n s) 0 (p .ascending) in
+      ez
+      ∙ put-image (q .down) (drop (6 * n) s) b n c (q .bytes ∙ ap (λ l. bytesOfAll (q .down) ++ (bytesOfAll l ++ drop (6 * n) s)) none) (q .many ∙ e) (omega (arith, length-drop (6 * n) s))
+      ∙ ap₂ (λ l t. bytesOfAll l ++ t) all (drop-drop 6 (6 * n) s)
+
+  module _ (h : i < n) (x : ℕ) (ex : x ≡ numberAt b (6 * i)) where
+    left : drop i (areasIn n s) ≡ getD (areasIn n s) i 0 ∷ drop (i + 1) (areasIn n s)
+    left = drop-cons (areasIn n s) i 0 (omega (arith, length-areas n s)) ∙ ap (λ k. getD (areasIn n s) i 0 ∷ drop k (areasIn n s)) (sym (add-one i))
+
+    y-small : getD (areasIn n s) i 0 < 2 ^ 47
+    y-small = small-at (areasIn n s) 0 i (p .ascending) (omega (arith, length-areas n s))
+
+    laid : b ≡ bytesOfAll (q .down) ++ (bytesOf (getD (areasIn n s) i 0) ++ (bytesOfAll (drop (i + 1) (areasIn n s)) ++ drop (6 * n) s))
+    unfolding bytesOfAll
+    laid =
+        q .bytes ∙ ap (λ l. bytesOfAll (q .down) ++ (bytesOfAll l ++ drop (6 * n) s)) left
+        ∙ ap (λ l. bytesOfAll (q .down) ++ l) (append-assoc (bytesOf (getD (areasIn n s) i 0)) (bytesOfAll (drop (i + 1) (areasIn n s))) (drop (6 * n) s))
+
+    next-is : x / 2 ≡ getD (areasIn n s) i 0
+    next-is = read-image (q .down) (bytesOfAll (drop (i + 1) (areasIn n s)) ++ drop (6 * n) s) b i (getD (areasIn n s) i 0) x laid (q .many) y-small ex
+
+    pub insert-down : (d₁ d₂ : ℕ) → d₁ ≡ sf031 c → d₂ ≡ sf031 (x / 2) → d₁ < d₂ → (z : List ℕ) → z ≡ putAt b (6 * i) c → Inserting s n a (i + 1) (x / 2) z
+    unfolding carry
+    insert-down d₁ d₂ e₁ e₂ k z ez =
+        let t : List ℕ = bytesOfAll (drop (i + 1) (areasIn n s)) ++ drop (6 * n) s in
+        let lt : ltb (sf031 c) (sf031 (getD (areasIn n s) i 0)) ≡ true = lt-ltb _ _ (subst (λ y. sf031 c < sf031 y) next-is (subst (λ k. k < sf031 (x / 2)) e₁ (subst (λ k. d₁ < k) e₂ k))) in
+        let step : carry c (drop i (areasIn n s)) ≡ c ∷ carry (getD (areasIn n s) i 0) (drop (i + 1) (areasIn n s))
+        = ap (carry c) left
+        ∙ ap (λ t. cond t (c ∷ carry (getD (areasIn n s) i 0) (drop (i + 1) (areasIn n s))) (getD (areasIn n s) i 0 ∷ carry c (drop (i + 1) (areasIn n s)))) lt in
+        record {
+          down = q .down ++ (c ∷ []);
+          inside = omega arith;
+          many = length-append (q .down) (c ∷ []) ∙ ap (λ k. k + 1) (q .many);
+          bytes = ez ∙ put-image (q .down) (bytesOf (getD (areasIn n s) i 0) ++ t) b i c laid (q .many) (omega arith);
+          rest = append-assoc (q .down) (c ∷ []) (carry (x / 2) (drop (i + 1) (areasIn n s)))
+              ∙ ap (λ l. q .down ++ l) (ap (λ y. c ∷ carry y (drop (i + 1) (areasIn n s))) next-is ∙ sym step) ∙ q .rest;
+          small = subst (λ y. y < 2 ^ 47) (sym next-is) y-small;
+        }
+
+    pub insert-keep : (d₁ d₂ : ℕ) → d₁ ≡ sf031 c → d₂ ≡ sf031 (x / 2) → d₂ ≤ d₁ → Inserting s n a (i + 1) c b
+    unfolding carry
+    insert-keep d₁ d₂ e₁ e₂ k =
+        let t : List ℕ = bytesOfAll (drop (i + 1) (areasIn n s)) ++ drop (6 * n) s in
+        let ge : ltb (sf031 c) (sf031 (getD (areasIn n s) i 0)) ≡ false = le-ltb _ _ (subst (λ y. sf031 y ≤ sf031 c) next-is (subst (λ k. sf031 (x / 2) ≤ k) e₁ (subst (λ k. k ≤ d₁) e₂ k))) in
+        let step : carry c (drop i (areasIn n s)) ≡ getD (areasIn n s) i 0 ∷ carry c (drop (i + 1) (areasIn n s))
+        = ap (carry c) left
+        ∙ ap (λ t. cond t (c ∷ carry (getD (areasIn n s) i 0) (drop (i + 1) (areasIn n s))) (getD (areasIn n s) i 0 ∷ carry c (drop (i + 1) (areasIn n s)))) ge in
+        record {
+          down = q .down ++ (getD (areasIn n s) i 0 ∷ []);
+          inside = omega arith;
+          many = length-append (q .down) (getD (areasIn n s) i 0 ∷ []) ∙ ap (λ k. k + 1) (q .many);
+          bytes = laid ∙ bytes-snoc (q .down) t (getD (areasIn n s) i 0);
+          rest = append-assoc (q .down) (getD (areasIn n s) i 0 ∷ []) (carry c (drop (i + 1) (areasIn n s))) ∙ ap (λ l. q .down ++ l) (sym step) ∙ q .rest;
+          small = q .small;
+        }
+
+-- ---- all new areas
+
+-- the first of the blocks was taken, and then the rest
+pub record First (a : ℕ) (blocks l final : List ℕ) : Type 0 where
+  pub next : List ℕ
+  pub first : Took a l next
+  pub rest : takeAll blocks next ≡ taken final
+
+first-of : (a : ℕ) (blocks l final : List ℕ) → takeAll (a ∷ blocks) l ≡ taken final → First a blocks l final
+unfolding takeAll
+first-of a blocks l final = go (takeBlock a l) refl
+  where
+    go : (o : Outcome) → takeBlock a l ≡ o → andThen o (λ l. takeAll blocks l) ≡ taken final → First a blocks l final
+    go (taken m) q e = record { next = m; first = took a l m q; rest = e }
+    go (refused r) q e = let z : _≡_ {A = ℕ} 0 1 = cc in absurd (omega arith)
+
+-- the areas held after the blocks before block i lie in the bytes, and those behind are as they were
+pub record Filling (s p : List ℕ) (count n i held : ℕ) (b : List ℕ) : Type 0 where
+  pub areas : List ℕ
+  pub final : List ℕ
+  pub inside : i ≤ n
+  pub ends : takeAll (blocksFrom (n - i) i p) areas ≡ taken final
+  pub all : takeAll (blocksOf p) (areasIn count s) ≡ taken final
+  pub many : length areas ≡ held
+  pub few : held ≤ 32
+  pub ascending : Ascending 0 areas
+  pub bytes : b ≡ bytesOfAll areas ++ drop (6 * held) s
+
+unfoldable count-of : Outcome → ℕ
+count-of (taken l) = length l
+count-of (refused r) = 0
+
+taken-some : (o : Outcome) → isTaken o ≡ true → IsHeld o (count-of o)
+unfolding count-of
+taken-some (taken l) e = record { list = l; is = refl; many = refl }
+taken-some (refused r) e = absurd (mathlib.Core.Bool.false≢true e)
+
+pub fill-start : (s p : List ℕ) (count n : ℕ) → n ≡ blockCount p → Image count s → count ≤ 32 → isTaken (takeAll (blocksOf p) (areasIn count s)) ≡ true → Filling s p count n 0 count s
+fill-start s p count n e q h t =
+    let w : IsHeld (takeAll (blocksOf p) (areasIn count s)) _ = taken-some _ t in
+    record {
+      areas = areasIn count s;
+      final = w .list;
+      inside = omega arith;
+      ends = ap (λ k. takeAll (blocksFrom k 0 p) (areasIn count s)) {x = n - 0} {y = blockCount p} (omega arith) ∙ w .is;
+      all = w .is;
+      many = length-areas count s;
+      few = h;
+      ascending = q .ascending;
+      bytes = sym (take-append-drop (6 * count) s) ∙ ap (λ l. l ++ drop (6 * count) s) (q .image);
+    }
+
+module _ (s p : List ℕ) (count n i held : ℕ) (b : List ℕ) (long : 192 ≤ length s) (q : Filling s p count n i held b) where
+  pub fill-length : length b ≡ length s
+  fill-length =
+      ap length (q .bytes) ∙ length-append (bytesOfAll (q .areas)) (drop (6 * held) s)
+      ∙ omega (arith, length-bytes (q .areas), length-drop (6 * held) s, q .many, q .few)
+
+  areas-are : areasIn held b ≡ q .areas
+  areas-are =
+      ap₂ areasIn (sym (q .many)) (q .bytes) ∙ areas-bytes (q .areas) (drop (6 * held) s) 0 (q .ascending)
+
+  pub fill-image : Image held b
+  fill-image =
+      record {
+        ascending = subst (λ l. Ascending 0 l) (sym areas-are) (q .ascending);
+        image = ap (take (6 * held)) (q .bytes) ∙ take-at (bytesOfAll (q .areas)) (drop (6 * held) s) (6 * held) (length-bytes (q .areas) ∙ ap (λ k. 6 * k) (q .many))
+            ∙ ap bytesOfAll (sym areas-are);
+      }
+
+  pub fill-end : n ≤ i → b ≡ leftBy (takeAll (blocksOf p) (areasIn count s)) s
+  unfolding takeAll
+  fill-end h =
+      let e : taken (q .areas) ≡ taken (q .final) = ap (λ l. takeAll l (q .areas)) (sym (blocks-end n i p h)) ∙ q .ends in
+      q .bytes ∙ ap (λ k. bytesOfAll (q .areas) ++ drop (6 * k) s) (sym (q .many)) ∙ ap (λ o. leftBy o s) (e ∙ sym (q .all))
+
+  module _ (h : i < n) (x : ℕ) (ex : x ≡ blockAt p i) (d : ℕ) (ed : d ≡ sf031 x) (v : Found) (ev : v ≡ lookup d (areasIn held b)) where
+    opened-fill : First (blockAt p i) (blocksFrom (n - (i + 1)) (i + 1) p) (q .areas) (q .final)
+    opened-fill = first-of _ _ _ _ (ap (λ l. takeAll l (q .areas)) (sym (blocks-next n i p h)) ∙ q .ends)
+
+    asked : v ≡ lookup (sf031 (blockAt p i)) (q .areas)
+    asked = ev ∙ ap₂ lookup (ed ∙ ap sf031 ex) areas-are
+
+    pub fill-held : (y : ℕ) → v ≡ Area y → Filling s p count n (i + 1) held b
+    fill-held y z = go (opened-fill .next) (opened-fill .first) (opened-fill .rest)
+      where
+        go : (m : List ℕ) → Took (blockAt p i) (q .areas) m → takeAll (blocksFrom (n - (i + 1)) (i + 1) p) m ≡ taken (q .final) → Filling s p count n (i + 1) held b
+        go m (Took.held o e) r =
+            record { areas = q .areas; final = q .final; inside = omega arith; ends = r; all = q .all; many = q .many; few = q .few; ascending = q .ascending; bytes = q .bytes }
+        go m (Took.new o e k) r = let w : Area y ≡ Nothing = sym z ∙ asked ∙ e in let w′ : _≡_ {A = ℕ} 0 1 = cc in absurd (omega arith)
+
+    -- there is a place for a new one
+    pub fill-room : v ≡ Nothing → held < 32
+    fill-room z = go (opened-fill .next) (opened-fill .first)
+      where
+        go : (m : List ℕ) → Took (blockAt p i) (q .areas) m → held < 32
+        go m (Took.held o e) = let w : Nothing ≡ Area (blockAt p i) = sym z ∙ asked ∙ e in let w′ : _≡_ {A = ℕ} 0 1 = cc in absurd (omega arith)
+        go m (Took.new o e k) = subst (λ k. k < 32) (q .many) k
+
+    pub fill-new : v ≡ Nothing → x < 2 ^ 47 → (z : List ℕ) → z ≡ bytesOfAll (insert x (areasIn held b)) ++ drop (6 * held + 6) b → Filling s p count n (i + 1) (held + 1) z
+    fill-new z small b′ eb = go (opened-fill .next) (opened-fill .first) (opened-fill .rest)
+      where
+        go : (m : List ℕ) → Took (blockAt p i) (q .areas) m → takeAll (blocksFrom (n - (i + 1)) (i + 1) p) m ≡ taken (q .final) → Filling s p count n (i + 1) (held + 1) b′
+        go m (Took.held o e) r = let w : Nothing ≡ Area (blockAt p i) = sym z ∙ asked ∙ e in let w′ : _≡_ {A = ℕ} 0 1 = cc in absurd (omega arith)
+        go m (Took.new o e k) r =
+            let len : length (bytesOfAll (q .areas)) ≡ 6 * held = length-bytes (q .areas) ∙ ap (λ k. 6 * k) (q .many) in
+            let back : drop (6 * held + 6) b ≡ drop (6 * (held + 1)) s
+            = sym (drop-drop 6 (6 * held) b) ∙ ap (λ l. drop 6 (drop (6 * held) l)) (q .bytes) ∙ ap (drop 6) (drop-at (bytesOfAll (q .areas)) (drop (6 * held) s) (6 * held) len)
+            ∙ drop-drop 6 (6 * held) s ∙ ap (λ k. drop k s) {x = 6 * held + 6} {y = 6 * (held + 1)} (omega arith) in
+            record {
+              areas = insert (blockAt p i) (q .areas);
+              final = q .final;
+              inside = omega arith;
+              ends = r;
+              all = q .all;
+              many = length-insert (blockAt p i) (q .areas) ∙ omega (arith, q .many);
+              few = omega (arith, subst (λ k. k < 32) (q .many) k);
+              ascending = ascending-insert (blockAt p i) (q .areas) 0 (subst (λ x. x < 2 ^ 47) ex small) (omega arith) e (q .ascending);
+              bytes = eb ∙ ap₂ (λ l t. bytesOfAll l ++ t) (ap₂ insert ex areas-are) back;
+            }
+
+-- ---- a GAD
+
+pub under-same : (book : Book) (k : ℕ) → book .«aiou_plus_one» ≡ k → book .count ≡ cond (eqb (book .«aiou_plus_one») k) (book .count) 0
+under-same book k e = rw (eq-eqb _ _ e)
+
+pub under-other : (book : Book) (k : ℕ) → (book .«aiou_plus_one» ≡ k → ⊥) → 0 ≡ cond (eqb (book .«aiou_plus_one») k) (book .count) 0
+under-other book k e = rw (ne-eqb _ _ e)
+
+pub blocks-there : (p : List ℕ) (x : Bool) → x ≡ cutShort p → x ≡ false → 19 + 47 * blockCount p ≤ 8 * length p
+blocks-there p x e l = ltb-false (8 * length p) (19 + 47 * blockCount p) (sym e ∙ l)
+
+module _ (book : Book) (s p : List ℕ) where
+  pub take-room : length s < 192 → (Taken.Refused Room ≡ takenOf book s p) × (s ≡ bytesAfter book s p)
+  unfolding outcome
+  take-room h = let z : ltb (length s) 192 ≡ true = lt-ltb _ _ h in (rw z, rw z)
+
+  module _ (h : 192 ≤ length s) (b : Bool) (eb : b ≡ sound book s) where
+    pub take-state : not b ≡ true → (Taken.Refused State ≡ takenOf book s p) × (s ≡ bytesAfter book s p)
+    unfolding outcome
+    take-state k =
+        let z : ltb (length s) 192 ≡ false = le-ltb _ _ h in
+        let y : sound book s ≡ false = sym eb ∙ not-true b k in (rw (z, y), rw (z, y))
+
+    module _ (k : not b ≡ false) (x : Bool) (ex : x ≡ cutShort p) where
+      pub take-short : x ≡ true → (Taken.Refused Short ≡ takenOf book s p) × (s ≡ bytesAfter book s p)
+      unfolding outcome
+      take-short l =
+          let z : ltb (length s) 192 ≡ false = le-ltb _ _ h in
+          let y : sound book s ≡ true = sym eb ∙ not-false b k in
+          let w : cutShort p ≡ true = sym ex ∙ l in (rw (z, y, w), rw (z, y, w))
+
+      module _ (l : x ≡ false) (aiou n : ℕ) (ea : aiou ≡ aiouOf p + 1) (en : n ≡ cond (eqb (book .«aiou_plus_one») aiou) (book .count) 0) where
+        areas-before : areasIn n s ≡ before book s p
+        unfolding before areasIn
+        areas-before = ap (λ n. areasIn n s) en ∙ go (eqb (book .«aiou_plus_one») aiou) ∙ ap (λ k. cond (eqb (book .«aiou_plus_one») k) (areasIn (book .count) s) []) ea
+          where
+            go : (t : Bool) → areasIn (cond t (book .count) 0) s ≡ cond t (areasIn (book .count) s) []
+            go true = refl
+            go false = refl
+
+        outcome-is : outcome book s p ≡ takeAll (blocksOf p) (areasIn n s)
+        unfolding outcome
+        outcome-is =
+            let z : ltb (length s) 192 ≡ false = le-ltb _ _ h in
+            let y : sound book s ≡ true = sym eb ∙ not-false b k in
+            let w : cutShort p ≡ false = sym ex ∙ l in
+            rw (z, y, w) (ap (takeAll (blocksOf p)) (sym areas-before))
+
+        pub count-few : n ≤ 32
+        count-few = subst (λ n. n ≤ 32) (sym en) (go (eqb (book .«aiou_plus_one») aiou))
+          where
+            go : (t : Bool) → cond t (book .count) 0 ≤ 32
+            go true = sound-count book s (sym eb ∙ not-false b k)
+            go false = omega arith
+
+        pub count-image : Bytes s → Image n s
+        unfolding areasIn bytesOfAll
+        count-image y = subst (λ n. Image n s) (sym en) (go (eqb (book .«aiou_plus_one») aiou))
+          where
+            go : (t : Bool) → Image (cond t (book .count) 0) s
+            go true = sound-image book s (sym eb ∙ not-false b k) y
+            go false = record { ascending = Ascending.none; image = refl }
+
+        module _ (v : Judged) (ev : v ≡ judgedBy (takeAll (blocksOf p) (areasIn n s))) where
+          pub take-refused : (r : Refusal) → v ≡ Refused r → (Taken.Refused r ≡ takenOf book s p) × (s ≡ bytesAfter book s p)
+          take-refused r q =
+              let o : refused r ≡ outcome book s p = sym (is-refused _ r (sym q ∙ ev)) ∙ sym outcome-is in
+              (ap (λ o. answerOf o (aiouOf p)) o, ap (λ o. leftBy o s) o)
+
+          pub is-taken : (m : ℕ) → v ≡ Held m → isTaken (takeAll (blocksOf p) (areasIn n s)) ≡ true
+          is-taken m q = ap isTaken (is-held (takeAll (blocksOf p) (areasIn n s)) m (sym q ∙ ev) .is)
+
+          pub take-held : (m : ℕ) → v ≡ Held m → (z : List ℕ) → z ≡ leftBy (takeAll (blocksOf p) (areasIn n s)) s
+              → (Taken.Holds (record { «aiou_plus_one» = aiou; count = m }) ≡ takenOf book s p) × (z ≡ bytesAfter book s p)
+          take-held m q z ez =
+              let w : IsHeld (takeAll (blocksOf p) (areasIn n s)) m = is-held _ m (sym q ∙ ev) in
+              let o : taken (w .list) ≡ outcome book s p = sym (w .is) ∙ sym outcome-is in (
+                ap₂ (λ a m. Taken.Holds (record { «aiou_plus_one» = a; count = m })) ea (sym (w .many)) ∙ ap (λ o. answerOf o (aiouOf p)) o,
+                ez ∙ ap (λ o. leftBy o s) (sym outcome-is),
+              )

@@ -1,0 +1,56 @@
+-- Document 01, "Book and run": the area book in its lent bytes, when it is sound, and finding an ID in it. Definitions to believe.
+use mathlib.Core.Bool.{Bool, true, false, cond, not, _&&_}
+use mathlib.Core.List.{List, [], _∷_, _++_}
+use Prim.Native.Nat.{ℕ, zero, suc, _+_, _*_, _/_, _%_}
+use lib.Dec.{leb, ltb, eqb}
+use lib.ListN.{length, getD, take, drop}
+use Rattle.area.specs.Area.{sf031, isArea, bytesOf, numberIn}
+use Rattle.book.specs.declared.Book.{Book}
+
+-- "The book holds one AIOU and up to 32 areas, ascending by ID, six bytes each: the 47 bits of the GAD block and a zero bit, 192 bytes."
+abbrev pub mostAreas : ℕ
+mostAreas = 32
+
+abbrev pub bookBytes : ℕ
+bookBytes = 6 * mostAreas
+
+-- the area that the first six bytes hold, and the areas that the first n times six bytes hold
+abbrev pub areaIn : List ℕ → ℕ
+areaIn s = numberIn s / 2
+
+unfoldable pub areasIn : ℕ → List ℕ → List ℕ
+areasIn zero s = []
+areasIn (suc n) s = areaIn s ∷ areasIn n (drop 6 s)
+
+-- the bytes of areas, one behind the other
+unfoldable pub bytesOfAll : List ℕ → List ℕ
+bytesOfAll [] = []
+bytesOfAll (a ∷ l) = bytesOf a ++ bytesOfAll l
+
+-- "A book has an AIOU exactly when it has an area, at most 32, .." AIOU is 0 to 15. A book says AIOU + 1, and 0 where it has none.
+abbrev pub both : Bool → Bool → Bool
+both true b = b
+both false b = not b
+
+unfoldable pub headSound : Book → Bool
+headSound book = both (eqb (book .«aiou_plus_one») 0) (eqb (book .count) 0) && (leb (book .«aiou_plus_one») 16 && leb (book .count) mostAreas)
+
+-- ".. ascending, each with fields in range, the last bit zero and no AREA_OFF": n areas whose IDs are `least` and more
+unfoldable pub areasSound : ℕ → ℕ → List ℕ → Bool
+areasSound zero least s = true
+areasSound (suc n) least s =
+    eqb (numberIn s % 2) 0 && (leb least (sf031 (areaIn s)) && (isArea (areaIn s) && areasSound n (suc (sf031 (areaIn s))) (drop 6 s)))
+
+-- "bytes past them do not count". Fewer than 192 bytes hold no sound book.
+unfoldable pub sound : Book → List ℕ → Bool
+sound book s = leb bookBytes (length s) && (headSound book && areasSound (book .count) 0 s)
+
+-- how many of n areas come before the first with this ID: n where none has it
+unfoldable pub placeOf : ℕ → ℕ → List ℕ → ℕ
+placeOf id zero s = zero
+placeOf id (suc n) s = cond (eqb (getD s 0 0) id) zero (suc (placeOf id n (drop 6 s)))
+
+-- "Looking up an area gives its six bytes"; an absent ID gives the empty part, and so do bytes that are fewer than the areas take
+unfoldable pub found : Book → List ℕ → ℕ → List ℕ
+found book s id =
+    cond (leb (6 * book .count) (length s) && ltb (placeOf id (book .count) s) (book .count)) (take 6 (drop (6 * placeOf id (book .count) s) s)) []

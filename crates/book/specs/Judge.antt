@@ -1,0 +1,56 @@
+-- Serves proofs, and is proved: judging a GAD block by what the book and the earlier blocks say of its ID, without the areas in a row. Assumes nothing.
+use mathlib.Core.Path.{_≡_, refl, ap, ap₂, sym, _∙_, subst}
+use mathlib.Core.Bool.{Bool, true, false, cond}
+use mathlib.Core.List.{List, [], _∷_, _++_}
+use Prim.Native.Nat.{ℕ, zero, suc, _+_, _-_, _*_, _≤_, _<_}
+use native.Mathlib.Omega.{arith}
+use lib.Dec.{ltb, eqb}
+use lib.ListN.{length, take, drop, getD}
+use Rattle.answer.specs.declared.Refusal.the-variants.{AreaOff, Conflict, BookFull}
+use Rattle.area.specs.Area.{sf031, areaOff}
+use Rattle.book.specs.Book.{mostAreas, areasIn, bytesOfAll}
+use Rattle.book.specs.Laws.{Ascending}
+use Rattle.book.specs.Take.{blockAt, blocksFrom, lookup, insert, Outcome, taken, refused, stop, placed, takeBlock}
+use Rattle.book.specs.TakeLaws.{length-insert}
+use Rattle.book.specs.declared.Found.{Found}
+use Rattle.book.specs.declared.Found.the-variants.{Area, Nothing}
+use Rattle.book.specs.declared.Judged.{Judged}
+use Rattle.book.specs.declared.Judged.the-variants.{Held, Refused}
+
+-- how many areas are held afterwards, or the refusal
+abbrev pub judgedBy : Outcome → Judged
+judgedBy (taken l) = Held (length l)
+judgedBy (refused r) = Refused r
+
+abbrev pub isTaken : Outcome → Bool
+isTaken (taken l) = true
+isTaken (refused r) = false
+
+abbrev pub judgeFound : ℕ → Found → ℕ → Judged
+judgeFound a (Area b) n = cond (eqb a b) (Held n) (Refused Conflict)
+judgeFound a Nothing n = cond (ltb n mostAreas) (Held (n + 1)) (Refused BookFull)
+
+abbrev pub judgeBlock : ℕ → Found → ℕ → Judged
+judgeBlock a f n = cond (areaOff a) (Refused AreaOff) (judgeFound a f n)
+
+pub judge-is : (a : ℕ) (l : List ℕ) → judgedBy (takeBlock a l) ≡ judgeBlock a (lookup (sf031 a) l) (length l)
+unfolding takeBlock
+judge-is a l = go (areaOff a) (lookup (sf031 a) l)
+  where
+    go : (t : Bool) (f : Found) → judgedBy (stop t AreaOff (placed a l f)) ≡ cond t (Refused AreaOff) (judgeFound a f (length l))
+    go true f = refl
+    go false (Area b) = by (eqb a b)
+      where
+        by : (x : Bool) → judgedBy (cond x (taken l) (refused Conflict)) ≡ cond x (Held (length l)) (Refused Conflict)
+        by true = refl
+        by false = refl
+    go false Nothing = by (ltb (length l) mostAreas)
+      where
+        by : (x : Bool) → judgedBy (cond x (taken (insert a l)) (refused BookFull)) ≡ cond x (Held (length l + 1)) (Refused BookFull)
+        by true = ap Held (length-insert a l ∙ omega arith)
+        by false = refl
+
+-- the bytes begin with those of n areas, ascending
+pub record Image (n : ℕ) (s : List ℕ) : Type 0 where
+  pub ascending : Ascending 0 (areasIn n s)
+  pub image : take (6 * n) s ≡ bytesOfAll (areasIn n s)

@@ -1,0 +1,104 @@
+-- Serves proofs, and is proved: the areas of a book and its bytes. Assumes nothing.
+use mathlib.Core.Path.{_≡_, refl, ap, ap₂, sym, _∙_, subst}
+use mathlib.Core.Bool.{Bool, true, false, cond, not, _&&_, false≢true}
+use mathlib.Core.List.{List, [], _∷_, _++_, append-assoc}
+use Prim.Native.Nat.{ℕ, zero, suc, _+_, _-_, _*_, _/_, _%_, _^_, _≤_, _<_}
+use native.Mathlib.Omega.{arith}
+use lib.Dec.{leb, ltb, eqb}
+use lib.ListN.{length, getD, take, drop, length-append, length-drop, take-append-drop}
+use lib.Seq.{take-add, drop-drop, take-at, drop-at}
+use borrow.Author.Tests.{lt-ltb, le-ltb, le-leb, leb-true, eq-eqb, eqb-true}
+use Rattle.bits.specs.Bits.{Bytes}
+use Rattle.bits.specs.Laws.{bytes-drop, bytes-append, bytes-none}
+use Rattle.area.specs.Area.{sf031, isArea, bytesOf, numberIn}
+use Rattle.area.specs.Laws.{bytes-area, number-bytes, bytes-number, area-lt, half-number}
+use Rattle.book.specs.Book.{areaIn, areasIn, bytesOfAll, areasSound}
+
+-- ---- areas in a row
+
+pub length-areas : (n : ℕ) (s : List ℕ) → length (areasIn n s) ≡ n
+unfolding areasIn
+length-areas zero s = refl
+length-areas (suc n) s = ap suc (length-areas n (drop 6 s))
+
+pub length-bytes : (l : List ℕ) → length (bytesOfAll l) ≡ 6 * length l
+unfolding bytesOfAll
+length-bytes [] = refl
+length-bytes (a ∷ l) = length-append (bytesOf a) (bytesOfAll l) ∙ omega (arith, length-bytes l)
+
+pub bytes-join : (l m : List ℕ) → bytesOfAll (l ++ m) ≡ bytesOfAll l ++ bytesOfAll m
+unfolding bytesOfAll
+bytes-join [] m = refl
+bytes-join (a ∷ l) m = ap (λ z. bytesOf a ++ z) (bytes-join l m) ∙ sym (append-assoc (bytesOf a) (bytesOfAll l) (bytesOfAll m))
+
+pub bytes-bytes : (l : List ℕ) → Bytes (bytesOfAll l)
+unfolding bytesOfAll
+bytes-bytes [] = bytes-none
+bytes-bytes (a ∷ l) = bytes-append (bytes-area a) (bytes-bytes l)
+
+-- numbers of 47 bits, ascending by ID, the first ID being `least` or more
+pub data Ascending : ℕ → List ℕ → Type 0 where
+  none : {least : ℕ} → Ascending least []
+  more : {least a : ℕ} {l : List ℕ} → least ≤ sf031 a → a < 2 ^ 47 → Ascending (suc (sf031 a)) l → Ascending least (a ∷ l)
+
+-- each is an area
+pub data Areas : List ℕ → Type 0 where
+  none : Areas []
+  more : {a : ℕ} {l : List ℕ} → isArea a ≡ true → Areas l → Areas (a ∷ l)
+
+both-left : (a b : Bool) → (a && b) ≡ true → a ≡ true
+both-left true b e = refl
+both-left false b e = e
+
+both-right : (a b : Bool) → (a && b) ≡ true → b ≡ true
+both-right true b e = e
+both-right false b e = absurd (false≢true e)
+
+-- sound bytes are those of areas, ascending
+pub record Sound (n least : ℕ) (s : List ℕ) : Type 0 where
+  pub ascending : Ascending least (areasIn n s)
+  pub areas : Areas (areasIn n s)
+  pub image : take (6 * n) s ≡ bytesOfAll (areasIn n s)
+
+pub sound-areas : (n least : ℕ) (s : List ℕ) → Bytes s → 6 * n ≤ length s → areasSound n least s ≡ true → Sound n least s
+unfolding areasIn bytesOfAll areasSound
+sound-areas zero least s b h e = record { ascending = Ascending.none; areas = Areas.none; image = refl }
+sound-areas (suc n) least s b h e =
+    let a : ℕ = areaIn s in
+    let even : eqb (numberIn s % 2) 0 ≡ true = both-left _ _ e in
+    let e₁ : (leb least (sf031 a) && (isArea a && areasSound n (suc (sf031 a)) (drop 6 s))) ≡ true = both-right (eqb (numberIn s % 2) 0) _ e in
+    let low : leb least (sf031 a) ≡ true = both-left _ _ e₁ in
+    let e₂ : (isArea a && areasSound n (suc (sf031 a)) (drop 6 s)) ≡ true = both-right (leb least (sf031 a)) _ e₁ in
+    let good : isArea a ≡ true = both-left _ _ e₂ in
+    let rest : Sound n (suc (sf031 a)) (drop 6 s)
+    = sound-areas n (suc (sf031 a)) (drop 6 s) (bytes-drop 6 b) (omega (arith, length-drop 6 s)) (both-right (isArea a) _ e₂) in
+    record {
+      ascending = Ascending.more (leb-true _ _ low) (area-lt a good) (rest .ascending);
+      areas = Areas.more good (rest .areas);
+      image = ap (λ k. take k s) {x = 6 * suc n} {y = 6 + 6 * n} (omega arith) ∙ take-add 6 (6 * n) s
+          ∙ ap₂ (λ x y. x ++ y) (sym (bytes-number s b (omega arith) (eqb-true _ _ even))) (rest .image);
+    }
+
+-- and bytes of areas, ascending, are sound
+pub areas-bytes : (l t : List ℕ) (least : ℕ) → Ascending least l → areasIn (length l) (bytesOfAll l ++ t) ≡ l
+unfolding areasIn bytesOfAll
+areas-bytes [] t least p = refl
+areas-bytes (a ∷ l) t least (Ascending.more h k p) =
+    let e : (bytesOf a ++ bytesOfAll l) ++ t ≡ bytesOf a ++ (bytesOfAll l ++ t) = append-assoc (bytesOf a) (bytesOfAll l) t in
+    ap₂ (λ x y. x ∷ y)
+    (ap areaIn e ∙ ap (λ n. n / 2) (number-bytes a (bytesOfAll l ++ t) k) ∙ half-number a)
+    (areas-bytes l t _ p)
+
+pub sound-bytes : (l t : List ℕ) (least : ℕ) → Ascending least l → Areas l → areasSound (length l) least (bytesOfAll l ++ t) ≡ true
+unfolding areasSound bytesOfAll
+sound-bytes [] t least p q = refl
+sound-bytes (a ∷ l) t least (Ascending.more h k p) (Areas.more g q) =
+    let s : List ℕ = bytesOf a ++ (bytesOfAll l ++ t) in
+    let n : numberIn s ≡ 2 * a = number-bytes a (bytesOfAll l ++ t) k in
+    let e : areaIn s ≡ a = ap (λ n. n / 2) n ∙ half-number a in
+    let z₀ : eqb (numberIn s % 2) 0 ≡ true = eq-eqb _ _ (ap (λ n. n % 2) n ∙ omega arith) in
+    let z₁ : leb least (sf031 (areaIn s)) ≡ true = ap (λ a. leb least (sf031 a)) e ∙ le-leb _ _ h in
+    let z₂ : isArea (areaIn s) ≡ true = ap isArea e ∙ g in
+    let z₃ : areasSound (length l) (suc (sf031 (areaIn s))) (bytesOfAll l ++ t) ≡ true
+    = ap (λ a. areasSound (length l) (suc (sf031 a)) (bytesOfAll l ++ t)) e ∙ sound-bytes l t (suc (sf031 a)) p q in
+    ap₂ (λ x y. x && y) z₀ (ap₂ (λ x y. x && y) z₁ (ap₂ (λ x y. x && y) z₂ z₃))

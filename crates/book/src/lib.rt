@@ -1,0 +1,372 @@
+// The area book: one AIOU and up to 32 areas, ascending by ID, in lent bytes (document 01, "Book and run").
+ghost use mathlib.Core.Path.{_≡_};
+ghost use mathlib.Core.Bool.{true, cond};
+ghost use mathlib.Core.List.{_++_};
+ghost use Prim.Native.Nat.{_+_, _*_, _^_, _<_, _≤_};
+ghost use lib.Dec.{eqb};
+ghost use lib.ListN.{length, drop};
+ghost use Rattle.area.specs.Area.{sf031};
+ghost use Rattle.book.specs.Book.{areasIn, bytesOfAll, headSound, areasSound, sound, placeOf, found};
+ghost use Rattle.book.specs.Take.{aiouOf, blockCount, blockAt, blocksFrom, blocksOf, cutShort, lookup, insert, takeAll, leftBy, takenOf, bytesAfter, numberOfTaken};
+ghost use Rattle.book.specs.TakeLaws.{orElse};
+ghost use Rattle.book.specs.Judge.{judgedBy, isTaken, judgeFound, judgeBlock, Image};
+use answer::Refusal;
+
+// "The book holds one AIOU and up to 32 areas, .. six bytes each: .. 192 bytes."
+const AREAS: usize = 32;
+
+const BYTES: usize = 192;
+
+// What is known of a book besides its bytes: AIOU + 1, or 0 where it has no AIOU, and how many areas it has.
+pub struct Book {
+    pub aiou_plus_one: u8,
+    pub count: usize,
+}
+
+// The area with an ID, if there is one.
+pub enum Found {
+    Area(u64),
+    Nothing,
+}
+
+// How many areas the book would hold, or why a block is refused.
+enum Judged {
+    Held(usize),
+    Refused(Refusal),
+}
+
+// The book that a GAD leaves, or why it is not taken.
+pub enum Taken {
+    Holds(Book),
+    Refused(Refusal),
+}
+
+fn wide(x: u8) -> usize
+    ensures { λ r. ⌜ (r ≡ x) × (r < 256) ⌝ }
+{
+    x as usize
+}
+
+fn head_is_sound(book: Book) -> bool
+    ensures { λ r. ⌜ r ≡ headSound book ⌝ }
+{
+    let aiou = book.aiou_plus_one;
+    let count = book.count;
+    if aiou == 0 {
+        return count == 0;
+    }
+    if count == 0 {
+        return false;
+    }
+    if 16 < aiou {
+        return false;
+    }
+    count <= AREAS
+}
+
+fn areas_are_sound(bytes: &[u8], count: usize) -> bool
+    requires { ⌜ (6 * count ≤ length (now bytes)) × (count ≤ 256) ⌝ }
+    ensures { λ r. ⌜ r ≡ areasSound count 0 (now (bytes .entry)) ⌝ }
+{
+    let mut least: usize = 0;
+    let mut i: usize = 0;
+    while i < count {
+        let number = area::number_at(bytes, 6 * i);
+        let id = wide(area::id(number / 2));
+        if number % 2 != 0 {
+            return false;
+        }
+        if id < least {
+            return false;
+        }
+        if !area::is_area(number / 2) {
+            return false;
+        }
+        least = id + 1;
+        i += 1;
+    }
+    true
+}
+
+// Whether the book is sound.
+pub fn is_sound(book: Book, bytes: &[u8]) -> bool
+    ensures { λ r. ⌜ r ≡ sound book (now (bytes .entry)) ⌝ }
+{
+    if bytes.len() < BYTES {
+        return false;
+    }
+    if !head_is_sound(book) {
+        return false;
+    }
+    areas_are_sound(bytes, book.count)
+}
+
+// How many areas come before the first with this ID.
+fn place(bytes: &[u8], count: usize, id: u8) -> usize
+    requires { ⌜ 6 * count ≤ length (now bytes) ⌝ }
+    ensures { λ r. ⌜ r ≡ placeOf id count (now (bytes .entry)) ⌝ }
+{
+    let mut i: usize = 0;
+    while i < count {
+        if bytes[6 * i] == id {
+            return i;
+        }
+        i += 1;
+    }
+    count
+}
+
+// The six bytes of the area with this ID as a part of the book's bytes, or the empty part at their start.
+pub fn find(book: Book, bytes: &[u8], id: u8) -> &[u8]
+    ensures { λ r. ⌜ now r ≡ found book (now (bytes .entry)) id ⌝ }
+{
+    let count = book.count;
+    if bytes.len() / 6 < count {
+        return &bytes[..0];
+    }
+    let i = place(bytes, count, id);
+    if count <= i {
+        return &bytes[..0];
+    }
+    let at = 6 * i;
+    let end = at + 6;
+    &bytes[at..end]
+}
+
+fn octet(x: u64) -> u8
+    requires { ⌜ x < 256 ⌝ }
+    ensures { λ r. ⌜ r ≡ x ⌝ }
+{
+    x as u8
+}
+
+fn count(x: u64) -> usize
+    ensures { λ r. ⌜ r ≡ x ⌝ }
+{
+    x as usize
+}
+
+// AIOU + 1 of a GAD payload.
+fn aiou_plus_one(payload: &[u8]) -> u8
+    requires { ⌜ 3 ≤ length (now payload) ⌝ }
+    ensures { λ r. ⌜ r ≡ aiouOf (now (payload .entry)) + 1 ⌝ }
+{
+    octet(bits::get(payload, 9, 4) + 1)
+}
+
+// SF030 means code plus one.
+fn block_count(payload: &[u8]) -> usize
+    requires { ⌜ 3 ≤ length (now payload) ⌝ }
+    ensures { λ r. ⌜ (r ≡ blockCount (now (payload .entry))) × (r ≤ 32) ⌝ }
+{
+    count(bits::get(payload, 14, 5) + 1)
+}
+
+fn is_cut_short(payload: &[u8]) -> bool
+    ensures { λ r. ⌜ r ≡ cutShort (now (payload .entry)) ⌝ }
+{
+    if payload.len() < 3 {
+        return true;
+    }
+    payload.len() < (26 + 47 * block_count(payload)) / 8
+}
+
+// A block's area.
+fn block(payload: &[u8], i: usize) -> u64
+    requires { ⌜ (i < 32) × (19 + 47 * (i + 1) ≤ 8 * length (now payload)) ⌝ }
+    ensures { λ r. ⌜ (r ≡ blockAt (now (payload .entry)) i) × (r < 2 ^ 47) ⌝ }
+{
+    bits::get(payload, 19 + 47 * i, 47)
+}
+
+// The area with this ID among the book's.
+fn look(bytes: &[u8], count: usize, id: u8) -> Found
+    requires { ⌜ 6 * count ≤ length (now bytes) ⌝ }
+    ensures { λ r. ⌜ r ≡ lookup id (areasIn count (now (bytes .entry))) ⌝ }
+{
+    let mut i: usize = 0;
+    while i < count {
+        let area = area::number_at(bytes, 6 * i) / 2;
+        if area::id(area) == id {
+            return Found::Area(area);
+        }
+        i += 1;
+    }
+    Found::Nothing
+}
+
+// The area with this ID among the first n blocks.
+fn look_before(payload: &[u8], n: usize, id: u8) -> Found
+    requires { ⌜ (n ≤ 32) × (19 + 47 * n ≤ 8 * length (now payload)) ⌝ }
+    ensures { λ r. ⌜ r ≡ lookup id (blocksFrom n 0 (now (payload .entry))) ⌝ }
+{
+    let mut i: usize = 0;
+    while i < n {
+        let area = block(payload, i);
+        if area::id(area) == id {
+            return Found::Area(area);
+        }
+        i += 1;
+    }
+    Found::Nothing
+}
+
+// The same in the book, and then among the first n blocks.
+fn known(bytes: &[u8], count: usize, payload: &[u8], n: usize, id: u8) -> Found
+    requires { ⌜ (6 * count ≤ length (now bytes)) × (n ≤ 32) × (19 + 47 * n ≤ 8 * length (now payload)) ⌝ }
+    ensures { λ r. ⌜ r ≡ orElse (lookup id (areasIn count (now (bytes .entry)))) (lookup id (blocksFrom n 0 (now (payload .entry)))) ⌝ }
+{
+    match look(bytes, count, id) {
+        Found::Area(area) => Found::Area(area),
+        Found::Nothing => look_before(payload, n, id),
+    }
+}
+
+// An area against what is known of its ID. BOOK_FULL is decided here alone.
+fn judge_found(area: u64, found: Found, held: usize) -> Judged
+    ensures { λ r. ⌜ r ≡ judgeFound area found held ⌝ }
+{
+    match found {
+        Found::Area(other) => {
+            if area == other {
+                Judged::Held(held)
+            } else {
+                Judged::Refused(Refusal::Conflict)
+            }
+        }
+        Found::Nothing => {
+            if held < AREAS {
+                Judged::Held(held + 1)
+            } else {
+                Judged::Refused(Refusal::BookFull)
+            }
+        }
+    }
+}
+
+// Block i against the book and the blocks before it, with which the book would hold so many areas.
+fn judge_block(bytes: &[u8], count: usize, payload: &[u8], i: usize, held: usize) -> Judged
+    requires { ⌜ (6 * count ≤ length (now bytes)) × (i < 32) × (19 + 47 * (i + 1) ≤ 8 * length (now payload)) ⌝ }
+    ensures { λ r. ⌜ r ≡ judgeBlock (blockAt (now (payload .entry)) i) (orElse (lookup (sf031 (blockAt (now (payload .entry)) i)) (areasIn count (now (bytes .entry)))) (lookup (sf031 (blockAt (now (payload .entry)) i)) (blocksFrom i 0 (now (payload .entry))))) held ⌝ }
+{
+    let area = block(payload, i);
+    if area::is_off(area) {
+        return Judged::Refused(Refusal::AreaOff);
+    }
+    judge_found(area, known(bytes, count, payload, i, area::id(area)), held)
+}
+
+// All blocks, each against the book with the earlier ones added: how many areas it would hold then, or the first refusal.
+fn judge(bytes: &[u8], count: usize, payload: &[u8]) -> Judged
+    requires { ⌜ (6 * count ≤ length (now bytes)) × (19 + 47 * blockCount (now payload) ≤ 8 * length (now payload)) ⌝ }
+    ensures { λ r. ⌜ r ≡ judgedBy (takeAll (blocksOf (now (payload .entry))) (areasIn count (now (bytes .entry)))) ⌝ }
+{
+    let n = block_count(payload);
+    let mut held = count;
+    let mut i: usize = 0;
+    while i < n {
+        match judge_block(bytes, count, payload, i, held) {
+            Judged::Held(next) => {
+                held = next;
+                i += 1;
+            }
+            Judged::Refused(refusal) => {
+                return Judged::Refused(refusal);
+            }
+        }
+    }
+    Judged::Held(held)
+}
+
+// A new area takes its place among the book's: the one with the smaller ID is put down, the other is carried on.
+fn insert(bytes: &mut [u8], count: usize, area: u64)
+    requires { ⌜ Image count (now bytes) × (count < 32) × (6 * count + 6 ≤ length (now bytes)) × (area < 2 ^ 47) ⌝ }
+    ensures { λ _. ⌜ now (bytes .exit) ≡ bytesOfAll (insert area (areasIn count (now (bytes .entry)))) ++ drop (6 * count + 6) (now (bytes .entry)) ⌝ }
+{
+    let mut carried = area;
+    let mut i: usize = 0;
+    while i < count {
+        let next = area::number_at(bytes, 6 * i) / 2;
+        if area::id(carried) < area::id(next) {
+            area::put_at(bytes, 6 * i, carried);
+            carried = next;
+            i += 1;
+        } else {
+            i += 1;
+        }
+    }
+    area::put_at(bytes, 6 * count, carried);
+}
+
+// Each block that is not held yet takes its place. They have all been judged: the message is taken.
+fn insert_all(bytes: &mut [u8], count: usize, payload: &[u8])
+    requires { ⌜ Image count (now bytes) × (count ≤ 32) × (192 ≤ length (now bytes)) × (19 + 47 * blockCount (now payload) ≤ 8 * length (now payload)) ⌝ }
+    requires { ⌜ isTaken (takeAll (blocksOf (now payload)) (areasIn count (now bytes))) ≡ true ⌝ }
+    ensures { λ _. ⌜ now (bytes .exit) ≡ leftBy (takeAll (blocksOf (now (payload .entry))) (areasIn count (now (bytes .entry)))) (now (bytes .entry)) ⌝ }
+{
+    let n = block_count(payload);
+    let mut held = count;
+    let mut i: usize = 0;
+    while i < n {
+        let area = block(payload, i);
+        match look(bytes, held, area::id(area)) {
+            Found::Area(_) => {
+                i += 1;
+            }
+            Found::Nothing => {
+                insert(bytes, held, area);
+                held += 1;
+                i += 1;
+            }
+        }
+    }
+}
+
+// The areas that a GAD adds to: the book's, if the AIOU is the book's; else none, for a new book begins.
+fn count_under(book: Book, aiou: u8) -> usize
+    ensures { λ r. ⌜ r ≡ cond (eqb (book .«aiou_plus_one») aiou) (book .count) 0 ⌝ }
+{
+    if book.aiou_plus_one == aiou {
+        return book.count;
+    }
+    0
+}
+
+// Takes a GAD payload, which is to have been accepted: the book that is left, with its areas in the lent bytes. It is taken whole, or
+// refused and nothing changes. A payload that ends before its blocks do is SHORT.
+pub fn take(book: Book, bytes: &mut [u8], payload: &[u8]) -> Taken
+    ensures { λ r. ⌜ r ≡ takenOf book (now (bytes .entry)) (now (payload .entry)) ⌝ }
+    ensures { λ _. ⌜ now (bytes .exit) ≡ bytesAfter book (now (bytes .entry)) (now (payload .entry)) ⌝ }
+{
+    if bytes.len() < BYTES {
+        return Taken::Refused(Refusal::Room);
+    }
+    if !is_sound(book, bytes) {
+        return Taken::Refused(Refusal::State);
+    }
+    if is_cut_short(payload) {
+        return Taken::Refused(Refusal::Short);
+    }
+    let aiou = aiou_plus_one(payload);
+    let count = count_under(book, aiou);
+    match judge(bytes, count, payload) {
+        Judged::Refused(refusal) => Taken::Refused(refusal),
+        Judged::Held(held) => {
+            insert_all(bytes, count, payload);
+            Taken::Holds(Book {
+                aiou_plus_one: aiou,
+                count: held,
+            })
+        }
+    }
+}
+
+// The answer's number in document 01.
+pub fn number_taken(answer: Taken) -> u8
+    ensures { λ r. ⌜ r ≡ numberOfTaken answer ⌝ }
+{
+    match answer {
+        Taken::Holds(_) => 0,
+        Taken::Refused(refusal) => answer::number(refusal),
+    }
+}
