@@ -455,3 +455,16 @@ pub fn finish(bytes: &mut [u8], tray: Tray) -> Answer
     let place = drop_shown(bytes, tray);
     close(bytes, place)
 }
+
+// The number in document 01 of what was said.
+pub fn number(said: Said) -> u8
+    ensures { λ r. ⌜ r ≡ numberOfSaid said ⌝ }
+{
+    match said {
+        Said::Frame(_) => 0,
+        Said::Noise(_) => 0,
+        Said::Hungry => 0,
+        Said::Done => 0,
+        Said::Refused(refusal) => answer::number(refusal),
+    }
+}

@@ -1,0 +1,260 @@
+-- The turns and the ends of a pass over a payload, and of the whole reading, over plain variables: what the proofs of `read` and its parts cite.
+use mathlib.Core.Path.{_≡_, refl, ap, ap₂, sym, _∙_, subst}
+use mathlib.Core.Bool.{Bool, true, false, _||_}
+use mathlib.Core.List.{List, [], _∷_, _++_}
+use Prim.Native.Nat.{ℕ, _+_, _-_, _*_, _≤_, _<_}
+use native.Mathlib.Omega.{arith}
+use native.Mathlib.Nat.{zero-add}
+use lib.Dec.{eqb, ltb}
+use lib.ListN.{length, take, drop, set, length-drop, length-set}
+use lib.Seq.{sets, sets-eq, drop-drop}
+use borrow.Author.Tests.{lt-ltb, le-ltb, ltb-false, eq-eqb, ne-eqb}
+use Rattle.answer.specs.declared.Refusal.{Refusal}
+use Rattle.answer.specs.declared.Refusal.the-variants as refusal
+use Rattle.bits.specs.Bits.{toBits, number, field, got}
+use Rattle.bits.specs.Laws.{got-there, length-toBits}
+use Rattle.layout.specs.declared.Field.{Field}
+use Rattle.layout.specs.declared.Verdict.{Verdict}
+use Rattle.layout.specs.declared.Verdict.the-variants as verdict
+use Rattle.layout.specs.Layout.{Layout, judge, Outcome, accepted, refused, readL}
+use Rattle.layout.specs.Parts.{Part, absent, present}
+use Rattle.layout.specs.Run.{finished, stopped, endedOf, runL, run-reads, On, run-done, run-short, run-fault, run-on}
+use Rattle.layout.specs.Walks.{Walks, ends, goes}
+use Rattle.message.specs.declared.State.{State}
+use Rattle.message.specs.declared.Start.{Start}
+use Rattle.message.specs.declared.Start.the-variants.{Known, Unknown}
+use Rattle.message.specs.Machine.{fieldOf, stepOf, startOf, Starts, known, unknown, starts}
+use Rattle.message.specs.Messages.{Message, layoutFor}
+use Rattle.sheet.specs.Sheet as sheets
+use Rattle.sheet.specs.Sheet.{entryRoom, byteRoom, badLength, stop, reading, readAnswerBy, sheetBy, readAnswer, sheetAfter}
+use Rattle.sheet.specs.Passes.{ForLayout, endedBy, entriesOf, ReadPass, ReadWhole}
+use Rattle.sheet.specs.declared.ReadAnswer.{ReadAnswer}
+use Rattle.sheet.specs.declared.ReadAnswer.the-variants as reader
+use Rattle.sheet.specs.declared.Pass.{Pass}
+use Rattle.sheet.specs.declared.Pass.the-variants.{Whole, Fault}
+
+-- ---- a pass
+
+-- a field of a message has 64 bits at most
+pub walks-word : {s : State} {l : Layout Message} → Walks fieldOf stepOf s l → 0 < fieldOf s .width → fieldOf s .width ≤ 64
+walks-word (ends e) z = absurd (omega arith)
+walks-word (goes e i rest) z = omega (arith, i .word, ap (λ (x : Field). x .width) e)
+
+-- at the loop's head: the rest of the message is read from here as the whole was to be from the start
+pub record Turn (payload sheet₀ : List ℕ) (total : ℕ) (s₀ : State) (sheet : List ℕ) (s : State) (pos at : ℕ) : Type 0 where
+  pub whole : total ≡ length payload * 8
+  pub inside : pos ≤ total
+  pub few : at ≤ pos
+  pub same : length sheet ≡ length sheet₀
+  pub on : ForLayout s₀ (λ l. On fieldOf stepOf s (runL l (toBits payload) 0 0 sheet₀)
+      (λ (next : Layout Message). runL next (drop pos (toBits payload)) pos at sheet))
+
+pub turn-first : (payload sheet : List ℕ) (s : State) → Turn payload sheet (length payload * 8) s sheet s 0 0
+turn-first payload sheet s =
+    record {
+      whole = refl;
+      inside = omega arith;
+      few = omega arith;
+      same = refl;
+      on = λ l w. record { left = l; walks = w; same = refl };
+    }
+
+module _ {payload sheet₀ : List ℕ} {total : ℕ} {s₀ : State} {sheet : List ℕ} {s : State} {pos at : ℕ} (t : Turn payload sheet₀ total s₀ sheet s pos at) (f : Field)
+    (e : f ≡ fieldOf s) where
+  rest-length : length (drop pos (toBits payload)) ≡ total - pos
+  rest-length = omega (arith, length-drop pos (toBits payload), length-toBits payload, t .whole)
+
+  width-is : fieldOf s .width ≡ f .width
+  width-is = ap (λ (x : Field). x .width) (sym e)
+
+  pub turn-done : f .width ≡ 0 → ReadPass payload sheet₀ s₀ (Whole at pos) sheet
+  turn-done z =
+      record {
+        ends = λ l w. let o = t .on l w in sym (o .same ∙ run-done (drop pos (toBits payload)) pos at sheet (o .walks) (width-is ∙ z));
+        few = omega (arith, t .few, t .inside, t .whole);
+      }
+
+  pub turn-short : (f .width ≡ 0 → ⊥) → total - pos < f .width → ReadPass payload sheet₀ s₀ (Fault refusal.Short) sheet
+  turn-short z h =
+      let d : fieldOf s .width ≡ f .width = width-is in
+      let k : length (drop pos (toBits payload)) ≡ total - pos = rest-length in
+      record {
+        ends = λ l w. let o = t .on l w in
+            sym (o .same ∙ run-short (drop pos (toBits payload)) pos at sheet (o .walks) (omega arith) (omega arith));
+        few = omega arith;
+      }
+
+  module _ (z : f .width ≡ 0 → ⊥) (h : f .width ≤ total - pos) (code : ℕ) (g : code ≡ got payload pos (f .width)) (v : Verdict) (j : v ≡ judge f code) where
+    code-is : fieldOf s .width ≤ 64 → code ≡ number (take (fieldOf s .width) (drop pos (toBits payload)))
+    unfolding field
+    code-is m =
+        let d : fieldOf s .width ≡ f .width = width-is in
+        g ∙ got-there payload pos (f .width) (omega arith) (omega (arith, t .whole, t .inside))
+        ∙ ap (λ (w : ℕ). number (take w (drop pos (toBits payload)))) (sym d)
+
+    verdict-is : judge (fieldOf s) code ≡ v
+    verdict-is = ap (λ (x : Field). judge x code) (sym e) ∙ sym j
+
+    pub turn-fault : (why : Refusal) → v ≡ verdict.Fault why → ReadPass payload sheet₀ s₀ (Fault why) sheet
+    turn-fault why q =
+        let d : fieldOf s .width ≡ f .width = width-is in
+        let k : length (drop pos (toBits payload)) ≡ total - pos = rest-length in
+        record {
+          ends = λ l w. let o = t .on l w in
+              let n : 0 < fieldOf s .width = omega arith in
+              sym (o .same ∙ run-fault (drop pos (toBits payload)) pos at sheet code why (o .walks) n (omega arith) (code-is (walks-word (o .walks) n)) (verdict-is ∙ q));
+          few = omega arith;
+        }
+
+    pub turn-again : (sheet' : List ℕ) (s' : State) → v ≡ verdict.Taken → sheet' ≡ set sheet at code → s' ≡ stepOf s code
+        → Turn payload sheet₀ total s₀ sheet' s' (pos + f .width) (at + 1)
+    turn-again sheet' s' q stored stepped =
+        let d : fieldOf s .width ≡ f .width = width-is in
+        let k : length (drop pos (toBits payload)) ≡ total - pos = rest-length in
+        record {
+          whole = t .whole;
+          inside = omega (arith, t .inside);
+          few = omega (arith, t .few);
+          same = ap length stored ∙ length-set sheet at code ∙ t .same;
+          on = λ l w. let o = t .on l w in
+              let n : 0 < fieldOf s .width = omega arith in
+              let r = run-on (drop pos (toBits payload)) pos at sheet code (o .walks) n (omega arith) (code-is (walks-word (o .walks) n)) (verdict-is ∙ q) in
+              record {
+                left = r .left;
+                walks = subst (λ x. Walks fieldOf stepOf x (r .left)) (sym stepped) (r .walks);
+                same = o .same ∙ r .same
+                    ∙ ap (λ x. runL (r .left) x (pos + fieldOf s .width) (at + 1) (set sheet at code)) (drop-drop (fieldOf s .width) pos (toBits payload))
+                    ∙ ap₂ (λ (x : ℕ) y. runL (r .left) (drop (pos + x) (toBits payload)) (pos + x) (at + 1) y) d (sym stored);
+              };
+        }
+
+-- ---- both passes
+
+-- a list of no elements, as the part that the first pass is lent
+pub nothing : (l : List ℕ) → length l ≡ 0 → l ≡ []
+nothing [] h = refl
+nothing (x ∷ l) h = absurd (omega arith)
+
+fault-read : (o : Outcome Message) (why : Refusal) (sheet : List ℕ) → stopped why ≡ endedOf o 0 0 []
+    → (reader.Refused why ≡ readAnswerBy o) × (sheet ≡ sheetBy o sheet)
+fault-read (accepted v cs n) why sheet e = let z : _≡_ {A = ℕ} 0 1 = cc in absurd (omega arith)
+fault-read (refused why') why sheet e = (cc, refl)
+
+pub whole-fault : {payload sheet : List ℕ} {start : State} (dry : Pass) (none : List ℕ) (why : Refusal) → length none ≡ 0
+    → ReadPass payload [] start dry none → dry ≡ Fault why → ReadWhole payload sheet start (reader.Refused why) (none ++ sheet)
+whole-fault {payload} {sheet} {start} dry none why empty p e =
+    let n : none ≡ [] = nothing none empty in
+    let go : ForLayout start (λ l. (reader.Refused why ≡ readAnswerBy (readL l (toBits payload))) × (sheet ≡ sheetBy (readL l (toBits payload)) sheet))
+    = λ l w. fault-read (readL l (toBits payload)) why sheet (ap (λ x. endedBy x none) (sym e) ∙ p .ends l w ∙ run-reads l (toBits payload) 0 0 []) in
+    record {
+      answers = λ l w. go l w .0;
+      leaves = λ l w. ap (λ x. x ++ sheet) n ∙ go l w .1;
+    }
+
+stored-read : (o : Outcome Message) (entries bits : ℕ) (none : List ℕ) (pass : Pass) (sheet sheet' : List ℕ) → entries ≤ length sheet
+    → finished entries bits none ≡ endedOf o 0 0 [] → endedBy pass sheet' ≡ endedOf o 0 0 sheet
+    → (reader.Read bits entries ≡ readAnswerBy o) × (sheet' ≡ sheetBy o sheet)
+stored-read (accepted v cs n) entries bits none (Whole entries' bits') sheet sheet' h p q =
+    let a : entries ≡ 0 + length cs = cc in
+    let b : bits ≡ 0 + n = cc in
+    let c : sheet' ≡ sets sheet 0 cs = cc in
+    (ap₂ (λ x y. reader.Read x y) (b ∙ zero-add n) (a ∙ zero-add (length cs)), c ∙ sets-eq cs sheet 0 (omega arith) ∙ simp zero-add)
+stored-read (accepted v cs n) entries bits none (Fault why) sheet sheet' h p q = let z : _≡_ {A = ℕ} 0 1 = cc in absurd (omega arith)
+stored-read (refused why) entries bits none pass sheet sheet' h p q = let z : _≡_ {A = ℕ} 0 1 = cc in absurd (omega arith)
+
+pub whole-read : {payload sheet : List ℕ} {start : State} (dry pass : Pass) (none sheet' : List ℕ) (entries bits : ℕ) → length none ≡ 0
+    → length payload ≤ byteRoom → entryRoom ≤ length sheet → ReadPass payload [] start dry none → dry ≡ Whole entries bits
+    → ReadPass payload (none ++ sheet) start pass sheet' → ReadWhole payload sheet start (reader.Read bits entries) sheet'
+whole-read {payload} {sheet} {start} dry pass none sheet' entries bits empty short room p e q =
+    let n : none ≡ [] = nothing none empty in
+    let m : entries ≤ 8 * length payload = subst (λ x. entriesOf x ≤ 8 * length payload) e (p .few) in
+    let go : ForLayout start (λ l. (reader.Read bits entries ≡ readAnswerBy (readL l (toBits payload))) × (sheet' ≡ sheetBy (readL l (toBits payload)) sheet))
+    = λ l w. stored-read (readL l (toBits payload)) entries bits none pass sheet sheet' (omega arith)
+    (ap (λ x. endedBy x none) (sym e) ∙ p .ends l w ∙ run-reads l (toBits payload) 0 0 [])
+    (q .ends l w ∙ ap (λ x. runL l (toBits payload) 0 0 (x ++ sheet)) n ∙ run-reads l (toBits payload) 0 0 sheet) in
+    record { answers = λ l w. go l w .0; leaves = λ l w. go l w .1 }
+
+-- ---- the calls' tests, in their order
+
+pub bad-none : (bytes : ℕ) → bytes ≡ 0 → true ≡ badLength bytes
+bad-none bytes h = rw (eq-eqb bytes 0 h)
+
+pub bad-long : (bytes : ℕ) → (bytes ≡ 0 → ⊥) → ltb byteRoom bytes ≡ badLength bytes
+bad-long bytes h = rw (ne-eqb bytes 0 h)
+
+pub good-short : (bytes : ℕ) → badLength bytes ≡ false → bytes ≤ byteRoom
+good-short bytes h = go (eqb bytes 0) (ltb byteRoom bytes) refl h
+  where
+    go : (x y : Bool) → ltb byteRoom bytes ≡ y → (x || y) ≡ false → bytes ≤ byteRoom
+    go true y e h = let z : _≡_ {A = ℕ} 0 1 = cc in absurd (omega arith)
+    go false true e h = let z : _≡_ {A = ℕ} 0 1 = cc in absurd (omega arith)
+    go false false e h = ltb-false byteRoom bytes e
+
+-- where a message starts, its type and subtype have a layout that the machine walks
+pub record Started (kind subtype : ℕ) (start : State) : Type 0 where
+  pub layout : Layout Message
+  pub here : layoutFor kind subtype ≡ present layout
+  pub walks : Walks fieldOf stepOf start layout
+
+started-by : (kind subtype : ℕ) (x : Start) (p : Part (Layout Message)) (start : State) → Starts x p → layoutFor kind subtype ≡ p → x ≡ Known start
+    → Started kind subtype start
+started-by kind subtype (Known s) (present l) start (known w) e q =
+    let same : s ≡ start = cc in
+    record { layout = l; here = e; walks = subst (λ y. Walks fieldOf stepOf y l) same w }
+started-by kind subtype Unknown absent start unknown e q = let z : _≡_ {A = ℕ} 0 1 = cc in absurd (omega arith)
+
+pub started : (kind subtype : ℕ) (x : Start) (start : State) → x ≡ startOf kind subtype → x ≡ Known start → Started kind subtype start
+started kind subtype x start e q = started-by kind subtype (startOf kind subtype) (layoutFor kind subtype) start (starts kind subtype) refl (sym e ∙ q)
+
+none-by : (x : Start) (p : Part (Layout Message)) → Starts x p → x ≡ Unknown → p ≡ absent
+none-by (Known s) (present l) (known w) q = let z : _≡_ {A = ℕ} 0 1 = cc in absurd (omega arith)
+none-by Unknown absent unknown q = refl
+
+pub not-started : (kind subtype : ℕ) (x : Start) → x ≡ startOf kind subtype → x ≡ Unknown → layoutFor kind subtype ≡ absent
+not-started kind subtype x e q = none-by (startOf kind subtype) (layoutFor kind subtype) (starts kind subtype) (sym e ∙ q)
+
+-- ---- `read`
+
+abbrev readingBy : (payload sheet : List ℕ) → Part (Layout Message) → Outcome Message
+readingBy payload sheet p =
+    stop (ltb (length sheet) entryRoom) (refused refusal.Room) (
+    sheets.known p (refused refusal.UnknownType) (λ layout.
+    stop (badLength (length payload)) (refused refusal.Length) (
+    readL layout (toBits payload))))
+
+module _ (kind subtype : ℕ) (payload sheet : List ℕ) where
+  abbrev pub Meets : ReadAnswer → List ℕ → Type 0
+  Meets r sheet' = (r ≡ readAnswer kind subtype payload sheet) × (sheet' ≡ sheetAfter kind subtype payload sheet)
+
+  meets : (o : Outcome Message) → reading kind subtype payload sheet ≡ o → Meets (readAnswerBy o) (sheetBy o sheet)
+  unfolding readAnswer sheetAfter
+  meets o e = (ap readAnswerBy (sym e), ap (λ x. sheetBy x sheet) (sym e))
+
+  pub read-room : length sheet < entryRoom → Meets (reader.Refused refusal.Room) sheet
+  unfolding reading
+  read-room h = meets (refused refusal.Room) (rw (lt-ltb (length sheet) entryRoom h))
+
+  module _ (room : entryRoom ≤ length sheet) where
+    by-layout : (p : Part (Layout Message)) (o : Outcome Message) → layoutFor kind subtype ≡ p → readingBy payload sheet p ≡ o → reading kind subtype payload sheet ≡ o
+    unfolding reading
+    by-layout p o e q = ap (readingBy payload sheet) e ∙ q
+
+    pub read-unknown : (x : Start) → x ≡ startOf kind subtype → x ≡ Unknown → Meets (reader.Refused refusal.UnknownType) sheet
+    read-unknown x e q =
+        meets (refused refusal.UnknownType) (by-layout absent (refused refusal.UnknownType) (not-started kind subtype x e q) (rw (le-ltb (length sheet) entryRoom room)))
+
+    pub read-length : (x : Start) (start : State) → x ≡ startOf kind subtype → x ≡ Known start → (b : Bool) → b ≡ badLength (length payload) → b ≡ true
+        → Meets (reader.Refused refusal.Length) sheet
+    read-length x start e q b m n =
+        let k = started kind subtype x start e q in
+        let z : badLength (length payload) ≡ true = sym m ∙ n in
+        meets (refused refusal.Length) (by-layout (present (k .layout)) (refused refusal.Length) (k .here) (rw (le-ltb (length sheet) entryRoom room, z)))
+
+    pub read-known : (x : Start) (start : State) → x ≡ startOf kind subtype → x ≡ Known start → (b : Bool) → b ≡ badLength (length payload) → b ≡ false
+        → (r : ReadAnswer) (sheet' : List ℕ) → ReadWhole payload sheet start r sheet' → Meets r sheet'
+    read-known x start e q b m n r sheet' w =
+        let k = started kind subtype x start e q in
+        let z : badLength (length payload) ≡ false = sym m ∙ n in
+        let o : Outcome Message = readL (k .layout) (toBits payload) in
+        let g = meets o (by-layout (present (k .layout)) o (k .here) (rw (le-ltb (length sheet) entryRoom room, z))) in
+        (w .answers (k .layout) (k .walks) ∙ g .0, w .leaves (k .layout) (k .walks) ∙ g .1)

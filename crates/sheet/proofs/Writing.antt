@@ -1,0 +1,327 @@
+-- The turns and the ends of a pass over a sheet, and of the whole writing, over plain variables: what the proofs of `write` and its parts cite.
+use mathlib.Core.Path.{_≡_, refl, ap, ap₂, sym, _∙_, subst}
+use mathlib.Core.Bool.{Bool, true, false}
+use mathlib.Core.List.{List, [], _++_, append-assoc}
+use Prim.Native.Nat.{ℕ, _+_, _-_, _*_, _^_, _≤_, _<_}
+use native.Mathlib.Omega.{arith}
+use native.Mathlib.Nat.{zero-add}
+use lib.Dec.{ltb}
+use lib.ListN.{length, take, drop, getD}
+use lib.Seq.{sets, sets-eq, drop-drop, take-at, drop-append-add}
+use borrow.Author.Tests.{lt-ltb, le-ltb, ltb-true, ltb-false, ne-eqb}
+use Rattle.answer.specs.declared.Refusal.{Refusal}
+use Rattle.answer.specs.declared.Refusal.the-variants as refusal
+use Rattle.bits.specs.Bits.{toBits, bitsOf, leaves}
+use Rattle.bits.specs.Laws.{leaves-there, length-toBits, length-bitsOf}
+use Rattle.layout.specs.declared.Field.{Field}
+use Rattle.layout.specs.declared.Verdict.{Verdict}
+use Rattle.layout.specs.declared.Verdict.the-variants as verdict
+use Rattle.layout.specs.Layout.{Layout, pick, judge, Written, written, unwritten, writeL}
+use Rattle.layout.specs.Parts.{Part, absent, present}
+use Rattle.layout.specs.Run.{finished, stopped, On}
+use Rattle.layout.specs.Put.{putL, endedW, put-writes, put-done, put-over, put-short, put-fault, put-on}
+use Rattle.layout.specs.Walks.{Walks}
+use Rattle.message.specs.declared.State.{State}
+use Rattle.message.specs.declared.Start.{Start}
+use Rattle.message.specs.declared.Start.the-variants.{Known, Unknown}
+use Rattle.message.specs.Machine.{fieldOf, stepOf, startOf}
+use Rattle.message.specs.Messages.{Message, layoutFor}
+use Rattle.sheet.specs.Sheet.{byteRoom, badLength, stop, known, bytesFor, thenLength, writing, writeAnswerBy, outBy, writeAnswer, outAfter}
+use Rattle.sheet.specs.Passes.{ForLayout, onward, Counted, PutBy, whole, fault, bitsOfPass, WritePass, WriteWhole}
+use Rattle.sheet.specs.declared.WriteAnswer.{WriteAnswer}
+use Rattle.sheet.specs.declared.WriteAnswer.the-variants as writer
+use Rattle.sheet.specs.declared.Pass.{Pass}
+use Rattle.sheet.specs.declared.Pass.the-variants.{Whole, Fault}
+use Rattle.sheet.proofs.Reading.{walks-word, nothing, started, not-started, good-short}
+
+-- ---- the count of bits
+
+pub onward-over : (count width : ℕ) → 8 * byteRoom < count → (count ≡ onward count width) × (count < 2 ^ 33 → count < 2 ^ 33)
+onward-over count width h = (rw (lt-ltb (8 * byteRoom) count h), λ k. k)
+
+pub onward-more : (count width : ℕ) → count ≤ 8 * byteRoom → width < 2 ^ 32 → (count + width ≡ onward count width) × (count < 2 ^ 33 → count + width < 2 ^ 33)
+onward-more count width h k = (rw (le-ltb (8 * byteRoom) count h), λ _. omega arith)
+
+counted-on : {count bits : ℕ} (width count' : ℕ) → Counted count bits → count' ≡ onward count width → Counted count' (bits + width)
+counted-on {count} {bits} width count' c e = go (ltb (8 * byteRoom) count) (ltb (8 * byteRoom) bits) refl refl e
+  where
+    go : (x y : Bool) → ltb (8 * byteRoom) count ≡ x → ltb (8 * byteRoom) bits ≡ y → count' ≡ pick x count (count + width) → Counted count' (bits + width)
+    go true true p q e =
+        let a = ltb-true (8 * byteRoom) count p in
+        let b = ltb-true (8 * byteRoom) bits q in
+        record { exact = λ h. absurd (omega arith); over = λ h. omega arith }
+    go true false p q e =
+        let a = ltb-true (8 * byteRoom) count p in
+        let b = c .exact (ltb-false (8 * byteRoom) bits q) in
+        absurd (omega (arith, ltb-false (8 * byteRoom) bits q))
+    go false true p q e =
+        let a = ltb-false (8 * byteRoom) count p in
+        let b = c .over (ltb-true (8 * byteRoom) bits q) in
+        absurd (omega arith)
+    go false false p q e =
+        let b = c .exact (ltb-false (8 * byteRoom) bits q) in
+        record { exact = λ h. omega arith; over = λ h. omega arith }
+
+-- ---- a pass
+
+-- For one layout: the bits written so far and those that stand in `out` by a store that goes on past its end; where all fit, they do stand there.
+pub record Putting (sheet out₀ : List ℕ) (l : Layout Message) (out : List ℕ) (s : State) (pos at : ℕ) : Type 0 where
+  pub place : ℕ
+  pub bits : List ℕ
+  pub count : Counted pos place
+  pub stored : place ≤ 8 * byteRoom → place ≤ 8 * length out₀ → toBits out ≡ bits
+  pub on : On fieldOf stepOf s (putL l sheet 0 0 (toBits out₀)) (λ (next : Layout Message). putL next (drop at sheet) place at bits)
+
+-- at the loop's head: the rest of the sheet is written from here as the whole was to be from the start
+pub record Turn (sheet out₀ : List ℕ) (s₀ : State) (out : List ℕ) (s : State) (pos at : ℕ) : Type 0 where
+  pub inside : at ≤ length sheet
+  pub small : pos < 2 ^ 33
+  pub same : length out ≡ length out₀
+  pub on : ForLayout s₀ (λ l. Putting sheet out₀ l out s pos at)
+
+pub turn-first : (sheet out : List ℕ) (s : State) → Turn sheet out s out s 0 0
+turn-first sheet out s =
+    record {
+      inside = omega arith;
+      small = omega arith;
+      same = refl;
+      on = λ l w. record {
+        place = 0;
+        bits = toBits out;
+        count = record { exact = λ h. refl; over = λ h. h };
+        stored = λ h k. refl;
+        on = record { left = l; walks = w; same = refl };
+      };
+    }
+
+ended-fault : (o : Written) (n : ℕ) (why : Refusal) (out out' : List ℕ) → endedW o n 0 0 (toBits out) ≡ stopped why → PutBy out out' o (Fault why)
+ended-fault (written bs) n why out out' e = let z : _≡_ {A = ℕ} 0 1 = cc in absurd (omega arith)
+ended-fault (unwritten why') n why out out' e = let q : why' ≡ why = cc in subst (λ x. PutBy out out' (unwritten x) (Fault why)) (sym q) fault
+
+ended-whole : (o : Written) (n entries count place : ℕ) (bits out out' : List ℕ) → endedW o n 0 0 (toBits out) ≡ finished entries place bits → Counted count place
+    → (place ≤ 8 * byteRoom → place ≤ 8 * length out → toBits out' ≡ bits) → PutBy out out' o (Whole entries count)
+ended-whole (written bs) n entries count place bits out out' e c h =
+    let p : 0 + length bs ≡ place = cc in
+    let q : sets (toBits out) 0 bs ≡ bits = cc in
+    let r : place ≡ length bs = sym p ∙ zero-add (length bs) in
+    let k : length bs ≤ 8 * byteRoom → length bs ≤ 8 * length out → toBits out' ≡ bs ++ drop (length bs) (toBits out)
+    = λ a b. h (omega arith) (omega arith) ∙ sym q ∙ sets-eq bs (toBits out) 0 (omega (arith, length-toBits out)) ∙ simp zero-add in
+    whole (subst (Counted count) r c) k
+ended-whole (unwritten why) n entries count place bits out out' e c h = let z : _≡_ {A = ℕ} 0 1 = cc in absurd (omega arith)
+
+module _ {sheet out₀ : List ℕ} {s₀ : State} {out : List ℕ} {s : State} {pos at : ℕ} (t : Turn sheet out₀ s₀ out s pos at) (f : Field) (e : f ≡ fieldOf s) where
+  width-is : fieldOf s .width ≡ f .width
+  width-is = ap (λ (x : Field). x .width) (sym e)
+
+  stops : (why : Refusal) → ((place : ℕ) (bits : List ℕ) (l : Layout Message) → Walks fieldOf stepOf s l → putL l (drop at sheet) place at bits ≡ stopped why)
+      → WritePass sheet out₀ s₀ (Fault why) out
+  stops why h =
+      record {
+        puts = λ l w. let o = t .on l w in
+            ended-fault (writeL l sheet) (length sheet) why out₀ out
+            (sym (put-writes l sheet 0 0 (toBits out₀)) ∙ o .on .same ∙ h (o .place) (o .bits) (o .on .left) (o .on .walks));
+        small = omega arith;
+      }
+
+  pub turn-over : f .width ≡ 0 → at < length sheet → WritePass sheet out₀ s₀ (Fault refusal.Leftover) out
+  turn-over z h = stops refusal.Leftover (λ place bits l w. put-over sheet place at bits w (width-is ∙ z) h)
+
+  pub turn-done : f .width ≡ 0 → length sheet ≤ at → WritePass sheet out₀ s₀ (Whole at pos) out
+  turn-done z h =
+      record {
+        puts = λ l w. let o = t .on l w in
+            ended-whole (writeL l sheet) (length sheet) at pos (o .place) (o .bits) out₀ out
+            (sym (put-writes l sheet 0 0 (toBits out₀)) ∙ o .on .same
+            ∙ put-done sheet (o .place) at (o .bits) (o .on .walks) (width-is ∙ z) (omega (arith, t .inside)))
+            (o .count) (o .stored);
+        small = t .small;
+      }
+
+  pub turn-short : (f .width ≡ 0 → ⊥) → length sheet ≤ at → WritePass sheet out₀ s₀ (Fault refusal.Short) out
+  turn-short z h =
+      let d : fieldOf s .width ≡ f .width = width-is in
+      stops refusal.Short (λ place bits l w. put-short sheet place at bits w (omega arith) (omega (arith, t .inside)))
+
+  module _ (z : f .width ≡ 0 → ⊥) (h : at < length sheet) (v : Verdict) (j : v ≡ judge f (getD sheet at 0)) where
+    abbrev code : ℕ
+    code = getD sheet at 0
+
+    verdict-is : judge (fieldOf s) code ≡ v
+    verdict-is = ap (λ (x : Field). judge x code) (sym e) ∙ sym j
+
+    pub turn-fault : (why : Refusal) → v ≡ verdict.Fault why → WritePass sheet out₀ s₀ (Fault why) out
+    turn-fault why q =
+        let d : fieldOf s .width ≡ f .width = width-is in
+        stops why (λ place bits l w. put-fault sheet place at bits code why w (omega arith) h refl (verdict-is ∙ q))
+
+    store-on : (out' : List ℕ) (place : ℕ) (bits : List ℕ) → f .width ≤ 64 → toBits out' ≡ leaves out pos (f .width) code → pos ≡ place → toBits out ≡ bits
+        → place + f .width ≤ 8 * length out → toBits out' ≡ sets bits place (bitsOf (f .width) code)
+    store-on out' place bits m put p b k =
+        let n : length (toBits out) ≡ 8 * length out = length-toBits out in
+        let i : length (bitsOf (f .width) code) ≡ f .width = length-bitsOf (f .width) code in
+        put ∙ leaves-there out pos (f .width) code m (omega arith)
+        ∙ ap₂ (λ (x : ℕ) y. take x y ++ (bitsOf (f .width) code ++ drop (x + f .width) y)) p b
+        ∙ ap (λ (x : ℕ). take place bits ++ (bitsOf (f .width) code ++ drop (place + x) bits)) (sym i)
+        ∙ sym (append-assoc (take place bits) (bitsOf (f .width) code) (drop (place + length (bitsOf (f .width) code)) bits))
+        ∙ sym (sets-eq (bitsOf (f .width) code) bits place (omega (arith, ap length b)))
+
+    pub turn-again : (out' : List ℕ) (pos' : ℕ) (s' : State) → v ≡ verdict.Taken → length out' ≡ length out → toBits out' ≡ leaves out pos (f .width) code
+        → (pos' ≡ onward pos (f .width)) × (pos < 2 ^ 33 → pos' < 2 ^ 33) → s' ≡ stepOf s code → Turn sheet out₀ s₀ out' s' pos' (at + 1)
+    turn-again out' pos' s' q kept put moved stepped =
+        let d : fieldOf s .width ≡ f .width = width-is in
+        record {
+          inside = omega arith;
+          small = moved .1 (t .small);
+          same = kept ∙ t .same;
+          on = λ l w. let o = t .on l w in
+              let n : 0 < fieldOf s .width = omega arith in
+              let m : f .width ≤ 64 = omega (arith, walks-word (o .on .walks) n) in
+              let r = put-on sheet (o .place) at (o .bits) code (o .on .walks) n h refl (verdict-is ∙ q) in
+              record {
+                place = o .place + f .width;
+                bits = sets (o .bits) (o .place) (bitsOf (f .width) code);
+                count = counted-on (f .width) pos' (o .count) (moved .0);
+                stored = λ a b.
+                    store-on out' (o .place) (o .bits) m put (o .count .exact (omega arith)) (o .stored (omega arith) (omega arith)) (omega (arith, t .same));
+                on = record {
+                  left = r .left;
+                  walks = subst (λ x. Walks fieldOf stepOf x (r .left)) (sym stepped) (r .walks);
+                  same = o .on .same ∙ r .same
+                      ∙ ap (λ (x : ℕ). putL (r .left) (drop (at + 1) sheet) (o .place + x) (at + 1) (sets (o .bits) (o .place) (bitsOf x code))) d;
+                };
+              };
+        }
+
+-- ---- both passes
+
+-- a bad length counted is a bad length; a good one was counted exactly
+length-by : (count bits : ℕ) → Counted count bits → badLength (bytesFor count) ≡ true → badLength (bytesFor bits) ≡ true
+length-by count bits c h = go (ltb (8 * byteRoom) bits) refl
+  where
+    go : (x : Bool) → ltb (8 * byteRoom) bits ≡ x → badLength (bytesFor bits) ≡ true
+    go true p =
+        let a : 8 * byteRoom < bits = ltb-true (8 * byteRoom) bits p in
+        rw (ne-eqb (bytesFor bits) 0 (λ z. omega arith), lt-ltb byteRoom (bytesFor bits) (omega arith))
+    go false p =
+        let a : count ≡ bits = c .exact (ltb-false (8 * byteRoom) bits p) in
+        ap (λ (x : ℕ). badLength (bytesFor x)) (sym a) ∙ h
+
+exact-by : (count bits : ℕ) → Counted count bits → badLength (bytesFor count) ≡ false → (count ≡ bits) × (bits ≤ 8 * byteRoom)
+exact-by count bits c h = go (ltb (8 * byteRoom) bits) refl
+  where
+    go : (x : Bool) → ltb (8 * byteRoom) bits ≡ x → (count ≡ bits) × (bits ≤ 8 * byteRoom)
+    go true p =
+        let a : 8 * byteRoom < count = c .over (ltb-true (8 * byteRoom) bits p) in
+        let b : bytesFor count ≤ byteRoom = good-short (bytesFor count) h in
+        absurd (omega arith)
+    go false p = let a : bits ≤ 8 * byteRoom = ltb-false (8 * byteRoom) bits p in (c .exact a, a)
+
+-- what is to be shown of an answer and the bytes left
+abbrev Gives : Written → List ℕ → WriteAnswer → List ℕ → Type 0
+Gives o out r out' = (r ≡ writeAnswerBy (thenLength o)) × (toBits out' ≡ outBy (thenLength o) out)
+
+module _ (out : List ℕ) where
+  fault-gives : (o : Written) (pass : Pass) (none none' : List ℕ) (why : Refusal) → PutBy none' none o pass → pass ≡ Fault why
+      → Gives o out (writer.Refused why) out
+  fault-gives (unwritten w) (Fault v) none none' why fault e = let q : w ≡ why = cc in (ap (λ x. writer.Refused x) (sym q), refl)
+  fault-gives (written bs) (Whole n m) none none' why (whole c h) e = let z : _≡_ {A = ℕ} 0 1 = cc in absurd (omega arith)
+
+  length-gives : (o : Written) (pass : Pass) (none none' : List ℕ) (entries count : ℕ) → PutBy none' none o pass → pass ≡ Whole entries count
+      → badLength (bytesFor count) ≡ true → Gives o out (writer.Refused refusal.Length) out
+  length-gives (unwritten w) (Fault v) none none' entries count fault e b = let z : _≡_ {A = ℕ} 0 1 = cc in absurd (omega arith)
+  length-gives (written bs) (Whole n m) none none' entries count (whole c h) e b =
+      let q : m ≡ count = cc in
+      let k : badLength (bytesFor (length bs)) ≡ true = length-by count (length bs) (subst (λ x. Counted x (length bs)) q c) b in
+      (rw k, rw k)
+
+  -- the fill behind the bits
+  filled : (bs out₁ out₂ : List ℕ) → length bs ≤ 8 * byteRoom → byteRoom ≤ length out → length out₁ ≡ length out
+      → toBits out₁ ≡ bs ++ drop (length bs) (toBits out) → toBits out₂ ≡ leaves out₁ (length bs) (8 * bytesFor (length bs) - length bs) 0
+      → toBits out₂ ≡ outBy (written bs) out
+  filled bs out₁ out₂ h room same e p =
+      let n : ℕ = length bs in
+      let w : ℕ = 8 * bytesFor n - n in
+      let last : n + w ≡ 8 * bytesFor n = omega arith in
+      let front : take n (toBits out₁) ≡ bs = ap (take n) e ∙ take-at bs (drop n (toBits out)) n refl in
+      let back : drop (n + w) (toBits out₁) ≡ drop (8 * bytesFor n) (toBits out)
+      = ap (drop (n + w)) e ∙ drop-append-add bs (drop n (toBits out)) w ∙ drop-drop w n (toBits out) ∙ ap (λ (x : ℕ). drop x (toBits out)) last in
+      p ∙ leaves-there out₁ n w 0 (omega arith) (omega arith) ∙ ap₂ (λ x y. x ++ (bitsOf w 0 ++ y)) front back
+
+  stored-gives : (o : Written) (dry pass : Pass) (none none' out₁ out₂ : List ℕ) (entries count : ℕ) → PutBy none' none o dry → dry ≡ Whole entries count
+      → badLength (bytesFor count) ≡ false → byteRoom ≤ length out → length out₁ ≡ length out → PutBy out out₁ o pass
+      → toBits out₂ ≡ leaves out₁ count (8 * bytesFor count - count) 0 → Gives o out (writer.Written count (bytesFor count)) out₂
+  stored-gives (unwritten w) (Fault v) pass none none' out₁ out₂ entries count fault e b room same d p = let z : _≡_ {A = ℕ} 0 1 = cc in absurd (omega arith)
+  stored-gives (written bs) (Whole n m) (Whole n' m') none none' out₁ out₂ entries count (whole c h) e b room same (whole c' h') p =
+      let q : m ≡ count = cc in
+      let x : (count ≡ length bs) × (length bs ≤ 8 * byteRoom) = exact-by count (length bs) (subst (λ y. Counted y (length bs)) q c) b in
+      let k : badLength (bytesFor (length bs)) ≡ false = ap (λ (y : ℕ). badLength (bytesFor y)) (sym (x .0)) ∙ b in
+      let i : length bs ≤ 8 * length out = omega (arith, x .1) in
+      let g : toBits out₂ ≡ outBy (written bs) out
+      = filled bs out₁ out₂ (x .1) room same (h' (x .1) i) (p ∙ ap (λ (y : ℕ). leaves out₁ y (8 * bytesFor y - y) 0) (x .0)) in
+      (rw k (ap (λ (y : ℕ). writer.Written y (bytesFor y)) (x .0)), rw k g)
+
+module _ {sheet out : List ℕ} {start : State} where
+  gives : {r : WriteAnswer} {out' : List ℕ} → ForLayout start (λ l. Gives (writeL l sheet) out r out') → WriteWhole sheet out start r out'
+  gives h = record { answers = λ l w. h l w .0; leaves = λ l w. h l w .1 }
+
+  pub whole-fault : (dry : Pass) (none : List ℕ) (why : Refusal) → length none ≡ 0 → WritePass sheet [] start dry none → dry ≡ Fault why
+      → WriteWhole sheet out start (writer.Refused why) (none ++ out)
+  whole-fault dry none why empty p e =
+      rw (nothing none empty) (gives (λ l w. fault-gives out (writeL l sheet) dry none [] why (p .puts l w) e))
+
+  pub whole-length : (dry : Pass) (none : List ℕ) (entries count : ℕ) → length none ≡ 0 → WritePass sheet [] start dry none → dry ≡ Whole entries count
+      → (b : Bool) → b ≡ badLength (bytesFor count) → b ≡ true → WriteWhole sheet out start (writer.Refused refusal.Length) (none ++ out)
+  whole-length dry none entries count empty p e b m n =
+      rw (nothing none empty) (gives (λ l w. length-gives out (writeL l sheet) dry none [] entries count (p .puts l w) e (sym m ∙ n)))
+
+  pub whole-written : (dry pass : Pass) (none out₁ out₂ : List ℕ) (entries count : ℕ) → length none ≡ 0 → byteRoom ≤ length out
+      → WritePass sheet [] start dry none → dry ≡ Whole entries count → (b : Bool) → b ≡ badLength (bytesFor count) → b ≡ false
+      → length out₁ ≡ length (none ++ out) → WritePass sheet (none ++ out) start pass out₁ → toBits out₂ ≡ leaves out₁ count (8 * bytesFor count - count) 0
+      → WriteWhole sheet out start (writer.Written count (bytesFor count)) out₂
+  whole-written dry pass none out₁ out₂ entries count empty room p e b m n same q put =
+      let z : none ≡ [] = nothing none empty in
+      let k : length out₁ ≡ length out = same ∙ ap (λ x. length (x ++ out)) z in
+      let q' : WritePass sheet out start pass out₁ = subst (λ x. WritePass sheet (x ++ out) start pass out₁) z q in
+      gives (λ l w. stored-gives out (writeL l sheet) dry pass none [] out₁ out₂ entries count (p .puts l w) e (sym m ∙ n) room k (q' .puts l w) put)
+
+-- the count of a first pass is small enough to be rounded up to bytes
+pub count-small : {sheet : List ℕ} {start : State} {dry : Pass} {none : List ℕ} {entries count : ℕ} → WritePass sheet [] start dry none → dry ≡ Whole entries count → count < 2 ^ 33
+count-small p e = subst (λ x. bitsOfPass x < 2 ^ 33) e (p .small)
+
+-- ---- `write`
+
+abbrev writingBy : (sheet out : List ℕ) → Part (Layout Message) → Written
+writingBy sheet out p =
+    stop (ltb (length out) byteRoom) (unwritten refusal.Room) (
+    known p (unwritten refusal.UnknownType) (λ layout.
+    thenLength (writeL layout sheet)))
+
+module _ (kind subtype : ℕ) (sheet out : List ℕ) where
+  abbrev pub Meets : WriteAnswer → List ℕ → Type 0
+  Meets r out' = (r ≡ writeAnswer kind subtype sheet out) × (toBits out' ≡ outAfter kind subtype sheet out)
+
+  meets : (o : Written) (out' : List ℕ) → writing kind subtype sheet out ≡ o → toBits out' ≡ outBy o out → Meets (writeAnswerBy o) out'
+  unfolding writeAnswer outAfter
+  meets o out' e p = (ap writeAnswerBy (sym e), p ∙ ap (λ x. outBy x out) (sym e))
+
+  pub write-room : length out < byteRoom → Meets (writer.Refused refusal.Room) out
+  unfolding writing
+  write-room h = meets (unwritten refusal.Room) out (rw (lt-ltb (length out) byteRoom h)) refl
+
+  module _ (room : byteRoom ≤ length out) where
+    by-layout : (p : Part (Layout Message)) (o : Written) → layoutFor kind subtype ≡ p → writingBy sheet out p ≡ o → writing kind subtype sheet out ≡ o
+    unfolding writing
+    by-layout p o e q = ap (writingBy sheet out) e ∙ q
+
+    pub write-unknown : (x : Start) → x ≡ startOf kind subtype → x ≡ Unknown → Meets (writer.Refused refusal.UnknownType) out
+    write-unknown x e q =
+        meets (unwritten refusal.UnknownType) out
+        (by-layout absent (unwritten refusal.UnknownType) (not-started kind subtype x e q) (rw (le-ltb (length out) byteRoom room))) refl
+
+    pub write-known : (x : Start) (start : State) → x ≡ startOf kind subtype → x ≡ Known start → (r : WriteAnswer) (out' : List ℕ)
+        → WriteWhole sheet out start r out' → Meets r out'
+    write-known x start e q r out' w =
+        let k = started kind subtype x start e q in
+        let o : Written = thenLength (writeL (k .layout) sheet) in
+        let g = meets o out' (by-layout (present (k .layout)) o (k .here) (rw (le-ltb (length out) byteRoom room))) (w .leaves (k .layout) (k .walks)) in
+        (w .answers (k .layout) (k .walks) ∙ g .0, g .1)

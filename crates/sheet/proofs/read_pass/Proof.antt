@@ -1,0 +1,110 @@
+-- One law for each way out of the loop, and one for a turn (Reading.antt): the machine walks the layout, so each turn reads one field of it.
+use Rattle.sheet.proofs.Reading.{Turn, turn-first, turn-done, turn-short, turn-fault, turn-again}
+use Prim.Native.Nat.{_-_}
+use native.Mathlib.Omega.{arith}
+use borrow.Author.Needs.{needs}
+use Rattle.sheet.proofs.read_pass.Statement.{statement}
+use Rattle.sheet.proofs.read_pass.Tie as tie
+
+abbrev Inv-loop : tie.InvT-loop
+Inv-loop payload sheet₀ total s₀ pos₀ at₀ sheet s pos at = Turn payload sheet₀ total s₀ sheet s pos at
+
+abbrev μ-loop : tie.MeasureT-loop
+μ-loop payload sheet₀ total s₀ pos₀ at₀ sheet s pos at = total - pos
+
+mul-total : tie.Need-mul-total Inv-loop μ-loop
+mul-total c = search needs
+
+loop-holds : tie.Need-loop-holds Inv-loop μ-loop
+loop-holds c = turn-first _ _ _
+
+field-of-requires : tie.Need-field-of-requires Inv-loop μ-loop
+field-of-requires c κs = search needs
+
+same-length : tie.Need-same-length Inv-loop μ-loop
+same-length c = search needs
+
+returns : tie.Need-returns Inv-loop μ-loop
+returns c = search (turn-done, needs)
+
+cast-bits : tie.Need-cast-bits Inv-loop μ-loop
+cast-bits c = search needs
+
+sub-if2 : tie.Need-sub-if2 Inv-loop μ-loop
+sub-if2 c = search needs
+
+same-length-2 : tie.Need-same-length-2 Inv-loop μ-loop
+same-length-2 c = search needs
+
+returns-2 : tie.Need-returns-2 Inv-loop μ-loop
+returns-2 c = search (turn-short, needs)
+
+get-requires : tie.Need-get-requires Inv-loop μ-loop
+get-requires c κs = search needs
+
+judge-requires : tie.Need-judge-requires Inv-loop μ-loop
+judge-requires c κs = search needs
+
+enum-known-why : tie.Need-enum-known-why Inv-loop μ-loop
+enum-known-why c = search needs
+
+same-length-3 : tie.Need-same-length-3 Inv-loop μ-loop
+same-length-3 c = search needs
+
+returns-3 : tie.Need-returns-3 Inv-loop μ-loop
+returns-3 c = search (turn-fault, needs)
+
+enum-told : tie.Need-enum-told Inv-loop μ-loop
+enum-told c = search needs
+
+store-requires : tie.Need-store-requires Inv-loop μ-loop
+store-requires c κs = search needs
+
+add-at : tie.Need-add-at Inv-loop μ-loop
+add-at c = search needs
+
+add-pos : tie.Need-add-pos Inv-loop μ-loop
+add-pos c = search needs
+
+advance-requires : tie.Need-advance-requires Inv-loop μ-loop
+advance-requires c κs = search needs
+
+loop-less : tie.Need-loop-less Inv-loop μ-loop
+loop-less c = omega arith
+
+loop-again : tie.Need-loop-again Inv-loop μ-loop
+loop-again c =
+    let k = c .before .before .before in
+    let j = k .before .before .before .before in
+    let g = j .before in
+    let f = g .before .before .before in
+    turn-again (f .before .loop .inv) (f .field-of .result) (f .field-of .ensures) (g .before .before .if1 .left) (g .before .if2 .left) _ (g .get .ensures) _ (j .judge .ensures)
+    _ _ (k .before .before .enum-told .given .1) (k .store .ensures) (c .advance .ensures)
+
+pub read-pass-spec : {M : Type 1} → statement M
+read-pass-spec =
+    tie.close
+    (tie.spec
+    Inv-loop
+    μ-loop
+    mul-total
+    loop-holds
+    field-of-requires
+    same-length
+    returns
+    cast-bits
+    sub-if2
+    same-length-2
+    returns-2
+    get-requires
+    judge-requires
+    enum-known-why
+    same-length-3
+    returns-3
+    enum-told
+    store-requires
+    add-at
+    add-pos
+    advance-requires
+    loop-less
+    loop-again)

@@ -1,0 +1,5 @@
+pub mod Sheet
+pub mod Passes
+pub mod Determined
+pub mod Laws
+pub mod Theorems

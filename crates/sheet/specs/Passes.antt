@@ -1,0 +1,71 @@
+-- Serves proofs: what one pass of the code over a payload or a sheet must come to, by the layout that its start walks.
+use mathlib.Core.Path.{_≡_}
+use mathlib.Core.List.{List, _++_}
+use Prim.Native.Nat.{ℕ, _+_, _*_, _^_, _≤_, _<_}
+use lib.Dec.{ltb}
+use lib.ListN.{length, drop}
+use Rattle.answer.specs.declared.Refusal.{Refusal}
+use Rattle.bits.specs.Bits.{toBits}
+use Rattle.layout.specs.Layout.{Layout, pick, readL, Written, written, unwritten, writeL}
+use Rattle.layout.specs.Run.{Ended, finished, stopped, runL}
+use Rattle.layout.specs.Walks.{Walks}
+use Rattle.message.specs.declared.State.{State}
+use Rattle.message.specs.Machine.{fieldOf, stepOf}
+use Rattle.message.specs.Messages.{Message}
+use Rattle.sheet.specs.Sheet.{byteRoom, readAnswerBy, sheetBy, thenLength, writeAnswerBy, outBy}
+use Rattle.sheet.specs.declared.ReadAnswer.{ReadAnswer}
+use Rattle.sheet.specs.declared.WriteAnswer.{WriteAnswer}
+use Rattle.sheet.specs.declared.Pass.{Pass}
+use Rattle.sheet.specs.declared.Pass.the-variants.{Whole, Fault}
+
+-- for the layout of a message that starts at s
+abbrev pub ForLayout : State → (Layout Message → Type 0) → Type 0
+ForLayout s claim = (l : Layout Message) → Walks fieldOf stepOf s l → claim l
+
+-- a pass over a payload, with the sheet that it left
+abbrev pub endedBy : Pass → List ℕ → Ended
+endedBy (Whole entries bits) sheet = finished entries bits sheet
+endedBy (Fault why) sheet = stopped why
+
+abbrev pub entriesOf : Pass → ℕ
+entriesOf (Whole entries bits) = entries
+entriesOf (Fault why) = 0
+
+abbrev pub bitsOfPass : Pass → ℕ
+bitsOfPass (Whole entries bits) = bits
+bitsOfPass (Fault why) = 0
+
+pub record ReadPass (payload sheet : List ℕ) (start : State) (pass : Pass) (sheet' : List ℕ) : Type 0 where
+  pub ends : ForLayout start (λ l. endedBy pass sheet' ≡ runL l (toBits payload) 0 0 sheet)
+  pub few : entriesOf pass ≤ 8 * length payload
+
+-- the whole reading by the layout, in one answer
+pub record ReadWhole (payload sheet : List ℕ) (start : State) (answer : ReadAnswer) (sheet' : List ℕ) : Type 0 where
+  pub answers : ForLayout start (λ l. answer ≡ readAnswerBy (readL l (toBits payload)))
+  pub leaves : ForLayout start (λ l. sheet' ≡ sheetBy (readL l (toBits payload)) sheet)
+
+-- ---- writing
+
+-- A pass over a sheet counts bits exactly up to what the longest payload holds; over that, its count is over it too.
+abbrev pub onward : ℕ → ℕ → ℕ
+onward count width = pick (ltb (8 * byteRoom) count) count (count + width)
+
+pub record Counted (count bits : ℕ) : Type 0 where
+  pub exact : bits ≤ 8 * byteRoom → count ≡ bits
+  pub over : 8 * byteRoom < bits → 8 * byteRoom < count
+
+-- what a pass comes to by what the writing gives; bits that do not all have room may be stored in part or not at all
+pub data PutBy (out out' : List ℕ) : Written → Pass → Type 0 where
+  whole : {bits : List ℕ} {entries count : ℕ} → Counted count (length bits)
+      → (length bits ≤ 8 * byteRoom → length bits ≤ 8 * length out → toBits out' ≡ bits ++ drop (length bits) (toBits out))
+      → PutBy out out' (written bits) (Whole entries count)
+  fault : {why : Refusal} → PutBy out out' (unwritten why) (Fault why)
+
+pub record WritePass (sheet out : List ℕ) (start : State) (pass : Pass) (out' : List ℕ) : Type 0 where
+  pub puts : ForLayout start (λ l. PutBy out out' (writeL l sheet) pass)
+  pub small : bitsOfPass pass < 2 ^ 33
+
+-- the whole writing by the layout, in one answer
+pub record WriteWhole (sheet out : List ℕ) (start : State) (answer : WriteAnswer) (out' : List ℕ) : Type 0 where
+  pub answers : ForLayout start (λ l. answer ≡ writeAnswerBy (thenLength (writeL l sheet)))
+  pub leaves : ForLayout start (λ l. toBits out' ≡ outBy (thenLength (writeL l sheet)) out)

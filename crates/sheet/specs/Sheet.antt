@@ -1,0 +1,112 @@
+-- Definitions to believe: a payload read into a sheet and a sheet written into bytes, for all inputs (document 01, "Payloads" and "Answer numbers").
+use mathlib.Core.Bool.{Bool, true, false, _||_}
+use mathlib.Core.List.{List, _++_}
+use Prim.Native.Nat.{ℕ, _+_, _-_, _*_, _/_}
+use lib.Dec.{eqb, ltb}
+use lib.ListN.{length, drop}
+use Rattle.answer.specs.Number.{numberOf}
+use Rattle.answer.specs.declared.Refusal.the-variants.{Length, UnknownType, Room}
+use Rattle.bits.specs.Bits.{toBits, bitsOf}
+use Rattle.layout.specs.Layout.{Layout, Outcome, accepted, refused, readL, Written, written, unwritten, writeL}
+use Rattle.layout.specs.Parts.{Part, absent, present}
+use Rattle.message.specs.Messages.{Message, layoutFor}
+use Rattle.sheet.specs.declared.ReadAnswer.{ReadAnswer}
+use Rattle.sheet.specs.declared.ReadAnswer.the-variants as reader
+use Rattle.sheet.specs.declared.WriteAnswer.{WriteAnswer}
+use Rattle.sheet.specs.declared.WriteAnswer.the-variants as writer
+
+-- "Reading wants 8,184 entries, writing 1,023 bytes of room."
+abbrev pub entryRoom : ℕ
+entryRoom = 8184
+
+abbrev pub byteRoom : ℕ
+byteRoom = 1023
+
+-- LENGTH: "payload of 0 or over 1,023 bytes"
+abbrev pub badLength : ℕ → Bool
+badLength bytes = eqb bytes 0 || ltb byteRoom bytes
+
+-- refuse here if the test holds, else go on
+abbrev pub stop : {A : Type 0} → Bool → A → A → A
+stop true refusal rest = refusal
+stop false refusal rest = rest
+
+-- refuse here if no payload has this type and subtype, else go on with its layout
+abbrev pub known : {A : Type 0} → Part (Layout Message) → A → (Layout Message → A) → A
+known absent refusal rest = refusal
+known (present layout) refusal rest = rest layout
+
+-- ---- reading
+
+-- "Reading order of checks: ROOM, UNKNOWN_TYPE, LENGTH, then the first fault in reading order"
+unfoldable pub reading : (kind subtype : ℕ) (payload sheet : List ℕ) → Outcome Message
+reading kind subtype payload sheet =
+    stop (ltb (length sheet) entryRoom) (refused Room) (
+    known (layoutFor kind subtype) (refused UnknownType) (λ layout.
+    stop (badLength (length payload)) (refused Length) (
+    readL layout (toBits payload))))
+
+-- the count of bits read and of entries written, or the refusal
+abbrev pub readAnswerBy : Outcome Message → ReadAnswer
+readAnswerBy (accepted message codes bits) = reader.Read bits (length codes)
+readAnswerBy (refused why) = reader.Refused why
+
+-- the codes in reading order, later entries as lent; a refusal alters nothing
+abbrev pub sheetBy : Outcome Message → List ℕ → List ℕ
+sheetBy (accepted message codes bits) sheet = codes ++ drop (length codes) sheet
+sheetBy (refused why) sheet = sheet
+
+unfoldable pub readAnswer : (kind subtype : ℕ) (payload sheet : List ℕ) → ReadAnswer
+readAnswer kind subtype payload sheet = readAnswerBy (reading kind subtype payload sheet)
+
+unfoldable pub sheetAfter : (kind subtype : ℕ) (payload sheet : List ℕ) → List ℕ
+sheetAfter kind subtype payload sheet = sheetBy (reading kind subtype payload sheet) sheet
+
+-- ---- writing
+
+-- the bytes that so many bits take
+abbrev pub bytesFor : ℕ → ℕ
+bytesFor bits = (bits + 7) / 8
+
+-- LENGTH, after every fault and LEFTOVER
+abbrev pub thenLength : Written → Written
+thenLength (written bits) = stop (badLength (bytesFor (length bits))) (unwritten Length) (written bits)
+thenLength (unwritten why) = unwritten why
+
+-- "Writing: ROOM, UNKNOWN_TYPE, first fault, LEFTOVER, LENGTH."
+unfoldable pub writing : (kind subtype : ℕ) (sheet out : List ℕ) → Written
+writing kind subtype sheet out =
+    stop (ltb (length out) byteRoom) (unwritten Room) (
+    known (layoutFor kind subtype) (unwritten UnknownType) (λ layout.
+    thenLength (writeL layout sheet)))
+
+-- the count of bits and of bytes written, or the refusal
+abbrev pub writeAnswerBy : Written → WriteAnswer
+writeAnswerBy (written bits) = writer.Written (length bits) (bytesFor (length bits))
+writeAnswerBy (unwritten why) = writer.Refused why
+
+-- "The writer fills the last byte with zeros": the zeros behind so many bits
+abbrev pub fillFor : ℕ → List ℕ
+fillFor bits = bitsOf (8 * bytesFor bits - bits) 0
+
+-- the bits of the message and the fill, later bytes as lent; a refusal alters nothing
+abbrev pub outBy : Written → List ℕ → List ℕ
+outBy (written bits) out = bits ++ (fillFor (length bits) ++ drop (8 * bytesFor (length bits)) (toBits out))
+outBy (unwritten why) out = toBits out
+
+unfoldable pub writeAnswer : (kind subtype : ℕ) (sheet out : List ℕ) → WriteAnswer
+writeAnswer kind subtype sheet out = writeAnswerBy (writing kind subtype sheet out)
+
+-- all bits of the lent bytes afterwards
+unfoldable pub outAfter : (kind subtype : ℕ) (sheet out : List ℕ) → List ℕ
+outAfter kind subtype sheet out = outBy (writing kind subtype sheet out) out
+
+-- ---- the answers' numbers in document 01
+
+abbrev pub numberOfRead : ReadAnswer → ℕ
+numberOfRead (reader.Read bits entries) = 0
+numberOfRead (reader.Refused refusal) = numberOf refusal
+
+abbrev pub numberOfWritten : WriteAnswer → ℕ
+numberOfWritten (writer.Written bits bytes) = 0
+numberOfWritten (writer.Refused refusal) = numberOf refusal

@@ -1,0 +1,229 @@
+// Payloads read into a sheet and written from one (document 01, "Payloads").
+ghost use mathlib.Core.Path.{_≡_};
+ghost use Prim.Native.Nat.{_+_, _*_, _^_, _≤_, _<_};
+ghost use lib.ListN.{length, set};
+ghost use Rattle.bits.specs.Bits.{toBits};
+ghost use Rattle.sheet.specs.Sheet.{entryRoom, byteRoom, badLength, readAnswer, sheetAfter, writeAnswer, outAfter, numberOfRead, numberOfWritten};
+ghost use Rattle.sheet.specs.Passes.{ReadPass, ReadWhole, onward, WritePass, WriteWhole};
+use answer::Refusal;
+use layout::Verdict;
+use message::Start;
+use message::State;
+
+// "Reading wants 8,184 entries, writing 1,023 bytes of room."
+const ENTRY_ROOM: usize = 8184;
+
+const BYTE_ROOM: usize = 1023;
+
+// What `read` answers: the count of bits read and of entries written, or the refusal.
+pub enum ReadAnswer {
+    Read { bits: usize, entries: usize },
+    Refused(Refusal),
+}
+
+// What `write` answers: the count of bits and of bytes written, or the refusal.
+pub enum WriteAnswer {
+    Written { bits: usize, bytes: usize },
+    Refused(Refusal),
+}
+
+// What a pass over a message came to: its entries and its bits, or its first fault.
+enum Pass {
+    Whole { entries: usize, bits: usize },
+    Fault(Refusal),
+}
+
+// LENGTH: "payload of 0 or over 1,023 bytes".
+fn bad_length(bytes: usize) -> bool
+    ensures { λ r. ⌜ r ≡ badLength bytes ⌝ }
+{
+    if bytes == 0 {
+        return true;
+    }
+    BYTE_ROOM < bytes
+}
+
+// The entry at `at` is made the code, where there is one.
+fn store(sheet: &mut [u64], at: usize, code: u64)
+    ensures { λ _. ⌜ now (sheet .exit) ≡ set (now (sheet .entry)) at code ⌝ }
+{
+    if at < sheet.len() {
+        sheet[at] = code;
+    }
+}
+
+// One pass over a payload: what it comes to, and the codes in the sheet as far as that has room.
+fn read_pass(payload: &[u8], sheet: &mut [u64], start: State) -> Pass
+    requires { ⌜ length (now payload) ≤ byteRoom ⌝ }
+    ensures { λ r. ⌜ ReadPass (now (payload .entry)) (now (sheet .entry)) start r (now (sheet .exit)) ⌝ }
+{
+    let total = payload.len() * 8;
+    let mut s = start;
+    let mut pos: usize = 0;
+    let mut at: usize = 0;
+    loop {
+        let field = message::field_of(s);
+        let width = field.width;
+        if width == 0 {
+            return Pass::Whole {
+                entries: at,
+                bits: pos,
+            };
+        }
+        let bits = width as usize;
+        if total - pos < bits {
+            return Pass::Fault(Refusal::Short);
+        }
+        let code = bits::get(payload, pos, width);
+        match layout::judge(field, code) {
+            Verdict::Fault(why) => {
+                return Pass::Fault(why);
+            }
+            Verdict::Taken => {
+                store(sheet, at, code);
+                at += 1;
+                pos += bits;
+                s = message::advance(s, code);
+            }
+        }
+    }
+}
+
+// A first pass with no sheet says whether the message is accepted, and a second stores its codes: a refusal alters nothing.
+fn read_whole(payload: &[u8], sheet: &mut [u64], start: State) -> ReadAnswer
+    requires { ⌜ (length (now payload) ≤ byteRoom) × (entryRoom ≤ length (now sheet)) ⌝ }
+    ensures { λ r. ⌜ ReadWhole (now (payload .entry)) (now (sheet .entry)) start r (now (sheet .exit)) ⌝ }
+{
+    let dry = read_pass(payload, &mut sheet[..0], start);
+    match dry {
+        Pass::Fault(why) => ReadAnswer::Refused(why),
+        Pass::Whole { entries, bits } => {
+            read_pass(payload, sheet, start);
+            ReadAnswer::Read { bits, entries }
+        }
+    }
+}
+
+// Reads a payload of a type (TF002) and subtype (TF007) into a sheet. "ROOM, UNKNOWN_TYPE, LENGTH, then the first fault in reading order".
+pub fn read(kind: u8, subtype: u8, payload: &[u8], sheet: &mut [u64]) -> ReadAnswer
+    ensures { λ r. ⌜ r ≡ readAnswer kind subtype (now (payload .entry)) (now (sheet .entry)) ⌝ }
+    ensures { λ _. ⌜ now (sheet .exit) ≡ sheetAfter kind subtype (now (payload .entry)) (now (sheet .entry)) ⌝ }
+{
+    if sheet.len() < ENTRY_ROOM {
+        return ReadAnswer::Refused(Refusal::Room);
+    }
+    match message::start_of(kind, subtype) {
+        Start::Unknown => ReadAnswer::Refused(Refusal::UnknownType),
+        Start::Known(start) => {
+            if bad_length(payload.len()) {
+                return ReadAnswer::Refused(Refusal::Length);
+            }
+            read_whole(payload, sheet, start)
+        }
+    }
+}
+
+// A count of bits after `width` more. Once over what the longest payload holds it stays: no sheet is too long to be counted.
+fn counted(pos: usize, width: u32) -> usize
+    ensures { λ r. ⌜ (r ≡ onward pos width) × (pos < 2 ^ 33 → r < 2 ^ 33) ⌝ }
+{
+    if 8 * BYTE_ROOM < pos {
+        return pos;
+    }
+    pos + width as usize
+}
+
+// One pass over a sheet: what it comes to, and the bits in `out` where all of them have room.
+fn write_pass(sheet: &[u64], out: &mut [u8], start: State) -> Pass
+    ensures { λ r. ⌜ WritePass (now (sheet .entry)) (now (out .entry)) start r (now (out .exit)) ⌝ }
+{
+    let mut s = start;
+    let mut pos: usize = 0;
+    let mut at: usize = 0;
+    loop {
+        let field = message::field_of(s);
+        let width = field.width;
+        if width == 0 {
+            if at < sheet.len() {
+                return Pass::Fault(Refusal::Leftover);
+            }
+            return Pass::Whole {
+                entries: at,
+                bits: pos,
+            };
+        }
+        if sheet.len() <= at {
+            return Pass::Fault(Refusal::Short);
+        }
+        let code = sheet[at];
+        match layout::judge(field, code) {
+            Verdict::Fault(why) => {
+                return Pass::Fault(why);
+            }
+            Verdict::Taken => {
+                bits::put(out, pos, width, code);
+                at += 1;
+                pos = counted(pos, width);
+                s = message::advance(s, code);
+            }
+        }
+    }
+}
+
+// A first pass with no room says whether the sheet is accepted, and a second stores its bits: a refusal alters nothing.
+fn write_whole(sheet: &[u64], out: &mut [u8], start: State) -> WriteAnswer
+    requires { ⌜ byteRoom ≤ length (now out) ⌝ }
+    ensures { λ r. ⌜ WriteWhole (now (sheet .entry)) (now (out .entry)) start r (now (out .exit)) ⌝ }
+{
+    let dry = write_pass(sheet, &mut out[..0], start);
+    match dry {
+        Pass::Fault(why) => WriteAnswer::Refused(why),
+        Pass::Whole { entries: _, bits } => {
+            let bytes = (bits + 7) / 8;
+            if bad_length(bytes) {
+                return WriteAnswer::Refused(Refusal::Length);
+            }
+            write_pass(sheet, out, start);
+            let fill = (8 * bytes - bits) as u32;
+            bits::put(out, bits, fill, 0);
+            WriteAnswer::Written { bits, bytes }
+        }
+    }
+}
+
+// Writes a sheet as a payload of a type (TF002) and subtype (TF007). "ROOM, UNKNOWN_TYPE, first fault, LEFTOVER, LENGTH."
+pub fn write(kind: u8, subtype: u8, sheet: &[u64], out: &mut [u8]) -> WriteAnswer
+    ensures { λ r. ⌜ r ≡ writeAnswer kind subtype (now (sheet .entry)) (now (out .entry)) ⌝ }
+    ensures { λ _. ⌜ toBits (now (out .exit)) ≡ outAfter kind subtype (now (sheet .entry)) (now (out .entry)) ⌝ }
+{
+    if out.len() < BYTE_ROOM {
+        return WriteAnswer::Refused(Refusal::Room);
+    }
+    match message::start_of(kind, subtype) {
+        Start::Unknown => WriteAnswer::Refused(Refusal::UnknownType),
+        Start::Known(start) => write_whole(sheet, out, start),
+    }
+}
+
+// The number of `read`'s answer in document 01.
+pub fn number_read(answer: ReadAnswer) -> u8
+    ensures { λ r. ⌜ r ≡ numberOfRead answer ⌝ }
+{
+    match answer {
+        ReadAnswer::Read {
+            bits: _,
+            entries: _,
+        } => 0,
+        ReadAnswer::Refused(refusal) => answer::number(refusal),
+    }
+}
+
+// The number of `write`'s answer in document 01.
+pub fn number_written(answer: WriteAnswer) -> u8
+    ensures { λ r. ⌜ r ≡ numberOfWritten answer ⌝ }
+{
+    match answer {
+        WriteAnswer::Written { bits: _, bytes: _ } => 0,
+        WriteAnswer::Refused(refusal) => answer::number(refusal),
+    }
+}
