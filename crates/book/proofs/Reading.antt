@@ -142,6 +142,12 @@ module _ (book : Book) (s : List ℕ) (e : sound book s ≡ true) where
   pub sound-count : book .count ≤ 32
   sound-count = head-count book true (sym (sound-parts .0)) refl
 
+  pub sound-aiou : book .«aiou_plus_one» ≤ 16
+  unfolding headSound
+  sound-aiou =
+      leb-true _ _ (both-left (leb (book .«aiou_plus_one») 16) (leb (book .count) 32)
+      (both-right (both (eqb (book .«aiou_plus_one») 0) (eqb (book .count) 0)) _ (sound-parts .0)))
+
   pub sound-image : Bytes s → Image (book .count) s
   sound-image b =
       let w : Sound (book .count) 0 s = sound-areas (book .count) 0 s b (omega (arith, sound-count, sound-parts .2)) (sound-parts .1) in

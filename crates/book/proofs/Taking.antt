@@ -15,7 +15,7 @@ use Rattle.bits.specs.Bits.{Bytes}
 use Rattle.area.specs.Area.{sf031, bytesOf, numberIn, numberAt, putAt}
 use Rattle.area.specs.Laws.{number-bytes, half-number}
 use Rattle.book.specs.Book.{areasIn, bytesOfAll, sound}
-use Rattle.book.specs.Laws.{Ascending, length-areas, length-bytes, bytes-join, areas-bytes}
+use Rattle.book.specs.Laws.{Ascending, length-areas, length-bytes, bytes-join, areas-bytes, small-at}
 use Rattle.book.specs.Take.{aiouOf, blockCount, blockAt, blocksFrom, blocksOf, cutShort, lookup, insert, Outcome, taken, refused, andThen, takeBlock, takeAll, before, outcome, answerOf, leftBy, takenOf, bytesAfter}
 use Rattle.book.specs.TakeLaws.{orElse, or-assoc, lookup-append, Took, took, lookup-block, length-insert, ascending-insert}
 use Rattle.book.specs.Judge.{judgedBy, isTaken, judgeFound, judgeBlock, judge-is, Image}
@@ -141,12 +141,6 @@ carry-insert a (b ∷ l) least (Ascending.more h k p) = go (ltb (sf031 a) (sf031
     go : (t : Bool) → carry b l ≡ b ∷ l → carry a l ≡ insert a l → cond t (a ∷ carry b l) (b ∷ carry a l) ≡ cond t (a ∷ b ∷ l) (b ∷ insert a l)
     go true e f = ap (λ l. a ∷ l) e
     go false e f = ap (λ l. b ∷ l) f
-
--- the areas from the i-th on are numbers of 47 bits
-small-at : (l : List ℕ) (least i : ℕ) → Ascending least l → i < length l → getD l i 0 < 2 ^ 47
-small-at [] least i p h = absurd (omega arith)
-small-at (a ∷ l) least zero (Ascending.more q k p) h = k
-small-at (a ∷ l) least (suc i) (Ascending.more q k p) h = small-at l _ i p (omega arith)
 
 append-none : (l : List ℕ) → l ++ [] ≡ l
 append-none [] = refl

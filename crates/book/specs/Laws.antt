@@ -41,6 +41,19 @@ pub data Ascending : ℕ → List ℕ → Type 0 where
   none : {least : ℕ} → Ascending least []
   more : {least a : ℕ} {l : List ℕ} → least ≤ sf031 a → a < 2 ^ 47 → Ascending (suc (sf031 a)) l → Ascending least (a ∷ l)
 
+-- each is a number of 47 bits
+pub small-at : (l : List ℕ) (least i : ℕ) → Ascending least l → i < length l → getD l i 0 < 2 ^ 47
+small-at [] least i p h = absurd (omega arith)
+small-at (a ∷ l) least zero (Ascending.more q k p) h = k
+small-at (a ∷ l) least (suc i) (Ascending.more q k p) h = small-at l _ i p (omega arith)
+
+-- the i-th area
+pub areas-at : (n i : ℕ) (s : List ℕ) → i < n → getD (areasIn n s) i 0 ≡ areaIn (drop (6 * i) s)
+unfolding areasIn
+areas-at zero i s h = absurd (omega arith)
+areas-at (suc n) zero s h = refl
+areas-at (suc n) (suc i) s h = areas-at n i (drop 6 s) (omega arith) ∙ ap areaIn (drop-drop (6 * i) 6 s ∙ ap (λ k. drop k s) {x = 6 + 6 * i} {y = 6 * suc i} (omega arith))
+
 -- each is an area
 pub data Areas : List ℕ → Type 0 where
   none : Areas []
