@@ -1,14 +1,14 @@
 -- The turns and the ends of a pass over a payload, and of the whole reading, over plain variables: what the proofs of `read` and its parts cite.
 use mathlib.Core.Path.{_≡_, refl, ap, ap₂, sym, _∙_, subst}
-use mathlib.Core.Bool.{Bool, true, false, _||_}
+use mathlib.Core.Bool.{Bool, true, false}
 use mathlib.Core.List.{List, [], _∷_, _++_}
 use Prim.Native.Nat.{ℕ, _+_, _-_, _*_, _≤_, _<_}
 use native.Mathlib.Omega.{arith}
 use native.Mathlib.Nat.{zero-add}
-use lib.Dec.{eqb, ltb}
+use lib.Dec.{ltb}
 use lib.ListN.{length, take, drop, set, length-drop, length-set}
 use lib.Seq.{sets, sets-eq, drop-drop}
-use borrow.Author.Tests.{lt-ltb, le-ltb, ltb-false, eq-eqb, ne-eqb}
+use borrow.Author.Tests.{lt-ltb, le-ltb, eq-eqb, ne-eqb}
 use Rattle.answer.specs.declared.Refusal.{Refusal}
 use Rattle.answer.specs.declared.Refusal.the-variants as refusal
 use Rattle.bits.specs.Bits.{toBits, number, field, got}
@@ -25,8 +25,8 @@ use Rattle.message.specs.declared.Start.{Start}
 use Rattle.message.specs.declared.Start.the-variants.{Known, Unknown}
 use Rattle.message.specs.Machine.{fieldOf, stepOf, startOf, Starts, known, unknown, starts}
 use Rattle.message.specs.Messages.{Message, layoutFor}
-use Rattle.sheet.specs.Sheet as sheets
-use Rattle.sheet.specs.Sheet.{entryRoom, byteRoom, badLength, stop, reading, readAnswerBy, sheetBy, readAnswer, sheetAfter}
+use Rattle.sheet.specs.Sheet.{entryRoom, byteRoom, badLength, reading, readAnswerBy, sheetBy, readAnswer, sheetAfter}
+use Rattle.sheet.specs.Laws.{reading-with}
 use Rattle.sheet.specs.Passes.{ForLayout, endedBy, entriesOf, ReadPass, ReadWhole}
 use Rattle.sheet.specs.declared.ReadAnswer.{ReadAnswer}
 use Rattle.sheet.specs.declared.ReadAnswer.the-variants as reader
@@ -182,14 +182,6 @@ bad-none bytes h = rw (eq-eqb bytes 0 h)
 pub bad-long : (bytes : ℕ) → (bytes ≡ 0 → ⊥) → ltb byteRoom bytes ≡ badLength bytes
 bad-long bytes h = rw (ne-eqb bytes 0 h)
 
-pub good-short : (bytes : ℕ) → badLength bytes ≡ false → bytes ≤ byteRoom
-good-short bytes h = go (eqb bytes 0) (ltb byteRoom bytes) refl h
-  where
-    go : (x y : Bool) → ltb byteRoom bytes ≡ y → (x || y) ≡ false → bytes ≤ byteRoom
-    go true y e h = let z : _≡_ {A = ℕ} 0 1 = cc in absurd (omega arith)
-    go false true e h = let z : _≡_ {A = ℕ} 0 1 = cc in absurd (omega arith)
-    go false false e h = ltb-false byteRoom bytes e
-
 -- where a message starts, its type and subtype have a layout that the machine walks
 pub record Started (kind subtype : ℕ) (start : State) : Type 0 where
   pub layout : Layout Message
@@ -215,13 +207,6 @@ not-started kind subtype x e q = none-by (startOf kind subtype) (layoutFor kind 
 
 -- ---- `read`
 
-abbrev readingBy : (payload sheet : List ℕ) → Part (Layout Message) → Outcome Message
-readingBy payload sheet p =
-    stop (ltb (length sheet) entryRoom) (refused refusal.Room) (
-    sheets.known p (refused refusal.UnknownType) (λ layout.
-    stop (badLength (length payload)) (refused refusal.Length) (
-    readL layout (toBits payload))))
-
 module _ (kind subtype : ℕ) (payload sheet : List ℕ) where
   abbrev pub Meets : ReadAnswer → List ℕ → Type 0
   Meets r sheet' = (r ≡ readAnswer kind subtype payload sheet) × (sheet' ≡ sheetAfter kind subtype payload sheet)
@@ -231,30 +216,20 @@ module _ (kind subtype : ℕ) (payload sheet : List ℕ) where
   meets o e = (ap readAnswerBy (sym e), ap (λ x. sheetBy x sheet) (sym e))
 
   pub read-room : length sheet < entryRoom → Meets (reader.Refused refusal.Room) sheet
-  unfolding reading
-  read-room h = meets (refused refusal.Room) (rw (lt-ltb (length sheet) entryRoom h))
+  read-room h = meets (refused refusal.Room) (reading-with kind subtype payload sheet (lt-ltb (length sheet) entryRoom h) refl refl)
 
   module _ (room : entryRoom ≤ length sheet) where
-    by-layout : (p : Part (Layout Message)) (o : Outcome Message) → layoutFor kind subtype ≡ p → readingBy payload sheet p ≡ o → reading kind subtype payload sheet ≡ o
-    unfolding reading
-    by-layout p o e q = ap (readingBy payload sheet) e ∙ q
-
     pub read-unknown : (x : Start) → x ≡ startOf kind subtype → x ≡ Unknown → Meets (reader.Refused refusal.UnknownType) sheet
-    read-unknown x e q =
-        meets (refused refusal.UnknownType) (by-layout absent (refused refusal.UnknownType) (not-started kind subtype x e q) (rw (le-ltb (length sheet) entryRoom room)))
+    read-unknown x e q = meets (refused refusal.UnknownType) (reading-with kind subtype payload sheet (le-ltb (length sheet) entryRoom room) (not-started kind subtype x e q) refl)
 
     pub read-length : (x : Start) (start : State) → x ≡ startOf kind subtype → x ≡ Known start → (b : Bool) → b ≡ badLength (length payload) → b ≡ true
         → Meets (reader.Refused refusal.Length) sheet
     read-length x start e q b m n =
-        let k = started kind subtype x start e q in
-        let z : badLength (length payload) ≡ true = sym m ∙ n in
-        meets (refused refusal.Length) (by-layout (present (k .layout)) (refused refusal.Length) (k .here) (rw (le-ltb (length sheet) entryRoom room, z)))
+        meets (refused refusal.Length) (reading-with kind subtype payload sheet (le-ltb (length sheet) entryRoom room) (started kind subtype x start e q .here) (sym m ∙ n))
 
     pub read-known : (x : Start) (start : State) → x ≡ startOf kind subtype → x ≡ Known start → (b : Bool) → b ≡ badLength (length payload) → b ≡ false
         → (r : ReadAnswer) (sheet' : List ℕ) → ReadWhole payload sheet start r sheet' → Meets r sheet'
     read-known x start e q b m n r sheet' w =
         let k = started kind subtype x start e q in
-        let z : badLength (length payload) ≡ false = sym m ∙ n in
-        let o : Outcome Message = readL (k .layout) (toBits payload) in
-        let g = meets o (by-layout (present (k .layout)) o (k .here) (rw (le-ltb (length sheet) entryRoom room, z))) in
+        let g = meets (readL (k .layout) (toBits payload)) (reading-with kind subtype payload sheet (le-ltb (length sheet) entryRoom room) (k .here) (sym m ∙ n)) in
         (w .answers (k .layout) (k .walks) ∙ g .0, w .leaves (k .layout) (k .walks) ∙ g .1)

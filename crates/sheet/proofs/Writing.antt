@@ -17,7 +17,6 @@ use Rattle.layout.specs.declared.Field.{Field}
 use Rattle.layout.specs.declared.Verdict.{Verdict}
 use Rattle.layout.specs.declared.Verdict.the-variants as verdict
 use Rattle.layout.specs.Layout.{Layout, pick, judge, Written, written, unwritten, writeL}
-use Rattle.layout.specs.Parts.{Part, absent, present}
 use Rattle.layout.specs.Run.{finished, stopped, On}
 use Rattle.layout.specs.Put.{putL, endedW, put-writes, put-done, put-over, put-short, put-fault, put-on}
 use Rattle.layout.specs.Walks.{Walks}
@@ -25,14 +24,15 @@ use Rattle.message.specs.declared.State.{State}
 use Rattle.message.specs.declared.Start.{Start}
 use Rattle.message.specs.declared.Start.the-variants.{Known, Unknown}
 use Rattle.message.specs.Machine.{fieldOf, stepOf, startOf}
-use Rattle.message.specs.Messages.{Message, layoutFor}
-use Rattle.sheet.specs.Sheet.{byteRoom, badLength, stop, known, bytesFor, thenLength, writing, writeAnswerBy, outBy, writeAnswer, outAfter}
+use Rattle.message.specs.Messages.{Message}
+use Rattle.sheet.specs.Sheet.{byteRoom, badLength, bytesFor, thenLength, writing, writeAnswerBy, outBy, writeAnswer, outAfter}
+use Rattle.sheet.specs.Laws.{good-some, writing-with}
 use Rattle.sheet.specs.Passes.{ForLayout, onward, Counted, PutBy, whole, fault, bitsOfPass, WritePass, WriteWhole}
 use Rattle.sheet.specs.declared.WriteAnswer.{WriteAnswer}
 use Rattle.sheet.specs.declared.WriteAnswer.the-variants as writer
 use Rattle.sheet.specs.declared.Pass.{Pass}
 use Rattle.sheet.specs.declared.Pass.the-variants.{Whole, Fault}
-use Rattle.sheet.proofs.Reading.{walks-word, nothing, started, not-started, good-short}
+use Rattle.sheet.proofs.Reading.{walks-word, nothing, started, not-started}
 
 -- ---- the count of bits
 
@@ -212,7 +212,7 @@ exact-by count bits c h = go (ltb (8 * byteRoom) bits) refl
     go : (x : Bool) → ltb (8 * byteRoom) bits ≡ x → (count ≡ bits) × (bits ≤ 8 * byteRoom)
     go true p =
         let a : 8 * byteRoom < count = c .over (ltb-true (8 * byteRoom) bits p) in
-        let b : bytesFor count ≤ byteRoom = good-short (bytesFor count) h in
+        let b : bytesFor count ≤ byteRoom = good-some (bytesFor count) h .1 in
         absurd (omega arith)
     go false p = let a : bits ≤ 8 * byteRoom = ltb-false (8 * byteRoom) bits p in (c .exact a, a)
 
@@ -290,12 +290,6 @@ count-small p e = subst (λ x. bitsOfPass x < 2 ^ 33) e (p .small)
 
 -- ---- `write`
 
-abbrev writingBy : (sheet out : List ℕ) → Part (Layout Message) → Written
-writingBy sheet out p =
-    stop (ltb (length out) byteRoom) (unwritten refusal.Room) (
-    known p (unwritten refusal.UnknownType) (λ layout.
-    thenLength (writeL layout sheet)))
-
 module _ (kind subtype : ℕ) (sheet out : List ℕ) where
   abbrev pub Meets : WriteAnswer → List ℕ → Type 0
   Meets r out' = (r ≡ writeAnswer kind subtype sheet out) × (toBits out' ≡ outAfter kind subtype sheet out)
@@ -305,23 +299,16 @@ module _ (kind subtype : ℕ) (sheet out : List ℕ) where
   meets o out' e p = (ap writeAnswerBy (sym e), p ∙ ap (λ x. outBy x out) (sym e))
 
   pub write-room : length out < byteRoom → Meets (writer.Refused refusal.Room) out
-  unfolding writing
-  write-room h = meets (unwritten refusal.Room) out (rw (lt-ltb (length out) byteRoom h)) refl
+  write-room h = meets (unwritten refusal.Room) out (writing-with kind subtype sheet out (lt-ltb (length out) byteRoom h) refl) refl
 
   module _ (room : byteRoom ≤ length out) where
-    by-layout : (p : Part (Layout Message)) (o : Written) → layoutFor kind subtype ≡ p → writingBy sheet out p ≡ o → writing kind subtype sheet out ≡ o
-    unfolding writing
-    by-layout p o e q = ap (writingBy sheet out) e ∙ q
-
     pub write-unknown : (x : Start) → x ≡ startOf kind subtype → x ≡ Unknown → Meets (writer.Refused refusal.UnknownType) out
-    write-unknown x e q =
-        meets (unwritten refusal.UnknownType) out
-        (by-layout absent (unwritten refusal.UnknownType) (not-started kind subtype x e q) (rw (le-ltb (length out) byteRoom room))) refl
+    write-unknown x e q = meets (unwritten refusal.UnknownType) out (writing-with kind subtype sheet out (le-ltb (length out) byteRoom room) (not-started kind subtype x e q)) refl
 
     pub write-known : (x : Start) (start : State) → x ≡ startOf kind subtype → x ≡ Known start → (r : WriteAnswer) (out' : List ℕ)
         → WriteWhole sheet out start r out' → Meets r out'
     write-known x start e q r out' w =
         let k = started kind subtype x start e q in
         let o : Written = thenLength (writeL (k .layout) sheet) in
-        let g = meets o out' (by-layout (present (k .layout)) o (k .here) (rw (le-ltb (length out) byteRoom room))) (w .leaves (k .layout) (k .walks)) in
+        let g = meets o out' (writing-with kind subtype sheet out (le-ltb (length out) byteRoom room) (k .here)) (w .leaves (k .layout) (k .walks)) in
         (w .answers (k .layout) (k .walks) ∙ g .0, g .1)

@@ -82,6 +82,32 @@ has-bit (present (field f next)) (begins h) l bits cs n {m} e r =
     (readL (next (number (take (f .width) bits))) (drop (f .width) bits)) r' in
     omega arith
 
+-- ---- the tests, each by its outcome
+
+abbrev pub readingWith : (payload : List ℕ) (short : Bool) (p : Part (Layout Message)) (bad : Bool) → Outcome Message
+readingWith payload short p bad =
+    stop short (refused refusal.Room) (
+    known p (refused refusal.UnknownType) (λ layout.
+    stop bad (refused refusal.Length) (
+    readL layout (toBits payload))))
+
+pub reading-with : (kind subtype : ℕ) (payload sheet : List ℕ) {short bad : Bool} {p : Part (Layout Message)} → ltb (length sheet) entryRoom ≡ short
+    → layoutFor kind subtype ≡ p → badLength (length payload) ≡ bad → reading kind subtype payload sheet ≡ readingWith payload short p bad
+unfolding reading
+reading-with kind subtype payload sheet {short} {bad} a b c =
+    ap₂ (λ x y. readingWith payload x (layoutFor kind subtype) y) a c ∙ ap (λ x. readingWith payload short x bad) b
+
+abbrev pub writingWith : (sheet : List ℕ) (short : Bool) (p : Part (Layout Message)) → Written
+writingWith sheet short p =
+    stop short (unwritten refusal.Room) (
+    known p (unwritten refusal.UnknownType) (λ layout.
+    thenLength (writeL layout sheet)))
+
+pub writing-with : (kind subtype : ℕ) (sheet out : List ℕ) {short : Bool} {p : Part (Layout Message)} → ltb (length out) byteRoom ≡ short
+    → layoutFor kind subtype ≡ p → writing kind subtype sheet out ≡ writingWith sheet short p
+unfolding writing
+writing-with kind subtype sheet out a b = ap₂ (writingWith sheet) a b
+
 -- ---- what a success says
 
 pub record WasRead (kind subtype : ℕ) (payload sheet : List ℕ) (bits entries : ℕ) : Type 0 where
@@ -96,9 +122,9 @@ pub record WasRead (kind subtype : ℕ) (payload sheet : List ℕ) (bits entries
 
 pub was-read : (kind subtype : ℕ) (payload sheet : List ℕ) (bits entries : ℕ) → readAnswer kind subtype payload sheet ≡ reader.Read bits entries
     → WasRead kind subtype payload sheet bits entries
-unfolding readAnswer sheetAfter reading
+unfolding readAnswer sheetAfter
 was-read kind subtype payload sheet bits entries e =
-    go (ltb (length sheet) entryRoom) (layoutFor kind subtype) (badLength (length payload)) refl refl refl e
+    go (ltb (length sheet) entryRoom) (layoutFor kind subtype) (badLength (length payload)) refl refl refl
   where
     last : (l : Layout Message) (o : Outcome Message) → layoutFor kind subtype ≡ present l → badLength (length payload) ≡ false → readL l (toBits payload) ≡ o
         → sheetAfter kind subtype payload sheet ≡ sheetBy o sheet → readAnswerBy o ≡ reader.Read bits entries → WasRead kind subtype payload sheet bits entries
@@ -117,16 +143,16 @@ was-read kind subtype payload sheet bits entries e =
     last l (refused why) p g r s e = let z : _≡_ {A = ℕ} 0 1 = cc in absurd (omega arith)
 
     go : (x : Bool) (p : Part (Layout Message)) (y : Bool) → ltb (length sheet) entryRoom ≡ x → layoutFor kind subtype ≡ p → badLength (length payload) ≡ y
-        → readAnswerBy (stop x (refused refusal.Room) (known p (refused refusal.UnknownType) (λ l. stop y (refused refusal.Length) (readL l (toBits payload)))))
-        ≡ reader.Read bits entries → WasRead kind subtype payload sheet bits entries
-    go true p y a b c e = let z : _≡_ {A = ℕ} 0 1 = cc in absurd (omega arith)
-    go false absent y a b c e = let z : _≡_ {A = ℕ} 0 1 = cc in absurd (omega arith)
-    go false (present l) true a b c e = let z : _≡_ {A = ℕ} 0 1 = cc in absurd (omega arith)
-    go false (present l) false a b c e =
-        last l (readL l (toBits payload)) b c refl
-        (ap₂ (λ x y. sheetBy (stop x (refused refusal.Room) (known (layoutFor kind subtype) (refused refusal.UnknownType)
-        (λ l'. stop y (refused refusal.Length) (readL l' (toBits payload))))) sheet) a c
-        ∙ ap (λ p. sheetBy (known p (refused refusal.UnknownType) (λ l'. readL l' (toBits payload))) sheet) b) e
+        → WasRead kind subtype payload sheet bits entries
+    go x p y a b c = by x p y b c (reading-with kind subtype payload sheet a b c) (ap readAnswerBy (sym (reading-with kind subtype payload sheet a b c)) ∙ e)
+      where
+        by : (x : Bool) (p : Part (Layout Message)) (y : Bool) → layoutFor kind subtype ≡ p → badLength (length payload) ≡ y
+            → reading kind subtype payload sheet ≡ readingWith payload x p y → readAnswerBy (readingWith payload x p y) ≡ reader.Read bits entries
+            → WasRead kind subtype payload sheet bits entries
+        by true p y b c r e = let z : _≡_ {A = ℕ} 0 1 = cc in absurd (omega arith)
+        by false absent y b c r e = let z : _≡_ {A = ℕ} 0 1 = cc in absurd (omega arith)
+        by false (present l) true b c r e = let z : _≡_ {A = ℕ} 0 1 = cc in absurd (omega arith)
+        by false (present l) false b c r e = last l (readL l (toBits payload)) b c refl (ap (λ x. sheetBy x sheet) r) e
 
 pub read-has-bit : {kind subtype : ℕ} {payload sheet : List ℕ} {bits entries : ℕ} → WasRead kind subtype payload sheet bits entries → 0 < bits
 read-has-bit {kind} {subtype} {payload} {bits} w =
@@ -149,9 +175,9 @@ badOf (unwritten why) = false
 
 pub was-written : (kind subtype : ℕ) (sheet out : List ℕ) (bits bytes : ℕ) → writeAnswer kind subtype sheet out ≡ writer.Written bits bytes
     → WasWritten kind subtype sheet out bits bytes
-unfolding writeAnswer outAfter writing
+unfolding writeAnswer outAfter
 was-written kind subtype sheet out bits bytes e =
-    go (ltb (length out) byteRoom) (layoutFor kind subtype) refl refl e
+    go (ltb (length out) byteRoom) (layoutFor kind subtype) refl refl
   where
     last : (l : Layout Message) (o : Written) → layoutFor kind subtype ≡ present l → byteRoom ≤ length out → writeL l sheet ≡ o → (y : Bool)
         → ((text : List ℕ) → o ≡ written text → badLength (bytesFor (length text)) ≡ y)
@@ -180,37 +206,33 @@ was-written kind subtype sheet out bits bytes e =
           leaves = s ∙ ap (λ x. outBy (stop x (unwritten refusal.Length) (written text)) out) g;
         }
 
-    go : (x : Bool) (p : Part (Layout Message)) → ltb (length out) byteRoom ≡ x → layoutFor kind subtype ≡ p
-        → writeAnswerBy (stop x (unwritten refusal.Room) (known p (unwritten refusal.UnknownType) (λ l. thenLength (writeL l sheet)))) ≡ writer.Written bits bytes
-        → WasWritten kind subtype sheet out bits bytes
-    go true p a b e = let z : _≡_ {A = ℕ} 0 1 = cc in absurd (omega arith)
-    go false absent a b e = let z : _≡_ {A = ℕ} 0 1 = cc in absurd (omega arith)
-    go false (present l) a b e =
-        last l (writeL l sheet) b (ltb-false (length out) byteRoom a) refl (badOf (writeL l sheet)) (λ text q. ap badOf (sym q))
-        (ap (λ x. outBy (stop x (unwritten refusal.Room) (known (layoutFor kind subtype) (unwritten refusal.UnknownType) (λ l'. thenLength (writeL l' sheet)))) out) a
-        ∙ ap (λ p. outBy (known p (unwritten refusal.UnknownType) (λ l'. thenLength (writeL l' sheet))) out) b) e
+    go : (x : Bool) (p : Part (Layout Message)) → ltb (length out) byteRoom ≡ x → layoutFor kind subtype ≡ p → WasWritten kind subtype sheet out bits bytes
+    go x p a b = by x p a b (writing-with kind subtype sheet out a b) (ap writeAnswerBy (sym (writing-with kind subtype sheet out a b)) ∙ e)
+      where
+        by : (x : Bool) (p : Part (Layout Message)) → ltb (length out) byteRoom ≡ x → layoutFor kind subtype ≡ p
+            → writing kind subtype sheet out ≡ writingWith sheet x p → writeAnswerBy (writingWith sheet x p) ≡ writer.Written bits bytes
+            → WasWritten kind subtype sheet out bits bytes
+        by true p a b r e = let z : _≡_ {A = ℕ} 0 1 = cc in absurd (omega arith)
+        by false absent a b r e = let z : _≡_ {A = ℕ} 0 1 = cc in absurd (omega arith)
+        by false (present l) a b r e =
+            last l (writeL l sheet) b (ltb-false (length out) byteRoom a) refl (badOf (writeL l sheet)) (λ text q. ap badOf (sym q)) (ap (λ x. outBy x out) r) e
 
 -- ---- what makes a success
 
 pub reads-so : (kind subtype : ℕ) (payload sheet : List ℕ) (l : Layout Message) (m : Message) (cs : List ℕ) (n : ℕ) → layoutFor kind subtype ≡ present l
     → readL l (toBits payload) ≡ accepted m cs n → entryRoom ≤ length sheet → badLength (length payload) ≡ false
     → (readAnswer kind subtype payload sheet ≡ reader.Read n (length cs)) × (sheetAfter kind subtype payload sheet ≡ cs ++ drop (length cs) sheet)
-unfolding readAnswer sheetAfter reading
+unfolding readAnswer sheetAfter
 reads-so kind subtype payload sheet l m cs n p r room good =
     let e : reading kind subtype payload sheet ≡ accepted m cs n
-    = ap₂ (λ x y. stop x (refused refusal.Room) (known (layoutFor kind subtype) (refused refusal.UnknownType)
-    (λ l'. stop y (refused refusal.Length) (readL l' (toBits payload))))) (le-ltb (length sheet) entryRoom room) good
-    ∙ ap (λ x. known x (refused refusal.UnknownType) (λ l'. readL l' (toBits payload))) p ∙ r in
+    = reading-with kind subtype payload sheet (le-ltb (length sheet) entryRoom room) p good ∙ r in
     (ap readAnswerBy e, ap (λ x. sheetBy x sheet) e)
 
 pub writes-so : (kind subtype : ℕ) (sheet out : List ℕ) (l : Layout Message) (text : List ℕ) → layoutFor kind subtype ≡ present l
     → writeL l sheet ≡ written text → byteRoom ≤ length out → badLength (bytesFor (length text)) ≡ false
     → (writeAnswer kind subtype sheet out ≡ writer.Written (length text) (bytesFor (length text))) × (outAfter kind subtype sheet out ≡ outBy (written text) out)
-unfolding writeAnswer outAfter writing
+unfolding writeAnswer outAfter
 writes-so kind subtype sheet out l text p w room good =
     let e : writing kind subtype sheet out ≡ written text
-    = ap (λ x. stop x (unwritten refusal.Room) (known (layoutFor kind subtype) (unwritten refusal.UnknownType) (λ l'. thenLength (writeL l' sheet))))
-    (le-ltb (length out) byteRoom room)
-    ∙ ap (λ x. known x (unwritten refusal.UnknownType) (λ l'. thenLength (writeL l' sheet))) p ∙ ap thenLength w
-    ∙ ap (λ x. stop x (unwritten refusal.Length) (written text)) good in
+    = writing-with kind subtype sheet out (le-ltb (length out) byteRoom room) p ∙ ap thenLength w ∙ ap (λ x. stop x (unwritten refusal.Length) (written text)) good in
     (ap writeAnswerBy e, ap (λ x. outBy x out) e)

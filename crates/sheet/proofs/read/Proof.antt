@@ -1,5 +1,6 @@
 -- The tests are those of `reading`, in its order.
-use Rattle.sheet.proofs.Reading.{read-room, read-unknown, read-length, read-known, good-short}
+use Rattle.sheet.proofs.Reading.{read-room, read-unknown, read-length, read-known}
+use Rattle.sheet.specs.Laws.{good-some}
 use mathlib.Core.Path.{sym, _∙_}
 use native.Mathlib.Omega.{arith}
 use borrow.Author.Needs.{needs}
@@ -30,7 +31,7 @@ returns-2 c =
 read-whole-requires : tie.Need-read-whole-requires
 read-whole-requires c κs =
     let b = c .before .before in
-    (good-short _ (sym (b .bad-length .ensures) ∙ c .before .if2 .left), omega (arith, b .before .before .before .before .before .if1 .left))
+    (good-some _ (sym (b .bad-length .ensures) ∙ c .before .if2 .left) .1, omega (arith, b .before .before .before .before .before .if1 .left))
 
 returns-3 : tie.Need-returns-3
 returns-3 c =
