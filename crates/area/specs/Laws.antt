@@ -78,11 +78,16 @@ bytes-number (x₀ ∷ x₁ ∷ x₂ ∷ x₃ ∷ x₄ ∷ x₅ ∷ s) b h e =
         let e₅ : n / 2 % 2 ^ 7 * 2 ≡ x₅ = omega arith in
         ap₂ (λ x l. x ∷ l) e₀ (ap₂ (λ x l. x ∷ l) e₁ (ap₂ (λ x l. x ∷ l) e₂ (ap₂ (λ x l. x ∷ l) e₃ (ap₂ (λ x l. x ∷ l) e₄ (ap (λ x. x ∷ []) e₅)))))
 
--- an area has 47 bits
-both-left : (a b : Bool) → (a && b) ≡ true → a ≡ true
+-- both of two tests hold
+pub both-left : (a b : Bool) → (a && b) ≡ true → a ≡ true
 both-left true b e = refl
 both-left false b e = e
 
+pub both-right : (a b : Bool) → (a && b) ≡ true → b ≡ true
+both-right true b e = e
+both-right false b e = absurd (false≢true e)
+
+-- an area has 47 bits
 pub area-lt : (a : ℕ) → isArea a ≡ true → a < 2 ^ 47
 unfolding isArea
 area-lt a e = ltb-true a (2 ^ 47) (both-left _ _ e)

@@ -10,7 +10,7 @@ use lib.Seq.{drop-drop, getD-drop}
 use borrow.Author.Tests.{lt-ltb, le-ltb, le-leb, lt-leb, leb-true, ltb-true, eq-eqb, ne-eqb, not-true, not-false}
 use Rattle.area.specs.Area.{sf031, isArea, numberIn, numberAt}
 use Rattle.book.specs.Book.{both, areaIn, areasIn, headSound, areasSound, sound, placeOf, found}
-use Rattle.book.specs.Laws.{Sound, sound-areas}
+use Rattle.book.specs.Laws.{Sound, head-parts, sound-head, sound-lists}
 use Rattle.book.specs.Judge.{Image}
 use Rattle.bits.specs.Bits.{Bytes}
 use Rattle.book.specs.declared.Book.{Book}
@@ -41,13 +41,7 @@ module _ (book : Book) where
       head-rest k = rw (ne-eqb _ _ some, ne-eqb _ _ h, le-leb _ _ k)
 
 pub head-count : (book : Book) (b : Bool) → b ≡ headSound book → not b ≡ false → book .count ≤ 32
-unfolding headSound
-head-count book b e k = leb-true _ _ (go (both (eqb (book .«aiou_plus_one») 0) (eqb (book .count) 0)) (leb (book .«aiou_plus_one») 16) _ (sym e ∙ not-false b k))
-  where
-    go : (a b c : Bool) → (a && (b && c)) ≡ true → c ≡ true
-    go true true c e = e
-    go true false c e = absurd (mathlib.Core.Bool.false≢true e)
-    go false b c e = absurd (mathlib.Core.Bool.false≢true e)
+head-count book b e k = head-parts book (sym e ∙ not-false b k) .1
 
 -- ---- the areas, one after the other
 
@@ -110,48 +104,29 @@ module _ (s : List ℕ) (n i least x d w : ℕ) (p : Judging s n i least) (h : i
 -- ---- the whole book
 
 module _ (book : Book) (s : List ℕ) where
-  pub sound-room : length s < 192 → false ≡ sound book s
+  pub sound-short : length s < 192 → false ≡ sound book s
   unfolding sound
-  sound-room h = rw (lt-leb 192 (length s) h)
+  sound-short h = rw (lt-leb 192 (length s) h)
 
   module _ (h : 192 ≤ length s) (b : Bool) (e : b ≡ headSound book) where
-    pub sound-head : not b ≡ true → false ≡ sound book s
+    pub sound-bare : not b ≡ true → false ≡ sound book s
     unfolding sound
-    sound-head k = let z : headSound book ≡ false = sym e ∙ not-true b k in rw (le-leb 192 (length s) h, z)
+    sound-bare k = let z : headSound book ≡ false = sym e ∙ not-true b k in rw (le-leb 192 (length s) h, z)
 
     pub sound-rest : not b ≡ false → (r : Bool) → r ≡ areasSound (book .count) 0 s → r ≡ sound book s
     unfolding sound
     sound-rest k r f = let z : headSound book ≡ true = sym e ∙ not-false b k in rw (le-leb 192 (length s) h, z) f
 
-both-left : (a b : Bool) → (a && b) ≡ true → a ≡ true
-both-left true b e = refl
-both-left false b e = e
-
-both-right : (a b : Bool) → (a && b) ≡ true → b ≡ true
-both-right true b e = e
-both-right false b e = absurd (mathlib.Core.Bool.false≢true e)
-
 -- what a sound book has
 module _ (book : Book) (s : List ℕ) (e : sound book s ≡ true) where
-  sound-parts : (headSound book ≡ true) × (areasSound (book .count) 0 s ≡ true) × (192 ≤ length s)
-  unfolding sound
-  sound-parts =
-      let r : (headSound book && areasSound (book .count) 0 s) ≡ true = both-right (leb 192 (length s)) _ e in
-      (both-left _ _ r, both-right (headSound book) _ r, leb-true _ _ (both-left (leb 192 (length s)) (headSound book && areasSound (book .count) 0 s) e))
-
   pub sound-count : book .count ≤ 32
-  sound-count = head-count book true (sym (sound-parts .0)) refl
+  sound-count = head-parts book (sound-head book s e) .1
 
   pub sound-aiou : book .«aiou_plus_one» ≤ 16
-  unfolding headSound
-  sound-aiou =
-      leb-true _ _ (both-left (leb (book .«aiou_plus_one») 16) (leb (book .count) 32)
-      (both-right (both (eqb (book .«aiou_plus_one») 0) (eqb (book .count) 0)) _ (sound-parts .0)))
+  sound-aiou = head-parts book (sound-head book s e) .0
 
   pub sound-image : Bytes s → Image (book .count) s
-  sound-image b =
-      let w : Sound (book .count) 0 s = sound-areas (book .count) 0 s b (omega (arith, sound-count, sound-parts .2)) (sound-parts .1) in
-      record { ascending = w .ascending; image = w .image }
+  sound-image b = let w : Sound (book .count) 0 s = sound-lists book s e b in record { ascending = w .ascending; image = w .image }
 
 -- ---- the place of an ID
 

@@ -1,7 +1,7 @@
 -- One lemma for each turn and each answer of the functions that take a GAD, in plain variables, premises worded as the code makes them. Assumes nothing.
 use mathlib.Core.Path.{_≡_, refl, ap, ap₂, sym, _∙_, subst}
 use mathlib.Core.Bool.{Bool, true, false, cond, not, _&&_}
-use mathlib.Core.List.{List, [], _∷_, _++_, append-assoc}
+use mathlib.Core.List.{List, [], _∷_, _++_, append-assoc, append-nil}
 use Prim.Native.Nat.{ℕ, zero, suc, _+_, _-_, _*_, _/_, _%_, _^_, _≤_, _<_}
 use native.Mathlib.Omega.{arith}
 use native.Mathlib.Numerals.{add-one}
@@ -17,7 +17,7 @@ use Rattle.area.specs.Laws.{number-bytes, half-number}
 use Rattle.book.specs.Book.{areasIn, bytesOfAll, sound}
 use Rattle.book.specs.Laws.{Ascending, length-areas, length-bytes, bytes-join, areas-bytes, small-at}
 use Rattle.book.specs.Take.{aiouOf, blockCount, blockAt, blocksFrom, blocksOf, cutShort, lookup, insert, Outcome, taken, refused, andThen, takeBlock, takeAll, before, outcome, answerOf, leftBy, takenOf, bytesAfter}
-use Rattle.book.specs.TakeLaws.{orElse, or-assoc, lookup-append, Took, took, lookup-block, length-insert, ascending-insert}
+use Rattle.book.specs.TakeLaws.{orElse, or-assoc, or-nothing, lookup-append, Took, took, lookup-block, length-insert, ascending-insert}
 use Rattle.book.specs.Judge.{judgedBy, isTaken, judgeFound, judgeBlock, judge-is, Image}
 use Rattle.book.specs.declared.Book.{Book}
 use Rattle.book.specs.declared.Found.{Found}
@@ -68,10 +68,6 @@ pub record JudgingBlocks (s p : List ℕ) (count n i held : ℕ) : Type 0 where
   pub many : length areas ≡ held
   pub looks : (id : ℕ) → lookup id areas ≡ orElse (lookup id (areasIn count s)) (lookup id (blocksFrom i 0 p))
 
-or-none : (f : Found) → f ≡ orElse f Nothing
-or-none (Area a) = refl
-or-none Nothing = refl
-
 pub judge-start : (s p : List ℕ) (count n : ℕ) → n ≡ blockCount p → JudgingBlocks s p count n 0 count
 unfolding blocksFrom lookup
 judge-start s p count n e =
@@ -80,7 +76,7 @@ judge-start s p count n e =
       inside = omega arith;
       ends = ap (λ k. takeAll (blocksFrom k 0 p) (areasIn count s)) {x = n - 0} {y = blockCount p} (omega arith);
       many = length-areas count s;
-      looks = λ id. or-none (lookup id (areasIn count s));
+      looks = λ id. sym (or-nothing (lookup id (areasIn count s)));
     }
 
 pub judge-end : (s p : List ℕ) (count n i held : ℕ) → JudgingBlocks s p count n i held → n ≤ i → Held held ≡ judgedBy (takeAll (blocksOf p) (areasIn count s))
@@ -142,18 +138,14 @@ carry-insert a (b ∷ l) least (Ascending.more h k p) = go (ltb (sf031 a) (sf031
     go true e f = ap (λ l. a ∷ l) e
     go false e f = ap (λ l. b ∷ l) f
 
-append-none : (l : List ℕ) → l ++ [] ≡ l
-append-none [] = refl
-append-none (x ∷ l) = ap (λ m. x ∷ m) (append-none l)
-
 bytes-snoc : (d t : List ℕ) (c : ℕ) → bytesOfAll d ++ (bytesOf c ++ t) ≡ bytesOfAll (d ++ (c ∷ [])) ++ t
 unfolding bytesOfAll
 bytes-snoc d t c =
     sym (append-assoc (bytesOfAll d) (bytesOf c) t)
-    ∙ ap (λ l. l ++ t) (sym (bytes-join d (c ∷ []) ∙ ap (λ l. bytesOfAll d ++ l) (append-none (bytesOf c))))
+    ∙ ap (λ l. l ++ t) (sym (bytes-join d (c ∷ []) ∙ ap (λ l. bytesOfAll d ++ l) (append-nil (bytesOf c))))
 
 -- six bytes put behind areas are one area more
-put-image : (d t b : List ℕ) (i c : ℕ) → b ≡ bytesOfAll d ++ t → length d ≡ i → 6 ≤ length t → putAt b (6 * i) c ≡ bytesOfAll (d ++ (c ∷ [])) ++ drop 6 t
+pub put-image : (d t b : List ℕ) (i c : ℕ) → b ≡ bytesOfAll d ++ t → length d ≡ i → 6 ≤ length t → putAt b (6 * i) c ≡ bytesOfAll (d ++ (c ∷ [])) ++ drop 6 t
 put-image d t b i c e f h =
     let n : length (bytesOfAll d) ≡ 6 * i = length-bytes d ∙ ap (λ k. 6 * k) f in
     let m : length b ≡ 6 * i + length t = ap length e ∙ length-append (bytesOfAll d) t ∙ ap (λ k. k + length t) n in

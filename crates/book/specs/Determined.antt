@@ -3,10 +3,13 @@ use mathlib.Core.Bool.{Bool}
 use mathlib.Core.Path.{_≡_, sym, _∙_}
 use mathlib.Core.List.{List}
 use Prim.Native.Nat.{ℕ}
-use Rattle.book.specs.Book.{sound, found}
+use Rattle.book.specs.Book.{headSound, sound, found}
 use Rattle.book.specs.Take.{takenOf, bytesAfter, numberOfTaken}
 use Rattle.book.specs.declared.Book.{Book}
 use Rattle.book.specs.declared.Taken.{Taken}
+
+pub head-is-sound-determined : (book : Book) (a b : Bool) → a ≡ headSound book → b ≡ headSound book → a ≡ b
+head-is-sound-determined book a b p q = p ∙ sym q
 
 pub is-sound-determined : (book : Book) (s : List ℕ) (a b : Bool) → a ≡ sound book s → b ≡ sound book s → a ≡ b
 is-sound-determined book s a b p q = p ∙ sym q

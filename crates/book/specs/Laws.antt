@@ -11,8 +11,9 @@ use borrow.Author.Tests.{lt-ltb, le-ltb, le-leb, leb-true, eq-eqb, eqb-true}
 use Rattle.bits.specs.Bits.{Bytes}
 use Rattle.bits.specs.Laws.{bytes-drop, bytes-append, bytes-none}
 use Rattle.area.specs.Area.{sf031, isArea, bytesOf, numberIn}
-use Rattle.area.specs.Laws.{bytes-area, number-bytes, bytes-number, area-lt, half-number}
-use Rattle.book.specs.Book.{areaIn, areasIn, bytesOfAll, areasSound}
+use Rattle.area.specs.Laws.{bytes-area, number-bytes, bytes-number, area-lt, half-number, both-left, both-right}
+use Rattle.book.specs.Book.{mostAreas, bookBytes, both, areaIn, areasIn, bytesOfAll, headSound, areasSound, sound}
+use Rattle.book.specs.declared.Book.{Book}
 
 -- ---- areas in a row
 
@@ -59,13 +60,12 @@ pub data Areas : List ℕ → Type 0 where
   none : Areas []
   more : {a : ℕ} {l : List ℕ} → isArea a ≡ true → Areas l → Areas (a ∷ l)
 
-both-left : (a b : Bool) → (a && b) ≡ true → a ≡ true
-both-left true b e = refl
-both-left false b e = e
-
-both-right : (a b : Bool) → (a && b) ≡ true → b ≡ true
-both-right true b e = e
-both-right false b e = absurd (false≢true e)
+-- a sound head says an AIOU of 15 at most, and at most so many areas
+pub head-parts : (book : Book) → headSound book ≡ true → (book .«aiou_plus_one» ≤ 16) × (book .count ≤ mostAreas)
+unfolding headSound
+head-parts book e =
+    let r : (leb (book .«aiou_plus_one») 16 && leb (book .count) mostAreas) ≡ true = both-right (both (eqb (book .«aiou_plus_one») 0) (eqb (book .count) 0)) _ e in
+    (leb-true _ _ (both-left (leb (book .«aiou_plus_one») 16) (leb (book .count) mostAreas) r), leb-true _ _ (both-right (leb (book .«aiou_plus_one») 16) (leb (book .count) mostAreas) r))
 
 -- sound bytes are those of areas, ascending
 pub record Sound (n least : ℕ) (s : List ℕ) : Type 0 where
@@ -91,6 +91,23 @@ sound-areas (suc n) least s b h e =
       image = ap (λ k. take k s) {x = 6 * suc n} {y = 6 + 6 * n} (omega arith) ∙ take-add 6 (6 * n) s
           ∙ ap₂ (λ x y. x ++ y) (sym (bytes-number s b (omega arith) (eqb-true _ _ even))) (rest .image);
     }
+
+-- what a sound book has
+module _ (book : Book) (s : List ℕ) (e : sound book s ≡ true) where
+  sound-rest : (headSound book && areasSound (book .count) 0 s) ≡ true
+  unfolding sound
+  sound-rest = both-right (leb bookBytes (length s)) (headSound book && areasSound (book .count) 0 s) e
+
+  pub sound-head : headSound book ≡ true
+  sound-head = both-left (headSound book) (areasSound (book .count) 0 s) sound-rest
+
+  pub sound-room : bookBytes ≤ length s
+  unfolding sound
+  sound-room = leb-true _ _ (both-left (leb bookBytes (length s)) (headSound book && areasSound (book .count) 0 s) e)
+
+  pub sound-lists : Bytes s → Sound (book .count) 0 s
+  sound-lists b =
+      sound-areas (book .count) 0 s b (omega (arith, head-parts book sound-head, sound-room)) (both-right (headSound book) (areasSound (book .count) 0 s) sound-rest)
 
 -- and bytes of areas, ascending, are sound
 pub areas-bytes : (l t : List ℕ) (least : ℕ) → Ascending least l → areasIn (length l) (bytesOfAll l ++ t) ≡ l

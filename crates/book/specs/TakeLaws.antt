@@ -28,7 +28,7 @@ pub or-assoc : (f g h : Found) → orElse (orElse f g) h ≡ orElse f (orElse g 
 or-assoc (Area a) g h = refl
 or-assoc Nothing g h = refl
 
-or-nothing : (f : Found) → orElse f Nothing ≡ f
+pub or-nothing : (f : Found) → orElse f Nothing ≡ f
 or-nothing (Area a) = refl
 or-nothing Nothing = refl
 
@@ -164,7 +164,7 @@ pub length-block : (a : ℕ) (l m : List ℕ) → Took a l m → length l ≤ mo
 length-block a l m (Took.held q e) p = p
 length-block a l m (Took.new q e k) p = omega (arith, length-insert a l)
 
-grows : (a : ℕ) (l m : List ℕ) → Took a l m → length l ≤ length m
+pub grows : (a : ℕ) (l m : List ℕ) → Took a l m → length l ≤ length m
 grows a l m (Took.held q e) = omega arith
 grows a l m (Took.new q e k) = omega (arith, length-insert a l)
 

@@ -12,7 +12,7 @@ use Rattle.area.specs.Area.{sf031, inRange, areaOff, isArea}
 use Rattle.book.specs.Book.{mostAreas, bookBytes, bytesOfAll, headSound, areasSound, sound}
 use Rattle.book.specs.Laws.{Ascending, Areas, length-bytes, sound-bytes}
 use Rattle.book.specs.Take.{aiouOf, blockCount, blockAt, blocksOf, blocksFrom, lookup, insert, taken, takeAll}
-use Rattle.book.specs.TakeLaws.{orElse, or-assoc, lookup-append, length-insert, areas-insert, Took, TookAll, took-all, lookup-block, ascending-block, length-block}
+use Rattle.book.specs.TakeLaws.{orElse, or-assoc, or-nothing, grows, lookup-append, length-insert, areas-insert, Took, TookAll, took-all, lookup-block, ascending-block, length-block}
 use Rattle.book.specs.declared.Book.{Book}
 use Rattle.book.specs.declared.Found.{Found}
 use Rattle.book.specs.declared.Found.the-variants.{Area, Nothing}
@@ -22,12 +22,8 @@ pub in-book : (blocks l n : List ℕ) → takeAll blocks l ≡ taken n → (id :
 unfolding lookup
 in-book blocks l n e id = go blocks l n (took-all blocks l n e)
   where
-    or-none : (f : Found) → f ≡ orElse f Nothing
-    or-none (Area a) = refl
-    or-none Nothing = refl
-
     go : (blocks l n : List ℕ) → TookAll blocks l n → lookup id n ≡ orElse (lookup id l) (lookup id blocks)
-    go [] l n TookAll.none = or-none (lookup id l)
+    go [] l n TookAll.none = sym (or-nothing (lookup id l))
     go (a ∷ rest) l n (TookAll.more {m = m} t ts) =
         go rest m n ts ∙ ap (λ f. orElse f (lookup id rest)) (lookup-block id a l m t) ∙ or-assoc (lookup id l) (lookup id (a ∷ [])) (lookup id rest)
         ∙ ap (orElse (lookup id l)) (sym (lookup-append id (a ∷ []) rest))
@@ -72,10 +68,6 @@ pub not-empty : (payload l n : List ℕ) → takeAll (blocksOf payload) l ≡ ta
 unfolding blocksFrom
 not-empty payload l n e = go (blockCount payload) 0 l n (omega arith) (took-all (blocksOf payload) l n e)
   where
-    grows : (a : ℕ) (l m : List ℕ) → Took a l m → length l ≤ length m
-    grows a l m (Took.held q e) = omega arith
-    grows a l m (Took.new q e k) = omega (arith, length-insert a l)
-
     all-grow : (blocks l n : List ℕ) → TookAll blocks l n → length l ≤ length n
     all-grow [] l n TookAll.none = omega arith
     all-grow (a ∷ rest) l n (TookAll.more {m = m} t ts) = omega (arith, grows a l m t, all-grow rest m n ts)

@@ -47,7 +47,8 @@ fn wide(x: u8) -> usize
     x as usize
 }
 
-fn head_is_sound(book: Book) -> bool
+// Whether AIOU and count are those of a sound book.
+pub fn head_is_sound(book: Book) -> bool
     ensures { λ r. ⌜ r ≡ headSound book ⌝ }
 {
     let aiou = book.aiou_plus_one;

@@ -1,18 +1,18 @@
 -- `is_sound`: the tests are those of `sound`, in its order.
 use native.Mathlib.Omega.{arith}
-use Rattle.book.proofs.Reading.{sound-room, sound-head, head-count, sound-rest}
+use Rattle.book.proofs.Reading.{sound-short, sound-bare, head-count, sound-rest}
 use borrow.Author.Needs.{needs}
 use Rattle.book.proofs.is_sound.Statement.{statement}
 use Rattle.book.proofs.is_sound.Tie as tie
 
 returns : tie.Need-returns
-returns c = search (sound-room, needs)
+returns c = search (sound-short, needs)
 
 head-is-sound-requires : tie.Need-head-is-sound-requires
 head-is-sound-requires c κs = search needs
 
 returns-2 : tie.Need-returns-2
-returns-2 c = search (sound-head, needs)
+returns-2 c = search (sound-bare, needs)
 
 areas-are-sound-requires : tie.Need-areas-are-sound-requires
 areas-are-sound-requires c κs = let n = head-count _ _ (c .before .head-is-sound .ensures) (c .if2 .left) in omega arith

@@ -1,0 +1,371 @@
+-- One lemma for each turn and each answer of the functions that read, in plain variables, premises worded as the code makes them. Assumes nothing.
+use mathlib.Core.Path.{_≡_, refl, ap, ap₂, sym, _∙_, subst}
+use mathlib.Core.Bool.{Bool, true, false, cond, not, _&&_}
+use mathlib.Core.List.{List, [], _∷_, _++_, append-assoc, append-nil}
+use Prim.Native.Nat.{ℕ, zero, suc, _+_, _-_, _*_, _^_, _≤_, _<_}
+use native.Mathlib.Omega.{arith}
+use lib.Dec.{leb, ltb, eqb}
+use lib.ListN.{length, take, drop, length-append, length-drop, drop-of-length-le}
+use lib.Seq.{take-all, drop-drop, drop-cons}
+use borrow.Author.Tests.{lt-ltb, le-ltb, lt-leb, le-leb, eq-eqb, ne-eqb, not-true, not-false}
+use Rattle.answer.specs.declared.Refusal.{Refusal}
+use Rattle.answer.specs.declared.Refusal.the-variants.{Room, Form, Leftover}
+use Rattle.area.specs.Area.{sf031, isArea, putAt}
+use Rattle.book.specs.Book.{bytesOfAll, headSound}
+use Rattle.book.specs.Laws.{length-bytes, head-parts}
+use Rattle.book.proofs.Taking.{put-image}
+use Rattle.book.specs.declared.Book.{Book}
+use Rattle.groups.specs.Groups.{readGroups}
+use Rattle.groups.specs.declared.Read.{Read}
+use Rattle.groups.specs.declared.Read.the-variants as reading
+use Rattle.kept.specs.Kept.{Said, said, refused, stop, behind, number, whole, not-kept, answerOf, leftBy, readKept, fits, withArea, readAreas, readCount, readAiou, readHead}
+use Rattle.kept.specs.Walk.{nextBy, nextOf, HeadIs, Areas, EndIs, storedBy, isSaid, step-on, step-off, read-le, next-le}
+use Rattle.kept.specs.declared.Next.{Next}
+use Rattle.kept.specs.declared.Next.the-variants as next
+use Rattle.kept.specs.declared.Head.{Head}
+use Rattle.kept.specs.declared.Head.the-variants as head
+use Rattle.kept.specs.declared.Ended.{Ended}
+use Rattle.kept.specs.declared.Ended.the-variants as ended
+use Rattle.kept.specs.declared.ReadKept.{ReadKept}
+use Rattle.kept.specs.declared.ReadKept.the-variants as answering
+
+-- ---- one number
+
+module _ (s : List ℕ) (at : ℕ) (h : at ≤ length s) (v : Read) (e : v ≡ readGroups (take (length s - at) (drop at s))) where
+  read-part : v ≡ readGroups (drop at s)
+  read-part = e ∙ ap readGroups (take-all (length s - at) (drop at s) (omega (arith, length-drop at s)))
+
+  pub behind-le : (x n : ℕ) → v ≡ reading.Number x n → at + n ≤ length s
+  behind-le x n q = omega (arith, read-le (drop at s) x n (sym read-part ∙ q), length-drop at s)
+
+  pub behind-number : (x n : ℕ) → v ≡ reading.Number x n → next.Number x (at + n) ≡ nextOf s at
+  unfolding nextOf
+  behind-number x n q = ap (λ r. nextBy r at) (sym q ∙ read-part)
+
+  pub behind-refused : (r : Refusal) → v ≡ reading.Refused r → next.Refused r ≡ nextOf s at
+  unfolding nextOf
+  behind-refused r q = ap (λ r. nextBy r at) (sym q ∙ read-part)
+
+-- ---- the head
+
+abbrev bookOf : ℕ → ℕ → Book
+bookOf aiou count = record { «aiou_plus_one» = aiou; count = count }
+
+module _ (s : List ℕ) (at : ℕ) (h : at ≤ length s) (v : Next) (e : v ≡ nextOf s at) where
+  pub count-refused : (aiou : ℕ) (r : Refusal) → v ≡ next.Refused r → readCount aiou (drop at s) ≡ refused r
+  unfolding readCount
+  count-refused aiou r q = step-off s at v e _ r q
+
+  pub aiou-refused : (r : Refusal) → v ≡ next.Refused r → readAiou (drop at s) ≡ refused r
+  unfolding readAiou
+  aiou-refused r q = step-off s at v e _ r q
+
+  module _ (x end : ℕ) (q : v ≡ next.Number x end) where
+    pub end-there : end ≤ length s
+    end-there = next-le s at v h e x end q
+
+    module _ (aiou : ℕ) (b : Bool) (eb : b ≡ headSound (record { «aiou_plus_one» = aiou; count = x })) where
+      pub count-unsound : not b ≡ true → readCount aiou (drop at s) ≡ refused Form
+      unfolding readCount
+      count-unsound k =
+          step-on s at v e (λ count s. stop (not (headSound (bookOf aiou count))) Form (said (bookOf aiou count) s)) x end q
+          ∙ ap (λ b. stop (not b) Form (said (bookOf aiou x) (drop end s))) (sym eb ∙ not-true b k)
+
+      pub count-sound : not b ≡ false → (readCount aiou (drop at s) ≡ said (record { «aiou_plus_one» = aiou; count = x }) (drop end s)) × (end ≤ length s)
+      unfolding readCount
+      count-sound k = (
+        step-on s at v e (λ count s. stop (not (headSound (bookOf aiou count))) Form (said (bookOf aiou count) s)) x end q
+            ∙ ap (λ b. stop (not b) Form (said (bookOf aiou x) (drop end s))) (sym eb ∙ not-false b k),
+        end-there,
+      )
+
+    pub aiou-over : 16 < x → readAiou (drop at s) ≡ refused Form
+    unfolding readAiou
+    aiou-over k =
+        step-on s at v e (λ aiou s. stop (ltb 16 aiou) Form (readCount aiou s)) x end q ∙ ap (λ b. stop b Form (readCount x (drop end s))) (lt-ltb 16 x k)
+
+    pub aiou-on : x ≤ 16 → (d : ℕ) → d ≡ x → (r : Head) → HeadIs s (readCount d (drop end s)) r → HeadIs s (readAiou (drop at s)) r
+    unfolding readAiou
+    aiou-on k d ed r p =
+        subst (λ o. HeadIs s o r)
+        (ap (λ d. readCount d (drop end s)) ed
+        ∙ sym (step-on s at v e (λ aiou s. stop (ltb 16 aiou) Form (readCount aiou s)) x end q ∙ ap (λ b. stop b Form (readCount x (drop end s))) (le-ltb 16 x k)))
+        p
+
+module _ (s : List ℕ) (v : Next) (e : v ≡ nextOf s 0) where
+  pub head-refused : (r : Refusal) → v ≡ next.Refused r → readHead s ≡ refused r
+  unfolding readHead
+  head-refused r q = step-off s 0 v e _ r q
+
+  module _ (x end : ℕ) (q : v ≡ next.Number x end) where
+    pub head-other : (x ≡ 1 → ⊥) → readHead s ≡ refused Form
+    unfolding readHead
+    head-other k =
+        step-on s 0 v e (λ f s. stop (not (eqb f 1)) Form (readAiou s)) x end q ∙ ap (λ b. stop (not b) Form (readAiou (drop end s))) (ne-eqb x 1 k)
+
+    pub head-on : x ≡ 1 → (r : Head) → HeadIs s (readAiou (drop end s)) r → HeadIs s (readHead s) r
+    unfolding readHead
+    head-on k r p =
+        subst (λ o. HeadIs s o r)
+        (sym (step-on s 0 v e (λ f s. stop (not (eqb f 1)) Form (readAiou s)) x end q ∙ ap (λ b. stop (not b) Form (readAiou (drop end s))) (eq-eqb x 1 k)))
+        p
+
+-- a head that is read is sound
+module _ (s : List ℕ) where
+  stopped : {A : Type 0} (b : Bool) (r : Refusal) (o : Said A) (x : A) (rest : List ℕ) → stop b r o ≡ said x rest → (b ≡ false) × (o ≡ said x rest)
+  stopped true r o x rest e = let w : _≡_ {A = ℕ} 0 1 = cc in absurd (omega arith)
+  stopped false r o x rest e = (refl, e)
+
+count-head : (aiou : ℕ) (s : List ℕ) (book : Book) (rest : List ℕ) → readCount aiou s ≡ said book rest → headSound book ≡ true
+unfolding readCount
+count-head aiou s book rest = go (readGroups s)
+  where
+    go : (r : Read) → behind r s (λ count s. stop (not (headSound (bookOf aiou count))) Form (said (bookOf aiou count) s)) ≡ said book rest → headSound book ≡ true
+    go (reading.Refused r) e = let w : _≡_ {A = ℕ} 0 1 = cc in absurd (omega arith)
+    go (reading.Number x n) e =
+        let t = stopped s (not (headSound (bookOf aiou x))) Form (said (bookOf aiou x) (drop n s)) book rest e in
+        let z : bookOf aiou x ≡ book = said-value (t .1) in
+        ap headSound (sym z) ∙ not-false (headSound (bookOf aiou x)) (t .0)
+      where
+        said-value : {a b : Book} {u v : List ℕ} → _≡_ {A = Said Book} (said a u) (said b v) → a ≡ b
+        said-value q = cc
+
+head-sound : (s : List ℕ) (book : Book) (rest : List ℕ) → readHead s ≡ said book rest → headSound book ≡ true
+unfolding readHead readAiou
+head-sound s book rest = go (readGroups s)
+  where
+    aiou : (s : List ℕ) (r : Read) → behind r s (λ aiou s. stop (ltb 16 aiou) Form (readCount aiou s)) ≡ said book rest → headSound book ≡ true
+    aiou s (reading.Refused r) e = let w : _≡_ {A = ℕ} 0 1 = cc in absurd (omega arith)
+    aiou s (reading.Number x n) e = count-head x (drop n s) book rest (stopped s (ltb 16 x) Form (readCount x (drop n s)) book rest e .1)
+
+    go : (r : Read) → behind r s (λ f s. stop (not (eqb f 1)) Form (readAiou s)) ≡ said book rest → headSound book ≡ true
+    go (reading.Refused r) e = let w : _≡_ {A = ℕ} 0 1 = cc in absurd (omega arith)
+    go (reading.Number x n) e = aiou (drop n s) (readGroups (drop n s)) (stopped s (not (eqb x 1)) Form (readAiou (drop n s)) book rest e .1)
+
+-- ---- an area
+
+module _ (others least a d w : ℕ) (ed : d ≡ sf031 a) (ew : w ≡ d) where
+  pub fits-low : w < least → false ≡ fits others least a
+  fits-low h = let z : leb least (sf031 a) ≡ false = lt-leb _ _ (subst (λ w. w < least) (ew ∙ ed) h) in rw z
+
+  module _ (h : least ≤ w) where
+    pub fits-high : 255 < w + others → false ≡ fits others least a
+    fits-high k =
+        let z : leb least (sf031 a) ≡ true = le-leb _ _ (subst (λ w. least ≤ w) (ew ∙ ed) h) in
+        let y : leb (sf031 a + others) 255 ≡ false = lt-leb _ _ (subst (λ w. 255 < w + others) (ew ∙ ed) k) in rw (z, y)
+
+    pub fits-rest : w + others ≤ 255 → (b : Bool) → b ≡ isArea a → b ≡ fits others least a
+    fits-rest k b e =
+        let z : leb least (sf031 a) ≡ true = le-leb _ _ (subst (λ w. least ≤ w) (ew ∙ ed) h) in
+        let y : leb (sf031 a + others) 255 ≡ true = le-leb _ _ (subst (λ w. w + others ≤ 255) (ew ∙ ed) k) in rw (z, y) e
+
+-- ---- the areas
+
+-- areas were read, and these bytes are left
+pub record IsSaid (o : Said (List ℕ)) (rest : List ℕ) : Type 0 where
+  pub list : List ℕ
+  pub is : o ≡ said list rest
+
+-- what is still to be read decides what all is
+pub record Walking (s : List ℕ) (n at i least end : ℕ) : Type 0 where
+  pub inside : i ≤ n
+  pub there : end ≤ length s
+  pub small : least ≤ 256
+  pub off : (r : Refusal) → readAreas (n - i) least (drop end s) ≡ refused r → readAreas n 0 (drop at s) ≡ refused r
+  pub on : (l rest : List ℕ) → readAreas (n - i) least (drop end s) ≡ said l rest → IsSaid (readAreas n 0 (drop at s)) rest
+
+pub walk-start : (s : List ℕ) (n at : ℕ) → at ≤ length s → Walking s n at 0 0 at
+walk-start s n at h =
+    let e : readAreas (n - 0) 0 (drop at s) ≡ readAreas n 0 (drop at s) = ap (λ k. readAreas k 0 (drop at s)) {x = n - 0} {y = n} (omega arith) in
+    record { inside = omega arith; there = h; small = omega arith; off = λ r q. sym e ∙ q; on = λ l rest q. record { list = l; is = sym e ∙ q } }
+
+pub walk-end : (s : List ℕ) (n at i least end : ℕ) → Walking s n at i least end → n ≤ i → Areas s (readAreas n 0 (drop at s)) end
+unfolding readAreas
+walk-end s n at i least end p h =
+    let e : n - i ≡ 0 = omega arith in
+    let w : IsSaid (readAreas n 0 (drop at s)) (drop end s) = p .on [] (drop end s) (ap (λ k. readAreas k least (drop end s)) e) in
+    record { list = w .list; is = w .is; there = p .there }
+
+module _ (s : List ℕ) (n at i least end : ℕ) (p : Walking s n at i least end) (h : i < n) (v : Next) (e : v ≡ nextOf s end) where
+  first : readAreas (n - i) least (drop end s) ≡ number (drop end s) (λ a rest. stop (not (fits (n - i - 1) least a)) Form (withArea a (readAreas (n - (i + 1)) (suc (sf031 a)) rest)))
+  unfolding readAreas
+  first =
+      let m : n - i - 1 ≡ n - (i + 1) = omega arith in
+      ap (λ k. readAreas k least (drop end s)) {x = n - i} {y = suc (n - (i + 1))} (omega arith)
+      ∙ ap (λ m. number (drop end s) (λ a rest. stop (not (fits m least a)) Form (withArea a (readAreas (n - (i + 1)) (suc (sf031 a)) rest)))) (sym m)
+
+  pub walk-refused : (r : Refusal) → v ≡ next.Refused r → readAreas n 0 (drop at s) ≡ refused r
+  walk-refused r q = p .off r (first ∙ step-off s end v e _ r q)
+
+  module _ (x to : ℕ) (q : v ≡ next.Number x to) (b : Bool) (eb : b ≡ fits (n - i - 1) least x) where
+    one : readAreas (n - i) least (drop end s) ≡ stop (not b) Form (withArea x (readAreas (n - (i + 1)) (suc (sf031 x)) (drop to s)))
+    one =
+        first ∙ step-on s end v e (λ a rest. stop (not (fits (n - i - 1) least a)) Form (withArea a (readAreas (n - (i + 1)) (suc (sf031 a)) rest))) x to q
+        ∙ ap (λ b. stop (not b) Form (withArea x (readAreas (n - (i + 1)) (suc (sf031 x)) (drop to s)))) (sym eb)
+
+    pub walk-form : not b ≡ true → readAreas n 0 (drop at s) ≡ refused Form
+    walk-form k = p .off Form (one ∙ ap (λ b. stop b Form (withArea x (readAreas (n - (i + 1)) (suc (sf031 x)) (drop to s)))) k)
+
+    pub walk-turn : not b ≡ false → (d w : ℕ) → d ≡ sf031 x → w ≡ d → w < 256 → Walking s n at (i + 1) (w + 1) to
+    walk-turn k d w ed ew small =
+        let same : suc (sf031 x) ≡ w + 1 = ap suc (sym (ew ∙ ed)) ∙ omega arith in
+        let all : readAreas (n - i) least (drop end s) ≡ withArea x (readAreas (n - (i + 1)) (w + 1) (drop to s))
+        = one ∙ ap (λ b. stop b Form (withArea x (readAreas (n - (i + 1)) (suc (sf031 x)) (drop to s)))) k
+        ∙ ap (λ j. withArea x (readAreas (n - (i + 1)) j (drop to s))) same in
+        record {
+          inside = omega arith;
+          there = next-le s end v (p .there) e x to q;
+          small = omega arith;
+          off = λ r z. p .off r (all ∙ ap (withArea x) z);
+          on = λ l rest z. p .on (x ∷ l) rest (all ∙ ap (withArea x) z);
+        }
+
+-- ---- storing
+
+-- areas were read, and something is left
+pub record SaidAll (o : Said (List ℕ)) : Type 0 where
+  pub list : List ℕ
+  pub rest : List ℕ
+  pub is : o ≡ said list rest
+
+said-some : (o : Said (List ℕ)) → isSaid o ≡ true → SaidAll o
+said-some (said l rest) e = record { list = l; rest = rest; is = refl }
+said-some (refused r) e = absurd (mathlib.Core.Bool.false≢true e)
+
+-- the areas before the i-th lie in the bytes, and those from it on are to be read
+pub record Storing (s bytes₀ : List ℕ) (n at i end : ℕ) (bytes : List ℕ) : Type 0 where
+  pub least : ℕ
+  pub all : SaidAll (readAreas n 0 (drop at s))
+  pub down : List ℕ
+  pub left : List ℕ
+  pub inside : i ≤ n
+  pub there : end ≤ length s
+  pub reads : readAreas (n - i) least (drop end s) ≡ said left (all .rest)
+  pub whole : down ++ left ≡ all .list
+  pub many : length down ≡ i
+  pub stored : bytes ≡ bytesOfAll down ++ drop (6 * i) bytes₀
+
+pub store-start : (s bytes : List ℕ) (n at : ℕ) → at ≤ length s → isSaid (readAreas n 0 (drop at s)) ≡ true → Storing s bytes n at 0 at bytes
+unfolding bytesOfAll
+store-start s bytes n at h e =
+    let w : SaidAll (readAreas n 0 (drop at s)) = said-some _ e in
+    record {
+      least = 0;
+      all = w;
+      down = [];
+      left = w .list;
+      inside = omega arith;
+      there = h;
+      reads = ap (λ k. readAreas k 0 (drop at s)) {x = n - 0} {y = n} (omega arith) ∙ w .is;
+      whole = refl;
+      many = refl;
+      stored = refl;
+    }
+
+said-list : (l m : List ℕ) (r t : List ℕ) → _≡_ {A = Said (List ℕ)} (said l r) (said m t) → l ≡ m
+said-list l m r t e = cc
+
+module _ (s bytes₀ : List ℕ) (n at i end : ℕ) (bytes : List ℕ) (fits₀ : 6 * n ≤ length bytes₀) (p : Storing s bytes₀ n at i end bytes) where
+  pub store-length : length bytes ≡ length bytes₀
+  store-length =
+      ap length (p .stored) ∙ length-append (bytesOfAll (p .down)) (drop (6 * i) bytes₀)
+      ∙ omega (arith, length-bytes (p .down), p .many, p .inside, length-drop (6 * i) bytes₀)
+
+  pub store-end : n ≤ i → bytes ≡ storedBy (readAreas n 0 (drop at s)) bytes₀
+  unfolding readAreas
+  store-end h =
+      let e : n - i ≡ 0 = omega arith in
+      let none : [] ≡ p .left = said-list [] (p .left) (drop end s) (p .all .rest) (ap (λ k. readAreas k (p .least) (drop end s)) (sym e) ∙ p .reads) in
+      let l : p .down ≡ p .all .list = sym (append-nil (p .down)) ∙ ap (λ z. p .down ++ z) none ∙ p .whole in
+      p .stored ∙ ap₂ (λ d k. bytesOfAll d ++ drop (6 * k) bytes₀) l (sym (p .many) ∙ ap length l)
+      ∙ ap (λ o. storedBy o bytes₀) (sym (p .all .is))
+
+  module _ (h : i < n) (v : Next) (e : v ≡ nextOf s end) where
+    opened : number (drop end s) (λ a rest. stop (not (fits (n - (i + 1)) (p .least) a)) Form (withArea a (readAreas (n - (i + 1)) (suc (sf031 a)) rest))) ≡ said (p .left) (p .all .rest)
+    unfolding readAreas
+    opened = ap (λ k. readAreas k (p .least) (drop end s)) {x = suc (n - (i + 1))} {y = n - i} (omega arith) ∙ p .reads
+
+    pub store-never : (r : Refusal) → v ≡ next.Refused r → ⊥
+    store-never r q = let z : refused r ≡ said (p .left) (p .all .rest) = sym (step-off s end v e _ r q) ∙ opened in let w : _≡_ {A = ℕ} 0 1 = cc in omega arith
+
+    pub store-turn : (x to : ℕ) → v ≡ next.Number x to → (z : List ℕ) → z ≡ putAt bytes (6 * i) x → Storing s bytes₀ n at (i + 1) to z
+    store-turn x to q z ez =
+        go (not (fits (n - (i + 1)) (p .least) x)) (readAreas (n - (i + 1)) (suc (sf031 x)) (drop to s)) refl
+        (sym (step-on s end v e (λ a rest. stop (not (fits (n - (i + 1)) (p .least) a)) Form (withArea a (readAreas (n - (i + 1)) (suc (sf031 a)) rest))) x to q) ∙ opened)
+      where
+        go : (b : Bool) (o : Said (List ℕ)) → readAreas (n - (i + 1)) (suc (sf031 x)) (drop to s) ≡ o → stop b Form (withArea x o) ≡ said (p .left) (p .all .rest) → Storing s bytes₀ n at (i + 1) to z
+        go true o y w = let w′ : _≡_ {A = ℕ} 0 1 = cc in absurd (omega arith)
+        go false (refused r) y w = let w′ : _≡_ {A = ℕ} 0 1 = cc in absurd (omega arith)
+        go false (said l rest) y w =
+            let el : x ∷ l ≡ p .left = cc in
+            let er : rest ≡ p .all .rest = cc in
+            record {
+              least = suc (sf031 x);
+              all = p .all;
+              down = p .down ++ (x ∷ []);
+              left = l;
+              inside = omega arith;
+              there = next-le s end v (p .there) e x to q;
+              reads = y ∙ ap (said l) er;
+              whole = append-assoc (p .down) (x ∷ []) l ∙ ap (λ z. p .down ++ z) el ∙ p .whole;
+              many = length-append (p .down) (x ∷ []) ∙ ap (λ k. k + 1) (p .many);
+              stored = ez ∙ put-image (p .down) (drop (6 * i) bytes₀) bytes i x (p .stored) (p .many) (omega (arith, length-drop (6 * i) bytes₀))
+                  ∙ ap (λ t. bytesOfAll (p .down ++ (x ∷ [])) ++ t) (drop-drop 6 (6 * i) bytes₀ ∙ ap (λ k. drop k bytes₀) {x = 6 * i + 6} {y = 6 * (i + 1)} (omega arith));
+            }
+
+-- ---- the whole book
+
+module _ (s bytes : List ℕ) (book : Book) (at : ℕ) (v : Ended) (p : EndIs s (readAreas (book .count) 0 (drop at s)) v) where
+  pub areas-refused : (r : Refusal) → v ≡ ended.Refused r → (answering.Refused r ≡ answerOf (whole book (readAreas (book .count) 0 (drop at s)))) × (bytes ≡ leftBy (whole book (readAreas (book .count) 0 (drop at s))) bytes)
+  areas-refused r q =
+      let o : readAreas (book .count) 0 (drop at s) ≡ refused r = subst (λ v. EndIs s (readAreas (book .count) 0 (drop at s)) v) q p in
+      (ap (λ o. answerOf (whole book o)) (sym o), ap (λ o. leftBy (whole book o) bytes) (sym o))
+
+  module _ (end : ℕ) (q : v ≡ ended.At end) where
+    areas-end : Areas s (readAreas (book .count) 0 (drop at s)) end
+    areas-end = subst (λ v. EndIs s (readAreas (book .count) 0 (drop at s)) v) q p
+
+    pub areas-said : isSaid (readAreas (book .count) 0 (drop at s)) ≡ true
+    areas-said = ap isSaid (areas-end .is)
+
+    pub areas-left : end < length s → (answering.Refused Leftover ≡ answerOf (whole book (readAreas (book .count) 0 (drop at s)))) × (bytes ≡ leftBy (whole book (readAreas (book .count) 0 (drop at s))) bytes)
+    areas-left h =
+        let o : whole book (readAreas (book .count) 0 (drop at s)) ≡ not-kept Leftover
+        = ap (whole book) (areas-end .is ∙ ap (said (areas-end .list)) (drop-cons s end 0 h)) in
+        (ap answerOf (sym o), ap (λ o. leftBy o bytes) (sym o))
+
+    pub areas-whole : length s ≤ end → (z : List ℕ) → z ≡ storedBy (readAreas (book .count) 0 (drop at s)) bytes
+        → (answering.Holds book ≡ answerOf (whole book (readAreas (book .count) 0 (drop at s)))) × (z ≡ leftBy (whole book (readAreas (book .count) 0 (drop at s))) bytes)
+    areas-whole h z ez =
+        let o : readAreas (book .count) 0 (drop at s) ≡ said (areas-end .list) [] = areas-end .is ∙ ap (said (areas-end .list)) (drop-of-length-le s {i = end} h) in
+        (ap (λ o. answerOf (whole book o)) (sym o), ez ∙ ap (λ o. storedBy o bytes) o ∙ ap (λ o. leftBy (whole book o) bytes) (sym o))
+
+module _ (s bytes : List ℕ) where
+  pub kept-room : length bytes < 192 → (answering.Refused Room ≡ answerOf (readKept s bytes)) × (bytes ≡ leftBy (readKept s bytes) bytes)
+  unfolding readKept
+  kept-room h = let z : ltb (length bytes) 192 ≡ true = lt-ltb _ _ h in (rw z, rw z)
+
+  module _ (h : 192 ≤ length bytes) (v : Head) (p : HeadIs s (readHead s) v) where
+    pub kept-refused : (r : Refusal) → v ≡ head.Refused r → (answering.Refused r ≡ answerOf (readKept s bytes)) × (bytes ≡ leftBy (readKept s bytes) bytes)
+    unfolding readKept
+    kept-refused r q =
+        let z : ltb (length bytes) 192 ≡ false = le-ltb _ _ h in
+        let o : readHead s ≡ refused r = subst (λ v. HeadIs s (readHead s) v) q p in
+        (rw (z, o), rw (z, o))
+
+    module _ (book : Book) (at : ℕ) (q : v ≡ head.Is book at) where
+      pub kept-at : at ≤ length s
+      kept-at = subst (λ v. HeadIs s (readHead s) v) q p .1
+
+      head-is : readHead s ≡ said book (drop at s)
+      head-is = subst (λ v. HeadIs s (readHead s) v) q p .0
+
+      pub kept-count : book .count ≤ 32
+      kept-count = head-parts book (head-sound s book (drop at s) head-is) .1
+
+      pub kept-on : (r : ReadKept) (z : List ℕ) → r ≡ answerOf (whole book (readAreas (book .count) 0 (drop at s))) → z ≡ leftBy (whole book (readAreas (book .count) 0 (drop at s))) bytes
+          → (r ≡ answerOf (readKept s bytes)) × (z ≡ leftBy (readKept s bytes) bytes)
+      unfolding readKept
+      kept-on r z er ez =
+          let y : ltb (length bytes) 192 ≡ false = le-ltb _ _ h in
+          (rw (y, head-is) er, rw (y, head-is) ez)

@@ -1,0 +1,34 @@
+-- Serves readers, and is proved by computing: "Empty book: 1, 0, 0", and what is not one.
+use mathlib.Core.Path.{_≡_, refl}
+use mathlib.Core.List.{List, [], _∷_}
+use Prim.Native.Nat.{ℕ}
+use Rattle.answer.specs.declared.Refusal.the-variants.{Short, Form, Leftover}
+use Rattle.book.specs.Book.{headSound}
+use Rattle.book.specs.declared.Book.{Book}
+use Rattle.groups.specs.Groups.{groups, groupsOf, groupsOfAll, size, value, readGroups}
+use Rattle.kept.specs.Kept.{keptOf, Outcome, kept, not-kept, readCount, readAiou, readHead, readAreas, bookOf}
+
+abbrev empty : Book
+empty = record { «aiou_plus_one» = 0; count = 0 }
+
+pub empty-book : keptOf empty [] ≡ 1 ∷ 0 ∷ 0 ∷ []
+unfolding keptOf groups groupsOf groupsOfAll
+empty-book = refl
+
+pub empty-read : bookOf (readHead (1 ∷ 0 ∷ 0 ∷ [])) ≡ kept empty []
+unfolding readHead readAiou readCount readAreas readGroups size value headSound
+empty-read = refl
+
+pub leftover : bookOf (readHead (1 ∷ 0 ∷ 0 ∷ 0 ∷ [])) ≡ not-kept Leftover
+unfolding readHead readAiou readCount readAreas readGroups size value headSound
+leftover = refl
+
+-- no area without an AIOU
+pub bare : bookOf (readHead (1 ∷ 0 ∷ 1 ∷ [])) ≡ not-kept Form
+unfolding readHead readAiou readCount readAreas readGroups size value headSound
+bare = refl
+
+-- a count that does not end
+pub short : bookOf (readHead (1 ∷ 0 ∷ 128 ∷ [])) ≡ not-kept Short
+unfolding readHead readAiou readCount readAreas readGroups size value headSound
+short = refl

@@ -1,0 +1,127 @@
+-- Document 01, "Log and kept book": the kept book. Definitions to believe.
+use mathlib.Core.Bool.{Bool, true, false, cond, not, _&&_, _||_}
+use mathlib.Core.List.{List, [], _∷_, _++_}
+use Prim.Native.Nat.{ℕ, zero, suc, _+_, _*_}
+use lib.Dec.{leb, ltb, eqb}
+use lib.ListN.{length, drop}
+use Rattle.answer.specs.Number.{numberOf}
+use Rattle.answer.specs.declared.Refusal.{Refusal}
+use Rattle.answer.specs.declared.Refusal.the-variants.{Room, State, Form, Leftover}
+use Rattle.area.specs.Area.{sf031, isArea}
+use Rattle.book.specs.Book.{mostAreas, bookBytes, areasIn, bytesOfAll, headSound, sound}
+use Rattle.book.specs.declared.Book.{Book}
+use Rattle.groups.specs.Groups.{groupsOfAll, readGroups}
+use Rattle.groups.specs.declared.Read.{Read}
+use Rattle.groups.specs.declared.Read.the-variants as reading
+use Rattle.kept.specs.declared.Written.{Written}
+use Rattle.kept.specs.declared.Written.the-variants as writing
+use Rattle.kept.specs.declared.ReadKept.{ReadKept}
+use Rattle.kept.specs.declared.ReadKept.the-variants as answering
+
+-- "form number 1", and "227 bytes" of room
+abbrev pub form : ℕ
+form = 1
+
+abbrev pub keptRoom : ℕ
+keptRoom = 227
+
+-- "Kept book: form number 1, AIOU + 1, count, areas as numbers, ascending. Empty book: 1, 0, 0."
+unfoldable pub keptOf : Book → List ℕ → List ℕ
+keptOf book areas = groupsOfAll (form ∷ book .«aiou_plus_one» ∷ book .count ∷ areas)
+
+abbrev pub keptBytes : Book → List ℕ → List ℕ
+keptBytes book s = keptOf book (areasIn (book .count) s)
+
+-- "Writing checks ROOM (227 bytes), STATE."
+abbrev pub noRoom : List ℕ → List ℕ → Bool
+noRoom s out = ltb (length s) bookBytes || ltb (length out) keptRoom
+
+unfoldable pub written : Book → List ℕ → List ℕ → Written
+written book s out =
+    cond (noRoom s out) (writing.Refused Room)
+    (cond (not (sound book s)) (writing.Refused State)
+    (writing.Bytes (length (keptBytes book s))))
+
+unfoldable pub outAfter : Book → List ℕ → List ℕ → List ℕ
+outAfter book s out =
+    cond (noRoom s out) out
+    (cond (not (sound book s)) out
+    (keptBytes book s ++ drop (length (keptBytes book s)) out))
+
+abbrev pub numberOfWritten : Written → ℕ
+numberOfWritten (writing.Bytes bytes) = 0
+numberOfWritten (writing.Refused refusal) = numberOf refusal
+
+-- ---- reading
+
+-- what some bytes say first, and the bytes behind it; or the refusal
+pub data Said (A : Type 0) : Type 0 where
+  said : (value : A) (rest : List ℕ) → Said A
+  refused : Refusal → Said A
+
+abbrev pub stop : {A : Type 0} → Bool → Refusal → Said A → Said A
+stop true r rest = refused r
+stop false r rest = rest
+
+-- the first number, and what is to be read behind it: "SHORT or FORM (a number not in shortest form, ..)"
+abbrev pub behind : {A : Type 0} → Read → List ℕ → (ℕ → List ℕ → Said A) → Said A
+behind (reading.Number x n) s next = next x (drop n s)
+behind (reading.Refused r) s next = refused r
+
+abbrev pub number : {A : Type 0} → List ℕ → (ℕ → List ℕ → Said A) → Said A
+number s next = behind (readGroups s) s next
+
+-- ".. or one after which no sound book can follow": an area with so many others behind it, whose ID is to be `least` or more
+abbrev pub fits : ℕ → ℕ → ℕ → Bool
+fits others least a = leb least (sf031 a) && (leb (sf031 a + others) 255 && isArea a)
+
+abbrev pub withArea : ℕ → Said (List ℕ) → Said (List ℕ)
+withArea a (said l rest) = said (a ∷ l) rest
+withArea a (refused r) = refused r
+
+unfoldable pub readAreas : ℕ → ℕ → List ℕ → Said (List ℕ)
+readAreas zero least s = said [] s
+readAreas (suc n) least s = number s (λ a rest. stop (not (fits n least a)) Form (withArea a (readAreas n (suc (sf031 a)) rest)))
+
+-- form number, AIOU + 1, count: the head of a sound book
+unfoldable pub readCount : ℕ → List ℕ → Said Book
+readCount aiou s =
+    number s (λ count s. stop (not (headSound (record { «aiou_plus_one» = aiou; count = count }))) Form
+    (said (record { «aiou_plus_one» = aiou; count = count }) s))
+
+unfoldable pub readAiou : List ℕ → Said Book
+readAiou s = number s (λ aiou s. stop (ltb 16 aiou) Form (readCount aiou s))
+
+unfoldable pub readHead : List ℕ → Said Book
+readHead s = number s (λ f s. stop (not (eqb f form)) Form (readAiou s))
+
+-- a book and its areas, and then LEFTOVER
+pub data Outcome : Type 0 where
+  kept : Book → List ℕ → Outcome
+  not-kept : Refusal → Outcome
+
+abbrev pub whole : Book → Said (List ℕ) → Outcome
+whole book (said l []) = kept book l
+whole book (said l (b ∷ rest)) = not-kept Leftover
+whole book (refused r) = not-kept r
+
+abbrev pub bookOf : Said Book → Outcome
+bookOf (said book s) = whole book (readAreas (book .count) 0 s)
+bookOf (refused r) = not-kept r
+
+-- "Reading checks ROOM, then the first fault in reading order, SHORT or FORM .., then LEFTOVER."
+unfoldable pub readKept : List ℕ → List ℕ → Outcome
+readKept s bytes = cond (ltb (length bytes) bookBytes) (not-kept Room) (bookOf (readHead s))
+
+-- what `read_kept` answers, and what it leaves of the lent bytes: six bytes an area
+abbrev pub answerOf : Outcome → ReadKept
+answerOf (kept book l) = answering.Holds book
+answerOf (not-kept r) = answering.Refused r
+
+abbrev pub leftBy : Outcome → List ℕ → List ℕ
+leftBy (kept book l) bytes = bytesOfAll l ++ drop (6 * length l) bytes
+leftBy (not-kept r) bytes = bytes
+
+abbrev pub numberOfRead : ReadKept → ℕ
+numberOfRead (answering.Holds book) = 0
+numberOfRead (answering.Refused refusal) = numberOf refusal

@@ -1,0 +1,165 @@
+-- The two round trips of the kept book: what is written reads back as that book, and what reads is, written again, the same bytes. Proved; assumes nothing.
+use mathlib.Core.Path.{_≡_, refl, ap, ap₂, sym, _∙_, subst}
+use mathlib.Core.Bool.{Bool, true, false, cond, not, _&&_, false≢true}
+use mathlib.Core.List.{List, [], _∷_, _++_, append-assoc, append-nil}
+use Prim.Native.Nat.{ℕ, zero, suc, _+_, _-_, _*_, _^_, _≤_, _<_}
+use native.Mathlib.Omega.{arith}
+use lib.Dec.{leb, ltb, eqb}
+use lib.ListN.{length, drop}
+use lib.Seq.{drop-append-seam}
+use borrow.Author.Tests.{le-leb, le-ltb, not-false, eqb-true}
+use Rattle.answer.specs.declared.Refusal.{Refusal}
+use Rattle.answer.specs.declared.Refusal.the-variants.{Room, Form}
+use Rattle.bits.specs.Bits.{Bytes}
+use Rattle.bits.specs.Laws.{bytes-drop}
+use Rattle.area.specs.Area.{sf031, isArea}
+use Rattle.book.specs.Book.{bookBytes, areasIn, headSound, sound}
+use Rattle.book.specs.Laws.{Ascending, Areas, Sound, head-parts, sound-head, sound-lists, length-areas}
+use Rattle.book.specs.declared.Book.{Book}
+use Rattle.groups.specs.Groups.{groupsOf, groupsOfAll, readGroups}
+use Rattle.groups.specs.Laws.{read-written, written-read}
+use Rattle.groups.specs.declared.Read.{Read}
+use Rattle.groups.specs.declared.Read.the-variants as reading
+use Rattle.kept.specs.Kept.{form, keptOf, keptBytes, Said, said, refused, stop, behind, number, fits, withArea, readAreas, readCount, readAiou, readHead, Outcome, kept, not-kept, whole, bookOf, readKept}
+
+-- ---- written and read
+
+number-said : {A : Type 0} (x : ℕ) (t : List ℕ) (k : ℕ → List ℕ → Said A) → x < 2 ^ 64 → number (groupsOf x ++ t) k ≡ k x t
+number-said x t k h =
+    ap (λ r. behind r (groupsOf x ++ t) k) (read-written t x h) ∙ ap (k x) (drop-append-seam (groupsOf x) t)
+
+-- IDs are below 256, so that many areas leave room below
+ids-left : (l : List ℕ) (least : ℕ) → least ≤ 256 → Ascending least l → least + length l ≤ 256
+ids-left [] least h p = omega arith
+ids-left (a ∷ l) least h (Ascending.more k s p) = omega (arith, ids-left l (suc (sf031 a)) (omega arith) p)
+
+areas-read : (l t : List ℕ) (least : ℕ) → Ascending least l → Areas l → readAreas (length l) least (groupsOfAll l ++ t) ≡ said l t
+unfolding readAreas groupsOfAll
+areas-read [] t least p q = refl
+areas-read (a ∷ l) t least (Ascending.more k s p) (Areas.more g q) =
+    let next : ℕ → List ℕ → Said (List ℕ) = λ a rest. stop (not (fits (length l) least a)) Form (withArea a (readAreas (length l) (suc (sf031 a)) rest)) in
+    let low : leb least (sf031 a) ≡ true = le-leb _ _ k in
+    let high : leb (sf031 a + length l) 255 ≡ true = le-leb (sf031 a + length l) 255 (omega (arith, ids-left l (suc (sf031 a)) (omega arith) p)) in
+    let good : fits (length l) least a ≡ true = ap₂ (λ x y. x && y) low (ap₂ (λ x y. x && y) high g) in
+    ap (λ s. number s next) (append-assoc (groupsOf a) (groupsOfAll l) t)
+    ∙ number-said a (groupsOfAll l ++ t) next (omega arith)
+    ∙ ap (λ b. stop (not b) Form (withArea a (readAreas (length l) (suc (sf031 a)) (groupsOfAll l ++ t)))) good
+    ∙ ap (withArea a) (areas-read l t (suc (sf031 a)) p q)
+
+-- What is written reads back as that book: a sound head, and so many areas, ascending.
+pub written-reads : (book : Book) (l bytes : List ℕ) → bookBytes ≤ length bytes → headSound book ≡ true → length l ≡ book .count → Ascending 0 l → Areas l
+    → readKept (keptOf book l) bytes ≡ kept book l
+unfolding readKept readHead readAiou readCount keptOf groupsOfAll
+written-reads book l bytes h e n p q =
+    let parts = head-parts book e in
+    let t : List ℕ = groupsOfAll l in
+    let three : ℕ → List ℕ → Said Book
+    = λ count s. stop (not (headSound (record { «aiou_plus_one» = book .«aiou_plus_one»; count = count }))) Form (said (record { «aiou_plus_one» = book .«aiou_plus_one»; count = count }) s) in
+    let z : ltb (length bytes) 192 ≡ false = le-ltb _ _ h in
+    let y : ltb 16 (book .«aiou_plus_one») ≡ false = le-ltb 16 (book .«aiou_plus_one») (parts .0) in
+    let head : readHead (groupsOf 1 ++ (groupsOf (book .«aiou_plus_one») ++ (groupsOf (book .count) ++ t))) ≡ said book t
+    = number-said 1 (groupsOf (book .«aiou_plus_one») ++ (groupsOf (book .count) ++ t)) (λ f s. stop (not (eqb f form)) Form (readAiou s)) (omega arith)
+    ∙ number-said (book .«aiou_plus_one») (groupsOf (book .count) ++ t) (λ aiou s. stop (ltb 16 aiou) Form (readCount aiou s)) (omega arith)
+    ∙ ap (λ b. stop b Form (readCount (book .«aiou_plus_one») (groupsOf (book .count) ++ t))) y
+    ∙ number-said (book .count) t three (omega arith)
+    ∙ ap (λ b. stop (not b) Form (said book t)) e in
+    let areas : readAreas (book .count) 0 t ≡ said l []
+    = ap₂ (λ n t. readAreas n 0 t) (sym n) (sym (append-nil t)) ∙ areas-read l [] 0 p q in
+    rw z (ap bookOf head ∙ ap (whole book) areas)
+
+-- so for a sound book, whatever bytes it is read into
+pub sound-reads : (book : Book) (s bytes : List ℕ) → sound book s ≡ true → Bytes s → bookBytes ≤ length bytes
+    → readKept (keptBytes book s) bytes ≡ kept book (areasIn (book .count) s)
+sound-reads book s bytes e b h =
+    let w : Sound (book .count) 0 s = sound-lists book s e b in
+    written-reads book (areasIn (book .count) s) bytes h (sound-head book s e) (length-areas (book .count) s) (w .ascending) (w .areas)
+
+-- ---- read and written
+
+-- a number was read: the bytes begin with it
+pub record Begins {A : Type 0} (s : List ℕ) (k : ℕ → List ℕ → Said A) (v : A) (rest : List ℕ) : Type 0 where
+  pub x : ℕ
+  pub behind-it : List ℕ
+  pub is : s ≡ groupsOf x ++ behind-it
+  pub bytes : Bytes behind-it
+  pub reads : k x behind-it ≡ said v rest
+
+begins : {A : Type 0} (s : List ℕ) (k : ℕ → List ℕ → Said A) (v : A) (rest : List ℕ) → Bytes s → number s k ≡ said v rest → Begins s k v rest
+begins {A} s k v rest b = go (readGroups s) refl
+  where
+    go : (r : Read) → readGroups s ≡ r → behind r s k ≡ said v rest → Begins s k v rest
+    go (reading.Number x n) p e = record { x = x; behind-it = drop n s; is = written-read s x n b p; bytes = bytes-drop n b; reads = e }
+    go (reading.Refused r) p e = let w : _≡_ {A = ℕ} 0 1 = cc in absurd (omega arith)
+
+-- a test was passed
+passed : {A : Type 0} (b : Bool) (r : Refusal) (o : Said A) (v : A) (rest : List ℕ) → stop b r o ≡ said v rest → (b ≡ false) × (o ≡ said v rest)
+passed true r o v rest e = let w : _≡_ {A = ℕ} 0 1 = cc in absurd (omega arith)
+passed false r o v rest e = (refl, e)
+
+areas-written : (n least : ℕ) (s l rest : List ℕ) → Bytes s → readAreas n least s ≡ said l rest → s ≡ groupsOfAll l ++ rest
+unfolding readAreas groupsOfAll
+areas-written zero least s l rest b e =
+    let x : [] ≡ l = cc in
+    let y : s ≡ rest = cc in
+    ap₂ (λ l r. groupsOfAll l ++ r) x y
+areas-written (suc n) least s l rest b e =
+    let g : Begins s (λ a rest. stop (not (fits n least a)) Form (withArea a (readAreas n (suc (sf031 a)) rest))) l rest = begins s _ l rest b e in
+    g .is ∙ go (g .x) (g .behind-it) (readAreas n (suc (sf031 (g .x))) (g .behind-it)) refl
+    (passed (not (fits n least (g .x))) Form (withArea (g .x) (readAreas n (suc (sf031 (g .x))) (g .behind-it))) l rest (g .reads) .1)
+    (λ m q. areas-written n (suc (sf031 (g .x))) (g .behind-it) m rest (g .bytes) q)
+  where
+    go : (x : ℕ) (t : List ℕ) (o : Said (List ℕ)) → readAreas n (suc (sf031 x)) t ≡ o → withArea x o ≡ said l rest
+        → ((m : List ℕ) → readAreas n (suc (sf031 x)) t ≡ said m rest → t ≡ groupsOfAll m ++ rest) → groupsOf x ++ t ≡ groupsOfAll l ++ rest
+    go x t (refused r) p e ih = let w : _≡_ {A = ℕ} 0 1 = cc in absurd (omega arith)
+    go x t (said m u) p e ih =
+        let el : x ∷ m ≡ l = cc in
+        let er : u ≡ rest = cc in
+        ap (λ t. groupsOf x ++ t) (ih m (p ∙ ap (said m) er)) ∙ sym (append-assoc (groupsOf x) (groupsOfAll m) rest) ∙ ap (λ l. groupsOfAll l ++ rest) el
+
+count-written : (aiou : ℕ) (s : List ℕ) (book : Book) (rest : List ℕ) → Bytes s → readCount aiou s ≡ said book rest
+    → (s ≡ groupsOf (book .count) ++ rest) × (aiou ≡ book .«aiou_plus_one») × Bytes rest
+unfolding readCount
+count-written aiou s book rest b e =
+    let k : ℕ → List ℕ → Said Book
+    = λ count s. stop (not (headSound (record { «aiou_plus_one» = aiou; count = count }))) Form (said (record { «aiou_plus_one» = aiou; count = count }) s) in
+    let g : Begins s k book rest = begins s k book rest b e in
+    go (g .x) (g .behind-it) (g .is) (g .bytes) (passed (not (headSound (record { «aiou_plus_one» = aiou; count = g .x }))) Form _ book rest (g .reads) .1)
+  where
+    go : (x : ℕ) (t : List ℕ) → s ≡ groupsOf x ++ t → Bytes t → _≡_ {A = Said Book} (said (record { «aiou_plus_one» = aiou; count = x }) t) (said book rest)
+        → (s ≡ groupsOf (book .count) ++ rest) × (aiou ≡ book .«aiou_plus_one») × Bytes rest
+    go x t is bt q =
+        let eb : _≡_ {A = Book} (record { «aiou_plus_one» = aiou; count = x }) book = cc in
+        let er : t ≡ rest = cc in
+        (is ∙ ap₂ (λ n t. groupsOf n ++ t) (ap (λ (b : Book). b .count) eb) er, ap (λ (b : Book). b .«aiou_plus_one») eb, subst (λ t. Bytes t) er bt)
+
+-- What reads is, written again, the same bytes.
+pub read-writes : (s bytes : List ℕ) (book : Book) (l : List ℕ) → Bytes s → readKept s bytes ≡ kept book l → keptOf book l ≡ s
+unfolding readKept readHead readAiou keptOf groupsOfAll
+read-writes s bytes book l b e = room (ltb (length bytes) 192) e
+  where
+    areas : (n : ℕ) (t : List ℕ) (o : Said (List ℕ)) → readAreas n 0 t ≡ o → Bytes t → (bk : Book) → whole bk o ≡ kept book l → (bk ≡ book) × (t ≡ groupsOfAll l)
+    areas n t (said m []) p bt bk q =
+        let eb : bk ≡ book = cc in
+        let el : m ≡ l = cc in
+        (eb, areas-written n 0 t m [] bt p ∙ append-nil (groupsOfAll m) ∙ ap groupsOfAll el)
+    areas n t (said m (x ∷ u)) p bt bk q = let w : _≡_ {A = ℕ} 0 1 = cc in absurd (omega arith)
+    areas n t (refused r) p bt bk q = let w : _≡_ {A = ℕ} 0 1 = cc in absurd (omega arith)
+
+    found : (o : Said Book) → readHead s ≡ o → bookOf o ≡ kept book l → groupsOf 1 ++ (groupsOf (book .«aiou_plus_one») ++ (groupsOf (book .count) ++ groupsOfAll l)) ≡ s
+    found (refused r) p q = let w : _≡_ {A = ℕ} 0 1 = cc in absurd (omega arith)
+    found (said bk t) p q =
+        let g₁ : Begins s (λ f s. stop (not (eqb f form)) Form (readAiou s)) bk t = begins s (λ f s. stop (not (eqb f form)) Form (readAiou s)) bk t b p in
+        let w₁ = passed (not (eqb (g₁ .x) 1)) Form (readAiou (g₁ .behind-it)) bk t (g₁ .reads) in
+        let one : g₁ .x ≡ 1 = eqb-true (g₁ .x) 1 (not-false (eqb (g₁ .x) 1) (w₁ .0)) in
+        let g₂ : Begins (g₁ .behind-it) (λ aiou s. stop (ltb 16 aiou) Form (readCount aiou s)) bk t
+        = begins (g₁ .behind-it) (λ aiou s. stop (ltb 16 aiou) Form (readCount aiou s)) bk t (g₁ .bytes) (w₁ .1) in
+        let w₂ = passed (ltb 16 (g₂ .x)) Form (readCount (g₂ .x) (g₂ .behind-it)) bk t (g₂ .reads) in
+        let c = count-written (g₂ .x) (g₂ .behind-it) bk t (g₂ .bytes) (w₂ .1) in
+        let f = areas (bk .count) t (readAreas (bk .count) 0 t) refl (c .2) bk q in
+        sym (g₁ .is ∙ ap₂ (λ x u. groupsOf x ++ u) one (g₂ .is ∙ ap₂ (λ a u. groupsOf a ++ u) (c .1 ∙ ap (λ (b : Book). b .«aiou_plus_one») (f .0))
+        (c .0 ∙ ap₂ (λ n u. groupsOf n ++ u) (ap (λ (b : Book). b .count) (f .0)) (f .1))))
+
+    room : (z : Bool) → cond z (not-kept Room) (bookOf (readHead s)) ≡ kept book l
+        → groupsOf 1 ++ (groupsOf (book .«aiou_plus_one») ++ (groupsOf (book .count) ++ groupsOfAll l)) ≡ s
+    room true q = let w : _≡_ {A = ℕ} 0 1 = cc in absurd (omega arith)
+    room false q = found (readHead s) refl q

@@ -1,0 +1,87 @@
+-- Serves proofs, and is proved: what the functions that read answer, by places in the bytes. Assumes nothing.
+use mathlib.Core.Path.{_≡_, refl, ap, ap₂, sym, _∙_, subst}
+use mathlib.Core.List.{List, [], _∷_, _++_}
+use Prim.Native.Nat.{ℕ, zero, suc, _+_, _-_, _*_, _≤_, _<_}
+use native.Mathlib.Omega.{arith}
+use lib.ListN.{length, drop, length-drop}
+use lib.Seq.{drop-drop}
+use Rattle.answer.specs.declared.Refusal.{Refusal}
+use mathlib.Core.Bool.{Bool, true, false}
+use Rattle.book.specs.Book.{bytesOfAll}
+use Rattle.book.specs.declared.Book.{Book}
+use Rattle.groups.specs.Groups.{readGroups}
+use Rattle.groups.specs.Laws.{is-read, IsRead, size-le}
+use Rattle.groups.specs.declared.Read.{Read}
+use Rattle.groups.specs.declared.Read.the-variants as reading
+use Rattle.kept.specs.Kept.{Said, said, refused, behind, number}
+use Rattle.kept.specs.declared.Next.{Next}
+use Rattle.kept.specs.declared.Next.the-variants as next
+use Rattle.kept.specs.declared.Head.{Head}
+use Rattle.kept.specs.declared.Head.the-variants as head
+use Rattle.kept.specs.declared.Ended.{Ended}
+use Rattle.kept.specs.declared.Ended.the-variants as ended
+
+-- the number behind `at` bytes, and where it ends
+abbrev pub nextBy : Read → ℕ → Next
+nextBy (reading.Number x n) at = next.Number x (at + n)
+nextBy (reading.Refused r) at = next.Refused r
+
+unfoldable pub nextOf : List ℕ → ℕ → Next
+nextOf s at = nextBy (readGroups (drop at s)) at
+
+-- the head was read up to a place, or refused
+abbrev pub HeadIs : List ℕ → Said Book → Head → Type 0
+HeadIs s o (head.Is book at) = (o ≡ said book (drop at s)) × (at ≤ length s)
+HeadIs s o (head.Refused r) = o ≡ refused r
+
+-- areas were read up to a place
+pub record Areas (s : List ℕ) (o : Said (List ℕ)) (end : ℕ) : Type 0 where
+  pub list : List ℕ
+  pub is : o ≡ said list (drop end s)
+  pub there : end ≤ length s
+
+abbrev pub EndIs : List ℕ → Said (List ℕ) → Ended → Type 0
+EndIs s o (ended.At end) = Areas s o end
+EndIs s o (ended.Refused r) = o ≡ refused r
+
+-- what is to lie in the bytes
+abbrev pub storedBy : Said (List ℕ) → List ℕ → List ℕ
+storedBy (said l rest) bytes = bytesOfAll l ++ drop (6 * length l) bytes
+storedBy (refused r) bytes = bytes
+
+abbrev pub isSaid : Said (List ℕ) → Bool
+isSaid (said l rest) = true
+isSaid (refused r) = false
+
+module _ {A : Type 0} (s : List ℕ) (at : ℕ) (v : Next) (e : v ≡ nextOf s at) (k : ℕ → List ℕ → Said A) where
+  pub step-on : (x end : ℕ) → v ≡ next.Number x end → number (drop at s) k ≡ k x (drop end s)
+  unfolding nextOf
+  step-on x end q = go (readGroups (drop at s)) (sym e ∙ q)
+    where
+      go : (r : Read) → nextBy r at ≡ next.Number x end → behind r (drop at s) k ≡ k x (drop end s)
+      go (reading.Number y n) z =
+          let a : y ≡ x = cc in
+          let b : at + n ≡ end = cc in
+          ap₂ k a (drop-drop n at s ∙ ap (λ j. drop j s) b)
+      go (reading.Refused r) z = let w : _≡_ {A = ℕ} 0 1 = cc in absurd (omega arith)
+
+  pub step-off : (r : Refusal) → v ≡ next.Refused r → number (drop at s) k ≡ refused r
+  unfolding nextOf
+  step-off r q = go (readGroups (drop at s)) (sym e ∙ q)
+    where
+      go : (w : Read) → nextBy w at ≡ next.Refused r → behind w (drop at s) k ≡ refused r
+      go (reading.Number y n) z = let w : _≡_ {A = ℕ} 0 1 = cc in absurd (omega arith)
+      go (reading.Refused t) z = let w : t ≡ r = cc in ap refused w
+
+pub read-le : (s : List ℕ) (x n : ℕ) → readGroups s ≡ reading.Number x n → n ≤ length s
+read-le s x n e = subst (λ n. n ≤ length s) (is-read s x n e .is-size) (size-le s)
+
+pub next-le : (s : List ℕ) (at : ℕ) (v : Next) → at ≤ length s → v ≡ nextOf s at → (x end : ℕ) → v ≡ next.Number x end → end ≤ length s
+unfolding nextOf
+next-le s at v h e x end q = go (readGroups (drop at s)) refl (sym e ∙ q)
+  where
+    go : (r : Read) → readGroups (drop at s) ≡ r → nextBy r at ≡ next.Number x end → end ≤ length s
+    go (reading.Number y n) p z =
+        let b : at + n ≡ end = cc in
+        omega (arith, read-le (drop at s) y n p, length-drop at s)
+    go (reading.Refused r) p z = let w : _≡_ {A = ℕ} 0 1 = cc in absurd (omega arith)
