@@ -4,9 +4,6 @@ ghost use Rattle.gad.specs.Machine.{gadField, gadStep, blocksFrom};
 use layout::Field;
 use layout::up_to;
 
-// SF031, the ID of an area of HPAC and GAD.
-pub struct AreaId(pub u8);
-
 // What is known where a block begins: both issues of update, and the blocks after it.
 pub struct Head {
     pub siou: u64,
