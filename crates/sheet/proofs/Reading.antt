@@ -25,9 +25,9 @@ use Rattle.message.specs.declared.Start.{Start}
 use Rattle.message.specs.declared.Start.the-variants.{Known, Unknown}
 use Rattle.message.specs.Machine.{fieldOf, stepOf, startOf, Starts, known, unknown, starts}
 use Rattle.message.specs.Messages.{Message, layoutFor}
-use Rattle.sheet.specs.Sheet.{entryRoom, byteRoom, badLength, reading, readAnswerBy, sheetBy, readAnswer, sheetAfter}
-use Rattle.sheet.specs.Laws.{reading-with}
-use Rattle.sheet.specs.Passes.{ForLayout, endedBy, entriesOf, ReadPass, ReadWhole}
+use Rattle.sheet.specs.Sheet.{entryRoom, byteRoom, badLength, judging, judged, reading, readAnswerBy, sheetBy, readAnswer, sheetAfter}
+use Rattle.sheet.specs.Laws.{judging-with, reading-with}
+use Rattle.sheet.specs.Passes.{ForLayout, endedBy, entriesOf, ReadPass, entriesRead, ReadJudged, ReadWhole}
 use Rattle.sheet.specs.declared.ReadAnswer.{ReadAnswer}
 use Rattle.sheet.specs.declared.ReadAnswer.the-variants as reader
 use Rattle.sheet.specs.declared.Pass.{Pass}
@@ -135,44 +135,65 @@ pub nothing : (l : List ℕ) → length l ≡ 0 → l ≡ []
 nothing [] h = refl
 nothing (x ∷ l) h = absurd (omega arith)
 
-fault-read : (o : Outcome Message) (why : Refusal) (sheet : List ℕ) → stopped why ≡ endedOf o 0 0 []
-    → (reader.Refused why ≡ readAnswerBy o) × (sheet ≡ sheetBy o sheet)
-fault-read (accepted v cs n) why sheet e = let z : _≡_ {A = ℕ} 0 1 = cc in absurd (omega arith)
-fault-read (refused why') why sheet e = (cc, refl)
+-- what a first pass says is the answer
+judged-fault : (o : Outcome Message) (why : Refusal) → stopped why ≡ endedOf o 0 0 [] → reader.Refused why ≡ readAnswerBy o
+judged-fault (accepted v cs n) why e = let z : _≡_ {A = ℕ} 0 1 = cc in absurd (omega arith)
+judged-fault (refused why') why e = cc
 
-pub whole-fault : {payload sheet : List ℕ} {start : State} (dry : Pass) (none : List ℕ) (why : Refusal) → length none ≡ 0
-    → ReadPass payload [] start dry none → dry ≡ Fault why → ReadWhole payload sheet start (reader.Refused why) (none ++ sheet)
-whole-fault {payload} {sheet} {start} dry none why empty p e =
-    let n : none ≡ [] = nothing none empty in
-    let go : ForLayout start (λ l. (reader.Refused why ≡ readAnswerBy (readL l (toBits payload))) × (sheet ≡ sheetBy (readL l (toBits payload)) sheet))
-    = λ l w. fault-read (readL l (toBits payload)) why sheet (ap (λ x. endedBy x none) (sym e) ∙ p .ends l w ∙ run-reads l (toBits payload) 0 0 []) in
-    record {
-      answers = λ l w. go l w .0;
-      leaves = λ l w. ap (λ x. x ++ sheet) n ∙ go l w .1;
-    }
-
-stored-read : (o : Outcome Message) (entries bits : ℕ) (none : List ℕ) (pass : Pass) (sheet sheet' : List ℕ) → entries ≤ length sheet
-    → finished entries bits none ≡ endedOf o 0 0 [] → endedBy pass sheet' ≡ endedOf o 0 0 sheet
-    → (reader.Read bits entries ≡ readAnswerBy o) × (sheet' ≡ sheetBy o sheet)
-stored-read (accepted v cs n) entries bits none (Whole entries' bits') sheet sheet' h p q =
+judged-whole : (o : Outcome Message) (entries bits : ℕ) (none : List ℕ) → finished entries bits none ≡ endedOf o 0 0 [] → reader.Read bits entries ≡ readAnswerBy o
+judged-whole (accepted v cs n) entries bits none e =
     let a : entries ≡ 0 + length cs = cc in
     let b : bits ≡ 0 + n = cc in
-    let c : sheet' ≡ sets sheet 0 cs = cc in
-    (ap₂ (λ x y. reader.Read x y) (b ∙ zero-add n) (a ∙ zero-add (length cs)), c ∙ sets-eq cs sheet 0 (omega arith) ∙ simp zero-add)
-stored-read (accepted v cs n) entries bits none (Fault why) sheet sheet' h p q = let z : _≡_ {A = ℕ} 0 1 = cc in absurd (omega arith)
-stored-read (refused why) entries bits none pass sheet sheet' h p q = let z : _≡_ {A = ℕ} 0 1 = cc in absurd (omega arith)
+    ap₂ (λ x y. reader.Read x y) (b ∙ zero-add n) (a ∙ zero-add (length cs))
+judged-whole (refused why) entries bits none e = let z : _≡_ {A = ℕ} 0 1 = cc in absurd (omega arith)
 
-pub whole-read : {payload sheet : List ℕ} {start : State} (dry pass : Pass) (none sheet' : List ℕ) (entries bits : ℕ) → length none ≡ 0
-    → length payload ≤ byteRoom → entryRoom ≤ length sheet → ReadPass payload [] start dry none → dry ≡ Whole entries bits
-    → ReadPass payload (none ++ sheet) start pass sheet' → ReadWhole payload sheet start (reader.Read bits entries) sheet'
-whole-read {payload} {sheet} {start} dry pass none sheet' entries bits empty short room p e q =
-    let n : none ≡ [] = nothing none empty in
-    let m : entries ≤ 8 * length payload = subst (λ x. entriesOf x ≤ 8 * length payload) e (p .few) in
-    let go : ForLayout start (λ l. (reader.Read bits entries ≡ readAnswerBy (readL l (toBits payload))) × (sheet' ≡ sheetBy (readL l (toBits payload)) sheet))
-    = λ l w. stored-read (readL l (toBits payload)) entries bits none pass sheet sheet' (omega arith)
-    (ap (λ x. endedBy x none) (sym e) ∙ p .ends l w ∙ run-reads l (toBits payload) 0 0 [])
-    (q .ends l w ∙ ap (λ x. runL l (toBits payload) 0 0 (x ++ sheet)) n ∙ run-reads l (toBits payload) 0 0 sheet) in
-    record { answers = λ l w. go l w .0; leaves = λ l w. go l w .1 }
+module _ {payload : List ℕ} {start : State} (dry : Pass) (none : List ℕ) (p : ReadPass payload [] start dry none) where
+  pub judge-fault : (why : Refusal) → dry ≡ Fault why → ReadJudged payload start (reader.Refused why)
+  judge-fault why e =
+      record {
+        answers = λ l w. judged-fault (readL l (toBits payload)) why (ap (λ x. endedBy x none) (sym e) ∙ p .ends l w ∙ run-reads l (toBits payload) 0 0 []);
+        few = omega arith;
+      }
+
+  pub judge-whole : (entries bits : ℕ) → dry ≡ Whole entries bits → ReadJudged payload start (reader.Read bits entries)
+  judge-whole entries bits e =
+      record {
+        answers = λ l w. judged-whole (readL l (toBits payload)) entries bits none (ap (λ x. endedBy x none) (sym e) ∙ p .ends l w ∙ run-reads l (toBits payload) 0 0 []);
+        few = subst (λ x. entriesOf x ≤ 8 * length payload) e (p .few);
+      }
+
+-- a refusal leaves the sheet, and a second pass stores the codes
+refused-leaves : (o : Outcome Message) (why : Refusal) (sheet : List ℕ) → reader.Refused why ≡ readAnswerBy o → sheet ≡ sheetBy o sheet
+refused-leaves (accepted v cs n) why sheet e = let z : _≡_ {A = ℕ} 0 1 = cc in absurd (omega arith)
+refused-leaves (refused why') why sheet e = refl
+
+stored-leaves : (o : Outcome Message) (entries bits : ℕ) (pass : Pass) (sheet sheet' : List ℕ) → entries ≤ length sheet
+    → reader.Read bits entries ≡ readAnswerBy o → endedBy pass sheet' ≡ endedOf o 0 0 sheet → sheet' ≡ sheetBy o sheet
+stored-leaves (accepted v cs n) entries bits (Whole entries' bits') sheet sheet' h p q =
+    let a : entries ≡ length cs = cc in
+    let c : sheet' ≡ sets sheet 0 cs = cc in
+    c ∙ sets-eq cs sheet 0 (omega arith) ∙ simp zero-add
+stored-leaves (accepted v cs n) entries bits (Fault why) sheet sheet' h p q = let z : _≡_ {A = ℕ} 0 1 = cc in absurd (omega arith)
+stored-leaves (refused why) entries bits pass sheet sheet' h p q = let z : _≡_ {A = ℕ} 0 1 = cc in absurd (omega arith)
+
+module _ {payload sheet : List ℕ} {start : State} (judged : ReadAnswer) (p : ReadJudged payload start judged) where
+  pub whole-refused : (why : Refusal) → judged ≡ reader.Refused why → ReadWhole payload sheet start (reader.Refused why) sheet
+  whole-refused why e =
+      record {
+        answers = λ l w. sym e ∙ p .answers l w;
+        leaves = λ l w. refused-leaves (readL l (toBits payload)) why sheet (sym e ∙ p .answers l w);
+      }
+
+  pub whole-read : (pass : Pass) (sheet' : List ℕ) (bits entries : ℕ) → length payload ≤ byteRoom → entryRoom ≤ length sheet
+      → judged ≡ reader.Read bits entries → ReadPass payload sheet start pass sheet' → ReadWhole payload sheet start (reader.Read bits entries) sheet'
+  whole-read pass sheet' bits entries short room e q =
+      let m : entries ≤ 8 * length payload = subst (λ x. entriesRead x ≤ 8 * length payload) e (p .few) in
+      record {
+        answers = λ l w. sym e ∙ p .answers l w;
+        leaves =
+            λ l w. stored-leaves (readL l (toBits payload)) entries bits pass sheet sheet' (omega arith) (sym e ∙ p .answers l w)
+            (q .ends l w ∙ run-reads l (toBits payload) 0 0 sheet);
+      }
 
 -- ---- the calls' tests, in their order
 
@@ -204,6 +225,26 @@ none-by Unknown absent unknown q = refl
 
 pub not-started : (kind subtype : ℕ) (x : Start) → x ≡ startOf kind subtype → x ≡ Unknown → layoutFor kind subtype ≡ absent
 not-started kind subtype x e q = none-by (startOf kind subtype) (layoutFor kind subtype) (starts kind subtype) (sym e ∙ q)
+
+-- ---- `judge`
+
+module _ (kind subtype : ℕ) (payload : List ℕ) where
+  is-judged : (o : Outcome Message) → judging kind subtype payload ≡ o → readAnswerBy o ≡ judged kind subtype payload
+  unfolding judged
+  is-judged o e = ap readAnswerBy (sym e)
+
+  pub judge-unknown : (x : Start) → x ≡ startOf kind subtype → x ≡ Unknown → reader.Refused refusal.UnknownType ≡ judged kind subtype payload
+  judge-unknown x e q = is-judged (refused refusal.UnknownType) (judging-with kind subtype payload (not-started kind subtype x e q) refl)
+
+  pub judge-length : (x : Start) (start : State) → x ≡ startOf kind subtype → x ≡ Known start → (b : Bool) → b ≡ badLength (length payload) → b ≡ true
+      → reader.Refused refusal.Length ≡ judged kind subtype payload
+  judge-length x start e q b m n = is-judged (refused refusal.Length) (judging-with kind subtype payload (started kind subtype x start e q .here) (sym m ∙ n))
+
+  pub judge-known : (x : Start) (start : State) → x ≡ startOf kind subtype → x ≡ Known start → (b : Bool) → b ≡ badLength (length payload) → b ≡ false
+      → (r : ReadAnswer) → ReadJudged payload start r → r ≡ judged kind subtype payload
+  judge-known x start e q b m n r w =
+      let k = started kind subtype x start e q in
+      w .answers (k .layout) (k .walks) ∙ is-judged (readL (k .layout) (toBits payload)) (judging-with kind subtype payload (k .here) (sym m ∙ n))
 
 -- ---- `read`
 

@@ -25,9 +25,9 @@ use Rattle.message.specs.declared.Start.{Start}
 use Rattle.message.specs.declared.Start.the-variants.{Known, Unknown}
 use Rattle.message.specs.Machine.{fieldOf, stepOf, startOf}
 use Rattle.message.specs.Messages.{Message}
-use Rattle.sheet.specs.Sheet.{byteRoom, badLength, bytesFor, thenLength, writing, writeAnswerBy, outBy, writeAnswer, outAfter}
-use Rattle.sheet.specs.Laws.{good-some, writing-with}
-use Rattle.sheet.specs.Passes.{ForLayout, onward, Counted, PutBy, whole, fault, bitsOfPass, WritePass, WriteWhole}
+use Rattle.sheet.specs.Sheet.{byteRoom, badLength, bytesFor, thenLength, judgingSheet, judgedSheet, writing, writeAnswerBy, outBy, writeAnswer, outAfter}
+use Rattle.sheet.specs.Laws.{good-some, judging-sheet-with, writing-with}
+use Rattle.sheet.specs.Passes.{ForLayout, onward, Counted, PutBy, whole, fault, bitsOfPass, WritePass, bitsWritten, bytesWritten, SheetJudged, WriteWhole}
 use Rattle.sheet.specs.declared.WriteAnswer.{WriteAnswer}
 use Rattle.sheet.specs.declared.WriteAnswer.the-variants as writer
 use Rattle.sheet.specs.declared.Pass.{Pass}
@@ -216,23 +216,59 @@ exact-by count bits c h = go (ltb (8 * byteRoom) bits) refl
         absurd (omega arith)
     go false p = let a : bits ≤ 8 * byteRoom = ltb-false (8 * byteRoom) bits p in (c .exact a, a)
 
--- what is to be shown of an answer and the bytes left
-abbrev Gives : Written → List ℕ → WriteAnswer → List ℕ → Type 0
-Gives o out r out' = (r ≡ writeAnswerBy (thenLength o)) × (toBits out' ≡ outBy (thenLength o) out)
+-- what a first pass says is the answer
+judged-fault : (o : Written) (pass : Pass) (none none' : List ℕ) (why : Refusal) → PutBy none' none o pass → pass ≡ Fault why
+    → writer.Refused why ≡ writeAnswerBy (thenLength o)
+judged-fault (unwritten w) (Fault v) none none' why fault e = let q : w ≡ why = cc in ap (λ x. writer.Refused x) (sym q)
+judged-fault (written bs) (Whole n m) none none' why (whole c h) e = let z : _≡_ {A = ℕ} 0 1 = cc in absurd (omega arith)
 
+judged-length : (o : Written) (pass : Pass) (none none' : List ℕ) (entries count : ℕ) → PutBy none' none o pass → pass ≡ Whole entries count
+    → badLength (bytesFor count) ≡ true → writer.Refused refusal.Length ≡ writeAnswerBy (thenLength o)
+judged-length (unwritten w) (Fault v) none none' entries count fault e b = let z : _≡_ {A = ℕ} 0 1 = cc in absurd (omega arith)
+judged-length (written bs) (Whole n m) none none' entries count (whole c h) e b =
+    let q : m ≡ count = cc in
+    rw (length-by count (length bs) (subst (λ x. Counted x (length bs)) q c) b)
+
+judged-whole : (o : Written) (pass : Pass) (none none' : List ℕ) (entries count : ℕ) → PutBy none' none o pass → pass ≡ Whole entries count
+    → badLength (bytesFor count) ≡ false → writer.Written count (bytesFor count) ≡ writeAnswerBy (thenLength o)
+judged-whole (unwritten w) (Fault v) none none' entries count fault e b = let z : _≡_ {A = ℕ} 0 1 = cc in absurd (omega arith)
+judged-whole (written bs) (Whole n m) none none' entries count (whole c h) e b =
+    let q : m ≡ count = cc in
+    let x : (count ≡ length bs) × (length bs ≤ 8 * byteRoom) = exact-by count (length bs) (subst (λ y. Counted y (length bs)) q c) b in
+    let k : badLength (bytesFor (length bs)) ≡ false = ap (λ (y : ℕ). badLength (bytesFor y)) (sym (x .0)) ∙ b in
+    rw k (ap (λ (y : ℕ). writer.Written y (bytesFor y)) (x .0))
+
+module _ {sheet : List ℕ} {start : State} (dry : Pass) (none : List ℕ) (p : WritePass sheet [] start dry none) where
+  pub judge-fault : (why : Refusal) → dry ≡ Fault why → SheetJudged sheet start (writer.Refused why)
+  judge-fault why e =
+      record {
+        answers = λ l w. judged-fault (writeL l sheet) dry none [] why (p .puts l w) e;
+        round = refl;
+        good = omega arith;
+      }
+
+  module _ (entries count : ℕ) (e : dry ≡ Whole entries count) (b : Bool) (m : b ≡ badLength (bytesFor count)) where
+    pub judge-length : b ≡ true → SheetJudged sheet start (writer.Refused refusal.Length)
+    judge-length n =
+        record {
+          answers = λ l w. judged-length (writeL l sheet) dry none [] entries count (p .puts l w) e (sym m ∙ n);
+          round = refl;
+          good = omega arith;
+        }
+
+    pub judge-whole : b ≡ false → SheetJudged sheet start (writer.Written count (bytesFor count))
+    judge-whole n =
+        record {
+          answers = λ l w. judged-whole (writeL l sheet) dry none [] entries count (p .puts l w) e (sym m ∙ n);
+          round = refl;
+          good = good-some (bytesFor count) (sym m ∙ n) .1;
+        }
+
+-- a refusal leaves the bytes, and a second pass stores the bits
 module _ (out : List ℕ) where
-  fault-gives : (o : Written) (pass : Pass) (none none' : List ℕ) (why : Refusal) → PutBy none' none o pass → pass ≡ Fault why
-      → Gives o out (writer.Refused why) out
-  fault-gives (unwritten w) (Fault v) none none' why fault e = let q : w ≡ why = cc in (ap (λ x. writer.Refused x) (sym q), refl)
-  fault-gives (written bs) (Whole n m) none none' why (whole c h) e = let z : _≡_ {A = ℕ} 0 1 = cc in absurd (omega arith)
-
-  length-gives : (o : Written) (pass : Pass) (none none' : List ℕ) (entries count : ℕ) → PutBy none' none o pass → pass ≡ Whole entries count
-      → badLength (bytesFor count) ≡ true → Gives o out (writer.Refused refusal.Length) out
-  length-gives (unwritten w) (Fault v) none none' entries count fault e b = let z : _≡_ {A = ℕ} 0 1 = cc in absurd (omega arith)
-  length-gives (written bs) (Whole n m) none none' entries count (whole c h) e b =
-      let q : m ≡ count = cc in
-      let k : badLength (bytesFor (length bs)) ≡ true = length-by count (length bs) (subst (λ x. Counted x (length bs)) q c) b in
-      (rw k, rw k)
+  refused-leaves : (o : Written) (why : Refusal) → writer.Refused why ≡ writeAnswerBy o → toBits out ≡ outBy o out
+  refused-leaves (unwritten w) why e = refl
+  refused-leaves (written bs) why e = let z : _≡_ {A = ℕ} 0 1 = cc in absurd (omega arith)
 
   -- the fill behind the bits
   filled : (bs out₁ out₂ : List ℕ) → length bs ≤ 8 * byteRoom → byteRoom ≤ length out → length out₁ ≡ length out
@@ -247,46 +283,65 @@ module _ (out : List ℕ) where
       = ap (drop (n + w)) e ∙ drop-append-add bs (drop n (toBits out)) w ∙ drop-drop w n (toBits out) ∙ ap (λ (x : ℕ). drop x (toBits out)) last in
       p ∙ leaves-there out₁ n w 0 (omega arith) (omega arith) ∙ ap₂ (λ x y. x ++ (bitsOf w 0 ++ y)) front back
 
-  stored-gives : (o : Written) (dry pass : Pass) (none none' out₁ out₂ : List ℕ) (entries count : ℕ) → PutBy none' none o dry → dry ≡ Whole entries count
-      → badLength (bytesFor count) ≡ false → byteRoom ≤ length out → length out₁ ≡ length out → PutBy out out₁ o pass
-      → toBits out₂ ≡ leaves out₁ count (8 * bytesFor count - count) 0 → Gives o out (writer.Written count (bytesFor count)) out₂
-  stored-gives (unwritten w) (Fault v) pass none none' out₁ out₂ entries count fault e b room same d p = let z : _≡_ {A = ℕ} 0 1 = cc in absurd (omega arith)
-  stored-gives (written bs) (Whole n m) (Whole n' m') none none' out₁ out₂ entries count (whole c h) e b room same (whole c' h') p =
-      let q : m ≡ count = cc in
-      let x : (count ≡ length bs) × (length bs ≤ 8 * byteRoom) = exact-by count (length bs) (subst (λ y. Counted y (length bs)) q c) b in
-      let k : badLength (bytesFor (length bs)) ≡ false = ap (λ (y : ℕ). badLength (bytesFor y)) (sym (x .0)) ∙ b in
-      let i : length bs ≤ 8 * length out = omega (arith, x .1) in
-      let g : toBits out₂ ≡ outBy (written bs) out
-      = filled bs out₁ out₂ (x .1) room same (h' (x .1) i) (p ∙ ap (λ (y : ℕ). leaves out₁ y (8 * bytesFor y - y) 0) (x .0)) in
-      (rw k (ap (λ (y : ℕ). writer.Written y (bytesFor y)) (x .0)), rw k g)
+  stored-leaves : (o : Written) (pass : Pass) (out₁ out₂ : List ℕ) (bits bytes : ℕ) → writer.Written bits bytes ≡ writeAnswerBy (thenLength o)
+      → byteRoom ≤ length out → length out₁ ≡ length out → PutBy out out₁ o pass → toBits out₂ ≡ leaves out₁ bits (8 * bytes - bits) 0
+      → toBits out₂ ≡ outBy (thenLength o) out
+  stored-leaves (unwritten w) pass out₁ out₂ bits bytes e room same d p = let z : _≡_ {A = ℕ} 0 1 = cc in absurd (omega arith)
+  stored-leaves (written bs) (Whole n m) out₁ out₂ bits bytes e room same (whole c h) p = go (badLength (bytesFor (length bs))) refl
+    where
+      go : (x : Bool) → badLength (bytesFor (length bs)) ≡ x → toBits out₂ ≡ outBy (thenLength (written bs)) out
+      go true k = let z : writer.Written bits bytes ≡ writer.Refused refusal.Length = rw k at e in let y : _≡_ {A = ℕ} 0 1 = cc in absurd (omega arith)
+      go false k =
+          let z : writer.Written bits bytes ≡ writer.Written (length bs) (bytesFor (length bs)) = rw k at e in
+          let i : bits ≡ length bs = cc in
+          let j : bytes ≡ bytesFor (length bs) = cc in
+          let few : bytesFor (length bs) ≤ byteRoom = good-some (bytesFor (length bs)) k .1 in
+          rw k (filled bs out₁ out₂ (omega arith) room same (h (omega arith) (omega arith)) (p ∙ ap₂ (λ (x y : ℕ). leaves out₁ x (8 * y - x) 0) i j))
 
-module _ {sheet out : List ℕ} {start : State} where
-  gives : {r : WriteAnswer} {out' : List ℕ} → ForLayout start (λ l. Gives (writeL l sheet) out r out') → WriteWhole sheet out start r out'
-  gives h = record { answers = λ l w. h l w .0; leaves = λ l w. h l w .1 }
+-- the count of bits is small enough to be taken from that of the bytes
+module _ {sheet : List ℕ} {start : State} (judged : WriteAnswer) (p : SheetJudged sheet start judged) (bits bytes : ℕ) (e : judged ≡ writer.Written bits bytes) where
+  pub whole-bytes : bytes ≡ bytesFor bits
+  whole-bytes = let r : bytesWritten judged ≡ bytesFor (bitsWritten judged) = p .round in rw e at r
 
-  pub whole-fault : (dry : Pass) (none : List ℕ) (why : Refusal) → length none ≡ 0 → WritePass sheet [] start dry none → dry ≡ Fault why
-      → WriteWhole sheet out start (writer.Refused why) (none ++ out)
-  whole-fault dry none why empty p e =
-      rw (nothing none empty) (gives (λ l w. fault-gives out (writeL l sheet) dry none [] why (p .puts l w) e))
+  pub whole-short : bytes ≤ byteRoom
+  whole-short = let r : bytesWritten judged ≤ byteRoom = p .good in rw e at r
 
-  pub whole-length : (dry : Pass) (none : List ℕ) (entries count : ℕ) → length none ≡ 0 → WritePass sheet [] start dry none → dry ≡ Whole entries count
-      → (b : Bool) → b ≡ badLength (bytesFor count) → b ≡ true → WriteWhole sheet out start (writer.Refused refusal.Length) (none ++ out)
-  whole-length dry none entries count empty p e b m n =
-      rw (nothing none empty) (gives (λ l w. length-gives out (writeL l sheet) dry none [] entries count (p .puts l w) e (sym m ∙ n)))
+module _ {sheet out : List ℕ} {start : State} (judged : WriteAnswer) (p : SheetJudged sheet start judged) where
+  pub whole-refused : (why : Refusal) → judged ≡ writer.Refused why → WriteWhole sheet out start (writer.Refused why) out
+  whole-refused why e =
+      record {
+        answers = λ l w. sym e ∙ p .answers l w;
+        leaves = λ l w. refused-leaves out (thenLength (writeL l sheet)) why (sym e ∙ p .answers l w);
+      }
 
-  pub whole-written : (dry pass : Pass) (none out₁ out₂ : List ℕ) (entries count : ℕ) → length none ≡ 0 → byteRoom ≤ length out
-      → WritePass sheet [] start dry none → dry ≡ Whole entries count → (b : Bool) → b ≡ badLength (bytesFor count) → b ≡ false
-      → length out₁ ≡ length (none ++ out) → WritePass sheet (none ++ out) start pass out₁ → toBits out₂ ≡ leaves out₁ count (8 * bytesFor count - count) 0
-      → WriteWhole sheet out start (writer.Written count (bytesFor count)) out₂
-  whole-written dry pass none out₁ out₂ entries count empty room p e b m n same q put =
-      let z : none ≡ [] = nothing none empty in
-      let k : length out₁ ≡ length out = same ∙ ap (λ x. length (x ++ out)) z in
-      let q' : WritePass sheet out start pass out₁ = subst (λ x. WritePass sheet (x ++ out) start pass out₁) z q in
-      gives (λ l w. stored-gives out (writeL l sheet) dry pass none [] out₁ out₂ entries count (p .puts l w) e (sym m ∙ n) room k (q' .puts l w) put)
+  module _ (bits bytes : ℕ) (e : judged ≡ writer.Written bits bytes) where
+    pub whole-written : (pass : Pass) (out₁ out₂ : List ℕ) → byteRoom ≤ length out → length out₁ ≡ length out → WritePass sheet out start pass out₁
+        → toBits out₂ ≡ leaves out₁ bits (8 * bytes - bits) 0 → WriteWhole sheet out start (writer.Written bits bytes) out₂
+    whole-written pass out₁ out₂ room same q put =
+        record {
+          answers = λ l w. sym e ∙ p .answers l w;
+          leaves = λ l w. stored-leaves out (writeL l sheet) pass out₁ out₂ bits bytes (sym e ∙ p .answers l w) room same (q .puts l w) put;
+        }
 
 -- the count of a first pass is small enough to be rounded up to bytes
 pub count-small : {sheet : List ℕ} {start : State} {dry : Pass} {none : List ℕ} {entries count : ℕ} → WritePass sheet [] start dry none → dry ≡ Whole entries count → count < 2 ^ 33
 count-small p e = subst (λ x. bitsOfPass x < 2 ^ 33) e (p .small)
+
+-- ---- `judge_sheet`
+
+module _ (kind subtype : ℕ) (sheet : List ℕ) where
+  is-judged : (o : Written) → judgingSheet kind subtype sheet ≡ o → writeAnswerBy o ≡ judgedSheet kind subtype sheet
+  unfolding judgedSheet
+  is-judged o e = ap writeAnswerBy (sym e)
+
+  pub judge-unknown : (x : Start) → x ≡ startOf kind subtype → x ≡ Unknown → writer.Refused refusal.UnknownType ≡ judgedSheet kind subtype sheet
+  judge-unknown x e q = is-judged (unwritten refusal.UnknownType) (judging-sheet-with kind subtype sheet (not-started kind subtype x e q))
+
+  pub judge-known : (x : Start) (start : State) → x ≡ startOf kind subtype → x ≡ Known start → (r : WriteAnswer) → SheetJudged sheet start r
+      → r ≡ judgedSheet kind subtype sheet
+  judge-known x start e q r w =
+      let k = started kind subtype x start e q in
+      w .answers (k .layout) (k .walks) ∙ is-judged (thenLength (writeL (k .layout) sheet)) (judging-sheet-with kind subtype sheet (k .here))
 
 -- ---- `write`
 

@@ -4,9 +4,15 @@ use mathlib.Core.List.{List}
 use Prim.Native.Nat.{ℕ}
 use Rattle.bits.specs.Bits.{toBits, Bytes}
 use Rattle.bits.specs.Laws.{toBits-injective}
-use Rattle.sheet.specs.Sheet.{readAnswer, sheetAfter, writeAnswer, outAfter, numberOfRead, numberOfWritten}
+use Rattle.sheet.specs.Sheet.{judged, readAnswer, sheetAfter, judgedSheet, writeAnswer, outAfter, numberOfRead, numberOfWritten}
 use Rattle.sheet.specs.declared.ReadAnswer.{ReadAnswer}
 use Rattle.sheet.specs.declared.WriteAnswer.{WriteAnswer}
+
+pub judge-determined : (kind subtype : ℕ) (payload : List ℕ) (a b : ReadAnswer) → a ≡ judged kind subtype payload → b ≡ judged kind subtype payload → a ≡ b
+judge-determined kind subtype payload a b p q = p ∙ sym q
+
+pub judge-sheet-determined : (kind subtype : ℕ) (sheet : List ℕ) (a b : WriteAnswer) → a ≡ judgedSheet kind subtype sheet → b ≡ judgedSheet kind subtype sheet → a ≡ b
+judge-sheet-determined kind subtype sheet a b p q = p ∙ sym q
 
 pub read-determined : (kind subtype : ℕ) (payload sheet : List ℕ) (a b : ReadAnswer) (s t : List ℕ)
     → a ≡ readAnswer kind subtype payload sheet → b ≡ readAnswer kind subtype payload sheet

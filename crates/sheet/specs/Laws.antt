@@ -17,8 +17,8 @@ use Rattle.bits.specs.Bits.{toBits, number}
 use Rattle.layout.specs.Layout.{Layout, field, pick, judge, enough, judged, before, Outcome, accepted, refused, readL, Written, written, unwritten, writeL}
 use Rattle.layout.specs.Parts.{Part, absent, present}
 use Rattle.message.specs.Messages.{Message, ocbLayout, hpacLayout, constellationOf, byConstellation, layoutFor}
-use Rattle.sheet.specs.Sheet.{entryRoom, byteRoom, badLength, stop, known, reading, readAnswerBy, sheetBy, readAnswer, sheetAfter}
-use Rattle.sheet.specs.Sheet.{bytesFor, thenLength, writing, writeAnswerBy, outBy, writeAnswer, outAfter}
+use Rattle.sheet.specs.Sheet.{entryRoom, byteRoom, badLength, stop, known, judging, reading, readAnswerBy, sheetBy, readAnswer, sheetAfter}
+use Rattle.sheet.specs.Sheet.{bytesFor, thenLength, judgingSheet, writing, writeAnswerBy, outBy, writeAnswer, outAfter}
 use Rattle.sheet.specs.declared.ReadAnswer.the-variants as reader
 use Rattle.sheet.specs.declared.WriteAnswer.the-variants as writer
 
@@ -84,29 +84,42 @@ has-bit (present (field f next)) (begins h) l bits cs n {m} e r =
 
 -- ---- the tests, each by its outcome
 
-abbrev pub readingWith : (payload : List ℕ) (short : Bool) (p : Part (Layout Message)) (bad : Bool) → Outcome Message
-readingWith payload short p bad =
-    stop short (refused refusal.Room) (
+abbrev pub judgingWith : (payload : List ℕ) (p : Part (Layout Message)) (bad : Bool) → Outcome Message
+judgingWith payload p bad =
     known p (refused refusal.UnknownType) (λ layout.
     stop bad (refused refusal.Length) (
-    readL layout (toBits payload))))
+    readL layout (toBits payload)))
+
+pub judging-with : (kind subtype : ℕ) (payload : List ℕ) {bad : Bool} {p : Part (Layout Message)} → layoutFor kind subtype ≡ p → badLength (length payload) ≡ bad
+    → judging kind subtype payload ≡ judgingWith payload p bad
+unfolding judging
+judging-with kind subtype payload a b = ap₂ (judgingWith payload) a b
+
+abbrev pub readingWith : (payload : List ℕ) (short : Bool) (p : Part (Layout Message)) (bad : Bool) → Outcome Message
+readingWith payload short p bad = stop short (refused refusal.Room) (judgingWith payload p bad)
 
 pub reading-with : (kind subtype : ℕ) (payload sheet : List ℕ) {short bad : Bool} {p : Part (Layout Message)} → ltb (length sheet) entryRoom ≡ short
     → layoutFor kind subtype ≡ p → badLength (length payload) ≡ bad → reading kind subtype payload sheet ≡ readingWith payload short p bad
 unfolding reading
-reading-with kind subtype payload sheet {short} {bad} a b c =
-    ap₂ (λ x y. readingWith payload x (layoutFor kind subtype) y) a c ∙ ap (λ x. readingWith payload short x bad) b
+reading-with kind subtype payload sheet a b c = ap₂ (λ x y. stop x (refused refusal.Room) y) a (judging-with kind subtype payload b c)
+
+abbrev pub judgingSheetWith : (sheet : List ℕ) (p : Part (Layout Message)) → Written
+judgingSheetWith sheet p =
+    known p (unwritten refusal.UnknownType) (λ layout.
+    thenLength (writeL layout sheet))
+
+pub judging-sheet-with : (kind subtype : ℕ) (sheet : List ℕ) {p : Part (Layout Message)} → layoutFor kind subtype ≡ p
+    → judgingSheet kind subtype sheet ≡ judgingSheetWith sheet p
+unfolding judgingSheet
+judging-sheet-with kind subtype sheet a = ap (judgingSheetWith sheet) a
 
 abbrev pub writingWith : (sheet : List ℕ) (short : Bool) (p : Part (Layout Message)) → Written
-writingWith sheet short p =
-    stop short (unwritten refusal.Room) (
-    known p (unwritten refusal.UnknownType) (λ layout.
-    thenLength (writeL layout sheet)))
+writingWith sheet short p = stop short (unwritten refusal.Room) (judgingSheetWith sheet p)
 
 pub writing-with : (kind subtype : ℕ) (sheet out : List ℕ) {short : Bool} {p : Part (Layout Message)} → ltb (length out) byteRoom ≡ short
     → layoutFor kind subtype ≡ p → writing kind subtype sheet out ≡ writingWith sheet short p
 unfolding writing
-writing-with kind subtype sheet out a b = ap₂ (writingWith sheet) a b
+writing-with kind subtype sheet out a b = ap₂ (λ x y. stop x (unwritten refusal.Room) y) a (judging-sheet-with kind subtype sheet b)
 
 -- ---- what a success says
 

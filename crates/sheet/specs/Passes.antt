@@ -12,9 +12,11 @@ use Rattle.layout.specs.Walks.{Walks}
 use Rattle.message.specs.declared.State.{State}
 use Rattle.message.specs.Machine.{fieldOf, stepOf}
 use Rattle.message.specs.Messages.{Message}
-use Rattle.sheet.specs.Sheet.{byteRoom, readAnswerBy, sheetBy, thenLength, writeAnswerBy, outBy}
+use Rattle.sheet.specs.Sheet.{byteRoom, readAnswerBy, sheetBy, bytesFor, thenLength, writeAnswerBy, outBy}
 use Rattle.sheet.specs.declared.ReadAnswer.{ReadAnswer}
+use Rattle.sheet.specs.declared.ReadAnswer.the-variants as reader
 use Rattle.sheet.specs.declared.WriteAnswer.{WriteAnswer}
+use Rattle.sheet.specs.declared.WriteAnswer.the-variants as writer
 use Rattle.sheet.specs.declared.Pass.{Pass}
 use Rattle.sheet.specs.declared.Pass.the-variants.{Whole, Fault}
 
@@ -38,6 +40,15 @@ bitsOfPass (Fault why) = 0
 pub record ReadPass (payload sheet : List ℕ) (start : State) (pass : Pass) (sheet' : List ℕ) : Type 0 where
   pub ends : ForLayout start (λ l. endedBy pass sheet' ≡ runL l (toBits payload) 0 0 sheet)
   pub few : entriesOf pass ≤ 8 * length payload
+
+abbrev pub entriesRead : ReadAnswer → ℕ
+entriesRead (reader.Read bits entries) = entries
+entriesRead (reader.Refused why) = 0
+
+-- a payload judged by the layout: the first pass, which is lent no sheet
+pub record ReadJudged (payload : List ℕ) (start : State) (answer : ReadAnswer) : Type 0 where
+  pub answers : ForLayout start (λ l. answer ≡ readAnswerBy (readL l (toBits payload)))
+  pub few : entriesRead answer ≤ 8 * length payload
 
 -- the whole reading by the layout, in one answer
 pub record ReadWhole (payload sheet : List ℕ) (start : State) (answer : ReadAnswer) (sheet' : List ℕ) : Type 0 where
@@ -64,6 +75,20 @@ pub data PutBy (out out' : List ℕ) : Written → Pass → Type 0 where
 pub record WritePass (sheet out : List ℕ) (start : State) (pass : Pass) (out' : List ℕ) : Type 0 where
   pub puts : ForLayout start (λ l. PutBy out out' (writeL l sheet) pass)
   pub small : bitsOfPass pass < 2 ^ 33
+
+abbrev pub bitsWritten : WriteAnswer → ℕ
+bitsWritten (writer.Written bits bytes) = bits
+bitsWritten (writer.Refused why) = 0
+
+abbrev pub bytesWritten : WriteAnswer → ℕ
+bytesWritten (writer.Written bits bytes) = bytes
+bytesWritten (writer.Refused why) = 0
+
+-- a sheet judged by the layout: the first pass, which is lent no room
+pub record SheetJudged (sheet : List ℕ) (start : State) (answer : WriteAnswer) : Type 0 where
+  pub answers : ForLayout start (λ l. answer ≡ writeAnswerBy (thenLength (writeL l sheet)))
+  pub round : bytesWritten answer ≡ bytesFor (bitsWritten answer)
+  pub good : bytesWritten answer ≤ byteRoom
 
 -- the whole writing by the layout, in one answer
 pub record WriteWhole (sheet out : List ℕ) (start : State) (answer : WriteAnswer) (out' : List ℕ) : Type 0 where

@@ -38,13 +38,16 @@ known (present layout) refusal rest = rest layout
 
 -- ---- reading
 
--- "Reading order of checks: ROOM, UNKNOWN_TYPE, LENGTH, then the first fault in reading order"
-unfoldable pub reading : (kind subtype : ℕ) (payload sheet : List ℕ) → Outcome Message
-reading kind subtype payload sheet =
-    stop (ltb (length sheet) entryRoom) (refused Room) (
+-- what a payload of a type and subtype says: "UNKNOWN_TYPE, LENGTH, then the first fault in reading order"
+unfoldable pub judging : (kind subtype : ℕ) (payload : List ℕ) → Outcome Message
+judging kind subtype payload =
     known (layoutFor kind subtype) (refused UnknownType) (λ layout.
     stop (badLength (length payload)) (refused Length) (
-    readL layout (toBits payload))))
+    readL layout (toBits payload)))
+
+-- "Reading order of checks: ROOM, UNKNOWN_TYPE, LENGTH, then the first fault in reading order"
+unfoldable pub reading : (kind subtype : ℕ) (payload sheet : List ℕ) → Outcome Message
+reading kind subtype payload sheet = stop (ltb (length sheet) entryRoom) (refused Room) (judging kind subtype payload)
 
 -- the count of bits read and of entries written, or the refusal
 abbrev pub readAnswerBy : Outcome Message → ReadAnswer
@@ -55,6 +58,10 @@ readAnswerBy (refused why) = reader.Refused why
 abbrev pub sheetBy : Outcome Message → List ℕ → List ℕ
 sheetBy (accepted message codes bits) sheet = codes ++ drop (length codes) sheet
 sheetBy (refused why) sheet = sheet
+
+-- a payload judged without a sheet
+unfoldable pub judged : (kind subtype : ℕ) (payload : List ℕ) → ReadAnswer
+judged kind subtype payload = readAnswerBy (judging kind subtype payload)
 
 unfoldable pub readAnswer : (kind subtype : ℕ) (payload sheet : List ℕ) → ReadAnswer
 readAnswer kind subtype payload sheet = readAnswerBy (reading kind subtype payload sheet)
@@ -73,12 +80,15 @@ abbrev pub thenLength : Written → Written
 thenLength (written bits) = stop (badLength (bytesFor (length bits))) (unwritten Length) (written bits)
 thenLength (unwritten why) = unwritten why
 
+-- the bits that a sheet of a type and subtype says: "UNKNOWN_TYPE, first fault, LEFTOVER, LENGTH"
+unfoldable pub judgingSheet : (kind subtype : ℕ) (sheet : List ℕ) → Written
+judgingSheet kind subtype sheet =
+    known (layoutFor kind subtype) (unwritten UnknownType) (λ layout.
+    thenLength (writeL layout sheet))
+
 -- "Writing: ROOM, UNKNOWN_TYPE, first fault, LEFTOVER, LENGTH."
 unfoldable pub writing : (kind subtype : ℕ) (sheet out : List ℕ) → Written
-writing kind subtype sheet out =
-    stop (ltb (length out) byteRoom) (unwritten Room) (
-    known (layoutFor kind subtype) (unwritten UnknownType) (λ layout.
-    thenLength (writeL layout sheet)))
+writing kind subtype sheet out = stop (ltb (length out) byteRoom) (unwritten Room) (judgingSheet kind subtype sheet)
 
 -- the count of bits and of bytes written, or the refusal
 abbrev pub writeAnswerBy : Written → WriteAnswer
@@ -93,6 +103,10 @@ fillFor bits = bitsOf (8 * bytesFor bits - bits) 0
 abbrev pub outBy : Written → List ℕ → List ℕ
 outBy (written bits) out = bits ++ (fillFor (length bits) ++ drop (8 * bytesFor (length bits)) (toBits out))
 outBy (unwritten why) out = toBits out
+
+-- a sheet judged without room to write it
+unfoldable pub judgedSheet : (kind subtype : ℕ) (sheet : List ℕ) → WriteAnswer
+judgedSheet kind subtype sheet = writeAnswerBy (judgingSheet kind subtype sheet)
 
 unfoldable pub writeAnswer : (kind subtype : ℕ) (sheet out : List ℕ) → WriteAnswer
 writeAnswer kind subtype sheet out = writeAnswerBy (writing kind subtype sheet out)

@@ -3,8 +3,8 @@ ghost use mathlib.Core.Path.{_≡_};
 ghost use Prim.Native.Nat.{_+_, _*_, _^_, _≤_, _<_};
 ghost use lib.ListN.{length, set};
 ghost use Rattle.bits.specs.Bits.{toBits};
-ghost use Rattle.sheet.specs.Sheet.{entryRoom, byteRoom, badLength, readAnswer, sheetAfter, writeAnswer, outAfter, numberOfRead, numberOfWritten};
-ghost use Rattle.sheet.specs.Passes.{ReadPass, ReadWhole, onward, WritePass, WriteWhole};
+ghost use Rattle.sheet.specs.Sheet.{entryRoom, byteRoom, badLength, judged, readAnswer, sheetAfter, judgedSheet, writeAnswer, outAfter, numberOfRead, numberOfWritten};
+ghost use Rattle.sheet.specs.Passes.{ReadPass, ReadJudged, ReadWhole, onward, WritePass, SheetJudged, WriteWhole};
 use answer::Refusal;
 use layout::Verdict;
 use message::Start;
@@ -89,17 +89,45 @@ fn read_pass(payload: &[u8], sheet: &mut [u64], start: State) -> Pass
     }
 }
 
-// A first pass with no sheet says whether the message is accepted, and a second stores its codes: a refusal alters nothing.
+// A pass with no sheet says whether the message is accepted.
+fn judge_from(payload: &[u8], start: State) -> ReadAnswer
+    requires { ⌜ length (now payload) ≤ byteRoom ⌝ }
+    ensures { λ r. ⌜ ReadJudged (now (payload .entry)) start r ⌝ }
+{
+    let mut none = [0u64; 1];
+    let dry = read_pass(payload, &mut none[..0], start);
+    match dry {
+        Pass::Fault(why) => ReadAnswer::Refused(why),
+        Pass::Whole { entries, bits } => ReadAnswer::Read { bits, entries },
+    }
+}
+
+// The message is judged before a second pass stores its codes: a refusal alters nothing.
 fn read_whole(payload: &[u8], sheet: &mut [u64], start: State) -> ReadAnswer
     requires { ⌜ (length (now payload) ≤ byteRoom) × (entryRoom ≤ length (now sheet)) ⌝ }
     ensures { λ r. ⌜ ReadWhole (now (payload .entry)) (now (sheet .entry)) start r (now (sheet .exit)) ⌝ }
 {
-    let dry = read_pass(payload, &mut sheet[..0], start);
-    match dry {
-        Pass::Fault(why) => ReadAnswer::Refused(why),
-        Pass::Whole { entries, bits } => {
+    let judged = judge_from(payload, start);
+    match judged {
+        ReadAnswer::Refused(why) => ReadAnswer::Refused(why),
+        ReadAnswer::Read { bits, entries } => {
             read_pass(payload, sheet, start);
             ReadAnswer::Read { bits, entries }
+        }
+    }
+}
+
+// What a payload of a type (TF002) and subtype (TF007) says, with no sheet to store it on. "UNKNOWN_TYPE, LENGTH, then the first fault in reading order".
+pub fn judge(kind: u8, subtype: u8, payload: &[u8]) -> ReadAnswer
+    ensures { λ r. ⌜ r ≡ judged kind subtype (now (payload .entry)) ⌝ }
+{
+    match message::start_of(kind, subtype) {
+        Start::Unknown => ReadAnswer::Refused(Refusal::UnknownType),
+        Start::Known(start) => {
+            if bad_length(payload.len()) {
+                return ReadAnswer::Refused(Refusal::Length);
+            }
+            judge_from(payload, start)
         }
     }
 }
@@ -170,12 +198,12 @@ fn write_pass(sheet: &[u64], out: &mut [u8], start: State) -> Pass
     }
 }
 
-// A first pass with no room says whether the sheet is accepted, and a second stores its bits: a refusal alters nothing.
-fn write_whole(sheet: &[u64], out: &mut [u8], start: State) -> WriteAnswer
-    requires { ⌜ byteRoom ≤ length (now out) ⌝ }
-    ensures { λ r. ⌜ WriteWhole (now (sheet .entry)) (now (out .entry)) start r (now (out .exit)) ⌝ }
+// A pass with no room says whether the sheet is accepted.
+fn judge_sheet_from(sheet: &[u64], start: State) -> WriteAnswer
+    ensures { λ r. ⌜ SheetJudged (now (sheet .entry)) start r ⌝ }
 {
-    let dry = write_pass(sheet, &mut out[..0], start);
+    let mut none = [0u8; 1];
+    let dry = write_pass(sheet, &mut none[..0], start);
     match dry {
         Pass::Fault(why) => WriteAnswer::Refused(why),
         Pass::Whole { entries: _, bits } => {
@@ -183,11 +211,35 @@ fn write_whole(sheet: &[u64], out: &mut [u8], start: State) -> WriteAnswer
             if bad_length(bytes) {
                 return WriteAnswer::Refused(Refusal::Length);
             }
+            WriteAnswer::Written { bits, bytes }
+        }
+    }
+}
+
+// The sheet is judged before a second pass stores its bits: a refusal alters nothing.
+fn write_whole(sheet: &[u64], out: &mut [u8], start: State) -> WriteAnswer
+    requires { ⌜ byteRoom ≤ length (now out) ⌝ }
+    ensures { λ r. ⌜ WriteWhole (now (sheet .entry)) (now (out .entry)) start r (now (out .exit)) ⌝ }
+{
+    let judged = judge_sheet_from(sheet, start);
+    match judged {
+        WriteAnswer::Refused(why) => WriteAnswer::Refused(why),
+        WriteAnswer::Written { bits, bytes } => {
             write_pass(sheet, out, start);
             let fill = (8 * bytes - bits) as u32;
             bits::put(out, bits, fill, 0);
             WriteAnswer::Written { bits, bytes }
         }
+    }
+}
+
+// What a sheet of a type (TF002) and subtype (TF007) says, with no room to write it. "UNKNOWN_TYPE, first fault, LEFTOVER, LENGTH."
+pub fn judge_sheet(kind: u8, subtype: u8, sheet: &[u64]) -> WriteAnswer
+    ensures { λ r. ⌜ r ≡ judgedSheet kind subtype (now (sheet .entry)) ⌝ }
+{
+    match message::start_of(kind, subtype) {
+        Start::Unknown => WriteAnswer::Refused(Refusal::UnknownType),
+        Start::Known(start) => judge_sheet_from(sheet, start),
     }
 }
 
