@@ -1,4 +1,5 @@
 pub mod Bits
+pub mod Part
 pub mod Examples
 pub mod Laws
 pub mod Determined

@@ -1,9 +1,7 @@
 -- Definitions to believe: document 01, "The frame", second and third paragraph. When a frame is accepted, and what is handed back.
-use mathlib.Core.Path.{_≡_}
 use mathlib.Core.List.{List, []}
 use mathlib.Core.Bool.{Bool, true, false, cond, not, _&&_}
 use Prim.Native.Nat.{ℕ, _+_, _-_, _*_}
-use denote.Ref.{RefT, ptr}
 use lib.Dec.{leb, ltb, eqb}
 use lib.ListN.{length, getD, take, drop}
 use Rattle.answer.specs.Number.{numberOf}
@@ -105,8 +103,3 @@ placeBy (Refused refusal) s = 0
 
 unfoldable pub placeOf : List ℕ → ℕ
 placeOf s = placeBy (checked s) s
-
--- r is a part of the bytes lent as s, and starts so many bytes behind their start
-pub record PartOf {X : Type 0} (r s : RefT X) (place : ℕ) : Type 0 where
-  pub same-bytes : ptr r .0 ≡ ptr s .0
-  pub starts-at : ptr r .1 ≡ ptr s .1 + place

@@ -2,8 +2,7 @@
 use mathlib.Core.Path.{_≡_, sym, _∙_}
 use mathlib.Core.List.{List}
 use Prim.Native.Nat.{ℕ}
-use denote.Ref.{RefT, ptr}
-use Rattle.frame.specs.Check.{checked, payloadIn, payloadOf, PartOf, numberOfChecked}
+use Rattle.frame.specs.Check.{checked, payloadIn, payloadOf, numberOfChecked}
 use Rattle.frame.specs.Write.{written, outAfter, numberOfWritten}
 use Rattle.frame.specs.declared.Checked.{Checked}
 use Rattle.frame.specs.declared.Frame.{Frame}
@@ -13,10 +12,7 @@ use Rattle.frame.specs.declared.Written.{Written}
 pub check-determined : (s : List ℕ) (a b : Checked) → a ≡ checked s → b ≡ checked s → a ≡ b
 check-determined s a b p q = p ∙ sym q
 
--- a part that is handed back: its bytes, and where it starts
-pub part-determined : {X : Type 0} {r r′ s : RefT X} {place : ℕ} → PartOf r s place → PartOf r′ s place → (ptr r .0 ≡ ptr r′ .0) × (ptr r .1 ≡ ptr r′ .1)
-part-determined p q = (p .same-bytes ∙ sym (q .same-bytes), p .starts-at ∙ sym (q .starts-at))
-
+-- the bytes of the part that is handed back; where it starts: `part-determined` of bits/specs/Part.antt
 pub payload-determined : (s : List ℕ) (a b : List ℕ) → a ≡ payloadOf s → b ≡ payloadOf s → a ≡ b
 payload-determined s a b p q = p ∙ sym q
 
