@@ -1,23 +1,22 @@
 -- One lemma for each turn and each answer of the functions that judge a GAD's blocks, in plain variables, premises worded as the code makes them. Assumes nothing.
-use mathlib.Core.Path.{_≡_, refl, ap, ap₂, sym, _∙_, subst}
-use mathlib.Core.Bool.{Bool, true, false, cond, not, _&&_}
-use mathlib.Core.List.{List, [], _∷_, _++_}
-use Prim.Native.Nat.{ℕ, zero, suc, _+_, _-_, _*_, _/_, _%_, _^_, _≤_, _<_}
+use mathlib.Core.Path.{_≡_, ap, ap₂, sym, _∙_, subst}
+use mathlib.Core.Bool.{Bool, true, false, cond}
+use mathlib.Core.List.{List}
+use Prim.Native.Nat.{ℕ, _+_, _-_, _*_, _/_, _^_, _≤_, _<_}
 use native.Mathlib.Omega.{arith}
 use native.Mathlib.Numerals.{add-one}
-use lib.Dec.{leb, ltb, eqb}
-use lib.ListN.{length, getD, take, drop}
-use lib.Seq.{drop-cons, take-suc, drop-length, take-all}
-use borrow.Author.Tests.{lt-ltb, le-ltb, ltb-true, ltb-false, eq-eqb, ne-eqb}
-use Rattle.answer.specs.declared.Refusal.{Refusal}
+use lib.Dec.{eqb}
+use lib.ListN.{length, drop}
+use borrow.Author.Tests.{lt-ltb, le-ltb, eq-eqb, ne-eqb}
 use Rattle.answer.specs.declared.Refusal.the-variants.{AreaOff, Conflict, BookFull}
 use Rattle.bits.specs.Bits.{field, got}
 use Rattle.bits.specs.Laws.{got-there, field-lt}
 use Rattle.area.specs.Area.{sf031, areaOff, numberIn, numberAt}
-use Rattle.book.specs.Book.{areaIn, areasIn}
-use Rattle.book.specs.Take.{blockCount, blockAt, blocksFrom, blocksOf, cutShort, lookup, Outcome, taken, refused, andThen, takeBlock, takeAll}
-use Rattle.book.specs.TakeLaws.{orElse, or-assoc, lookup-append, Took, took, lookup-block}
-use Rattle.book.specs.Judge.{judgedBy, judgeFound, judgeBlock, judge-is}
+use Rattle.book.specs.Book.{areasIn}
+use Rattle.book.specs.Take.{lookup}
+use Rattle.book.specs.Payload.{blockAt, blocksFrom}
+use Rattle.book.specs.TakeLaws.{orElse}
+use Rattle.book.specs.Judge.{judgeFound, judgeBlock}
 use Rattle.book.specs.declared.Found.{Found}
 use Rattle.book.specs.declared.Found.the-variants.{Area, Nothing}
 use Rattle.book.specs.declared.Judged.{Judged}
@@ -30,16 +29,6 @@ pub read-field : (s : List ℕ) (pos w r : ℕ) → r ≡ got s pos w → w ≤ 
 read-field s pos w r e h k =
     let q : r ≡ field s pos w = e ∙ got-there s pos w h k in
     (q, subst (λ r. r < 2 ^ w) (sym q) (field-lt s pos w))
-
-pub cut-tiny : (p : List ℕ) → length p < 3 → true ≡ cutShort p
-cut-tiny p h = sym (lt-ltb (8 * length p) (19 + 47 * blockCount p) (omega arith))
-
-pub cut-else : (p : List ℕ) (n : ℕ) → n ≡ blockCount p → ltb (length p) ((26 + 47 * n) / 8) ≡ cutShort p
-cut-else p n e = go (ltb (8 * length p) (19 + 47 * blockCount p)) refl
-  where
-    go : (b : Bool) → ltb (8 * length p) (19 + 47 * blockCount p) ≡ b → ltb (length p) ((26 + 47 * n) / 8) ≡ b
-    go true q = lt-ltb (length p) ((26 + 47 * n) / 8) (omega (arith, ltb-true (8 * length p) (19 + 47 * blockCount p) q))
-    go false q = le-ltb (length p) ((26 + 47 * n) / 8) (omega (arith, ltb-false (8 * length p) (19 + 47 * blockCount p) q))
 
 -- ---- looking an ID up, among areas and among blocks
 

@@ -1,3 +1,4 @@
 pub mod Reading
 pub mod Blocks
+pub mod Payloads
 pub mod Taking

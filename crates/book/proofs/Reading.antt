@@ -1,16 +1,17 @@
 -- One lemma for each turn and each answer of the functions that read a book, in plain variables, premises worded as the code makes them. Assumes nothing.
 use mathlib.Core.Path.{_≡_, refl, ap, ap₂, sym, _∙_, subst}
-use mathlib.Core.Bool.{Bool, true, false, cond, not, _&&_}
-use mathlib.Core.List.{List, [], _∷_, _++_}
-use Prim.Native.Nat.{ℕ, zero, suc, _+_, _-_, _*_, _/_, _%_, _^_, _≤_, _<_}
+use mathlib.Core.Bool.{Bool, true, false, cond, not, _&&_, Bool·beq}
+use mathlib.Core.List.{List, []}
+use Prim.Native.Nat.{ℕ, zero, suc, _+_, _-_, _*_, _/_, _%_, _≤_, _<_}
 use native.Mathlib.Omega.{arith}
 use lib.Dec.{leb, ltb, eqb}
 use lib.ListN.{length, getD, take, drop}
 use lib.Seq.{drop-drop, getD-drop}
-use borrow.Author.Tests.{lt-ltb, le-ltb, le-leb, lt-leb, leb-true, ltb-true, eq-eqb, ne-eqb, not-true, not-false}
+use borrow.Author.Tests.{lt-ltb, le-ltb, le-leb, lt-leb, eq-eqb, ne-eqb, not-true, not-false}
 use Rattle.area.specs.Area.{sf031, isArea, numberIn, numberAt}
-use Rattle.book.specs.Book.{both, areaIn, areasIn, headSound, areasSound, sound, placeOf, found}
-use Rattle.book.specs.Laws.{Sound, head-parts, sound-head, sound-lists}
+use Rattle.area.specs.declared.AreaId.{AreaId}
+use Rattle.book.specs.Book.{areaIn, headSound, areasSound, sound, placeOf, isHeld, found, foundAt}
+use Rattle.book.specs.Laws.{Sound, head-parts, sound-head, sound-room, sound-lists}
 use Rattle.book.specs.Judge.{Image}
 use Rattle.bits.specs.Bits.{Bytes}
 use Rattle.book.specs.declared.Book.{Book}
@@ -22,7 +23,7 @@ module _ (book : Book) where
   unfolding headSound
   head-none e = rw e (go (eqb (book .count) 0) refl)
     where
-      go : (b : Bool) → eqb (book .count) 0 ≡ b → b ≡ (b && (true && leb (book .count) 32))
+      go : (b : Bool) → eqb (book .count) 0 ≡ b → b ≡ (Bool·beq true b && (true && leb (book .count) 32))
       go false z = refl
       go true z = sym (le-leb (book .count) 32 (omega (arith, borrow.Author.Tests.eqb-true (book .count) 0 z)))
 
@@ -160,22 +161,57 @@ module _ (s : List ℕ) (id : ℕ) where
 
 -- ---- finding
 
-module _ (book : Book) (s : List ℕ) (id : ℕ) where
-  pub find-short : length s / 6 < book .count → [] ≡ found book s id
+module _ (book : Book) (s : List ℕ) (b : Bool) (e : b ≡ sound book s) (k : not b ≡ false) where
+  pub find-count : book .count ≤ 32
+  find-count = sound-count book s (sym e ∙ not-false b k)
+
+  pub find-fits : 6 * book .count ≤ length s
+  find-fits = let m : 192 ≤ length s = sound-room book s (sym e ∙ not-false b k) in omega (arith, find-count)
+
+module _ (book : Book) (s : List ℕ) (id : AreaId) where
+  none : isHeld book s id ≡ false → [] ≡ found book s id
   unfolding found
-  find-short h = let z : leb (6 * book .count) (length s) ≡ false = lt-leb (6 * book .count) (length s) (omega arith) in rw z
+  none e = rw e
 
-  module _ (h : book .count ≤ length s / 6) (i : ℕ) (e : i ≡ placeOf id (book .count) s) where
-    pub find-none : book .count ≤ i → [] ≡ found book s id
-    unfolding found
-    find-none k =
-        let z : leb (6 * book .count) (length s) ≡ true = le-leb (6 * book .count) (length s) (omega arith) in
-        let y : ltb (placeOf id (book .count) s) (book .count) ≡ false = le-ltb _ _ (subst (λ i. book .count ≤ i) e k) in
-        rw (z, y)
+  at-start : isHeld book s id ≡ false → (x : ℕ) → x ≡ x + foundAt book s id
+  unfolding foundAt
+  at-start e x = rw e (omega arith)
 
-    pub find-part : i < book .count → take (6 * i + 6 - 6 * i) (drop (6 * i) s) ≡ found book s id
-    unfolding found
-    find-part k =
-        let z : leb (6 * book .count) (length s) ≡ true = le-leb (6 * book .count) (length s) (omega arith) in
-        let y : ltb (placeOf id (book .count) s) (book .count) ≡ true = lt-ltb _ _ (subst (λ i. i < book .count) e k) in
-        rw (z, y) (ap (λ m. take m (drop (6 * i) s)) {x = 6 * i + 6 - 6 * i} {y = 6} (omega arith) ∙ ap (λ i. take 6 (drop (6 * i) s)) e)
+  module _ (b : Bool) (e : b ≡ sound book s) where
+    unsound : not b ≡ true → isHeld book s id ≡ false
+    unsound k = let z : sound book s ≡ false = sym e ∙ not-true b k in rw z
+
+    pub find-unsound : not b ≡ true → [] ≡ found book s id
+    find-unsound k = none (unsound k)
+
+    pub find-unsound-at : not b ≡ true → (x : ℕ) → x ≡ x + foundAt book s id
+    find-unsound-at k = at-start (unsound k)
+
+    module _ (k : not b ≡ false) where
+      module _ (i : ℕ) (p : i ≡ placeOf (id .0) (book .count) s) where
+        absent : book .count ≤ i → isHeld book s id ≡ false
+        absent h =
+            let z : sound book s ≡ true = sym e ∙ not-false b k in
+            let y : ltb (placeOf (id .0) (book .count) s) (book .count) ≡ false = le-ltb _ _ (subst (λ i. book .count ≤ i) p h) in
+            rw (z, y)
+
+        pub find-none : book .count ≤ i → [] ≡ found book s id
+        find-none h = none (absent h)
+
+        pub find-none-at : book .count ≤ i → (x : ℕ) → x ≡ x + foundAt book s id
+        find-none-at h = at-start (absent h)
+
+        held : i < book .count → isHeld book s id ≡ true
+        held h =
+            let z : sound book s ≡ true = sym e ∙ not-false b k in
+            let y : ltb (placeOf (id .0) (book .count) s) (book .count) ≡ true = lt-ltb _ _ (subst (λ i. i < book .count) p h) in
+            rw (z, y)
+
+        pub find-part : i < book .count → take (6 * i + 6 - 6 * i) (drop (6 * i) s) ≡ found book s id
+        unfolding found
+        find-part h =
+            rw (held h) (ap (λ m. take m (drop (6 * i) s)) {x = 6 * i + 6 - 6 * i} {y = 6} (omega arith) ∙ ap (λ i. take 6 (drop (6 * i) s)) p)
+
+        pub find-part-at : i < book .count → (x : ℕ) → 6 * i + x ≡ x + foundAt book s id
+        unfolding foundAt
+        find-part-at h x = rw (held h) (omega (arith, p))

@@ -1,24 +1,24 @@
 -- One lemma for each turn and each answer of the functions that take a GAD, in plain variables, premises worded as the code makes them. Assumes nothing.
 use mathlib.Core.Path.{_≡_, refl, ap, ap₂, sym, _∙_, subst}
-use mathlib.Core.Bool.{Bool, true, false, cond, not, _&&_}
+use mathlib.Core.Bool.{Bool, true, false, cond}
 use mathlib.Core.List.{List, [], _∷_, _++_, append-assoc, append-nil}
-use Prim.Native.Nat.{ℕ, zero, suc, _+_, _-_, _*_, _/_, _%_, _^_, _≤_, _<_}
+use Prim.Native.Nat.{ℕ, zero, suc, _+_, _-_, _*_, _/_, _^_, _≤_, _<_}
 use native.Mathlib.Omega.{arith}
 use native.Mathlib.Numerals.{add-one}
 use lib.Dec.{leb, ltb, eqb}
 use lib.ListN.{length, getD, take, drop, length-append, length-drop, take-append-drop, drop-of-length-le}
-use lib.Seq.{drop-cons, drop-drop, drop-at, take-at, drop-append-le, length-take-le}
-use borrow.Author.Tests.{lt-ltb, le-ltb, ltb-true, ltb-false, le-leb, eq-eqb, ne-eqb, eqb-true, not-true, not-false}
+use lib.Seq.{drop-cons, drop-drop, drop-at, take-at}
+use borrow.Author.Tests.{lt-ltb, le-ltb, le-leb, eq-eqb, ne-eqb}
 use Rattle.answer.specs.declared.Refusal.{Refusal}
-use Rattle.answer.specs.declared.Refusal.the-variants.{Short, Room, State}
 use Rattle.bits.specs.Bits.{Bytes}
 use Rattle.area.specs.Area.{sf031, bytesOf, numberIn, numberAt, putAt}
 use Rattle.area.specs.Laws.{number-bytes, half-number}
 use Rattle.book.specs.Book.{areasIn, bytesOfAll, sound}
 use Rattle.book.specs.Laws.{Ascending, length-areas, length-bytes, bytes-join, areas-bytes, small-at}
-use Rattle.book.specs.Take.{aiouOf, blockCount, blockAt, blocksFrom, blocksOf, cutShort, lookup, insert, Outcome, taken, refused, andThen, takeBlock, takeAll, before, outcome, answerOf, leftBy, takenOf, bytesAfter}
+use Rattle.book.specs.Payload.{aiouOf, blockCount, blockAt, blocksFrom, blocksOf, takeBits}
+use Rattle.book.specs.Take.{lookup, insert, Outcome, taken, refused, andThen, takeBlock, takeAll, before, answerOf, leftBy}
 use Rattle.book.specs.TakeLaws.{orElse, or-assoc, or-nothing, lookup-append, Took, took, lookup-block, length-insert, ascending-insert}
-use Rattle.book.specs.Judge.{judgedBy, isTaken, judgeFound, judgeBlock, judge-is, Image}
+use Rattle.book.specs.Judge.{judgedBy, isTaken, judgeBlock, judge-is, Image}
 use Rattle.book.specs.declared.Book.{Book}
 use Rattle.book.specs.declared.Found.{Found}
 use Rattle.book.specs.declared.Found.the-variants.{Area, Nothing}
@@ -382,75 +382,54 @@ under-same book k e = rw (eq-eqb _ _ e)
 pub under-other : (book : Book) (k : ℕ) → (book .«aiou_plus_one» ≡ k → ⊥) → 0 ≡ cond (eqb (book .«aiou_plus_one») k) (book .count) 0
 under-other book k e = rw (ne-eqb _ _ e)
 
-pub blocks-there : (p : List ℕ) (x : Bool) → x ≡ cutShort p → x ≡ false → 19 + 47 * blockCount p ≤ 8 * length p
-blocks-there p x e l = ltb-false (8 * length p) (19 + 47 * blockCount p) (sym e ∙ l)
+-- the blocks of a payload that reads as a GAD, taken into a sound book
+module _ (book : Book) (s p : List ℕ) (w : sound book s ≡ true) (aiou n : ℕ) (ea : aiou ≡ aiouOf p + 1) (en : n ≡ cond (eqb (book .«aiou_plus_one») aiou) (book .count) 0) where
+  areas-before : areasIn n s ≡ before book s (aiouOf p)
+  unfolding before areasIn
+  areas-before = ap (λ n. areasIn n s) en ∙ go (eqb (book .«aiou_plus_one») aiou) ∙ ap (λ k. cond (eqb (book .«aiou_plus_one») k) (areasIn (book .count) s) []) ea
+    where
+      go : (t : Bool) → areasIn (cond t (book .count) 0) s ≡ cond t (areasIn (book .count) s) []
+      go true = refl
+      go false = refl
 
-module _ (book : Book) (s p : List ℕ) where
-  pub take-room : length s < 192 → (Taken.Refused Room ≡ takenOf book s p) × (s ≡ bytesAfter book s p)
-  unfolding outcome
-  take-room h = let z : ltb (length s) 192 ≡ true = lt-ltb _ _ h in (rw z, rw z)
+  outcome-is : takeBits book s p ≡ takeAll (blocksOf p) (areasIn n s)
+  outcome-is = ap (takeAll (blocksOf p)) (sym areas-before)
 
-  module _ (h : 192 ≤ length s) (b : Bool) (eb : b ≡ sound book s) where
-    pub take-state : not b ≡ true → (Taken.Refused State ≡ takenOf book s p) × (s ≡ bytesAfter book s p)
-    unfolding outcome
-    take-state k =
-        let z : ltb (length s) 192 ≡ false = le-ltb _ _ h in
-        let y : sound book s ≡ false = sym eb ∙ not-true b k in (rw (z, y), rw (z, y))
+  pub count-few : n ≤ 32
+  count-few = subst (λ n. n ≤ 32) (sym en) (go (eqb (book .«aiou_plus_one») aiou))
+    where
+      go : (t : Bool) → cond t (book .count) 0 ≤ 32
+      go true = sound-count book s w
+      go false = omega arith
 
-    module _ (k : not b ≡ false) (x : Bool) (ex : x ≡ cutShort p) where
-      pub take-short : x ≡ true → (Taken.Refused Short ≡ takenOf book s p) × (s ≡ bytesAfter book s p)
-      unfolding outcome
-      take-short l =
-          let z : ltb (length s) 192 ≡ false = le-ltb _ _ h in
-          let y : sound book s ≡ true = sym eb ∙ not-false b k in
-          let w : cutShort p ≡ true = sym ex ∙ l in (rw (z, y, w), rw (z, y, w))
+  pub count-fits : 192 ≤ length s → 6 * n ≤ length s
+  count-fits h = omega (arith, count-few)
 
-      module _ (l : x ≡ false) (aiou n : ℕ) (ea : aiou ≡ aiouOf p + 1) (en : n ≡ cond (eqb (book .«aiou_plus_one») aiou) (book .count) 0) where
-        areas-before : areasIn n s ≡ before book s p
-        unfolding before areasIn
-        areas-before = ap (λ n. areasIn n s) en ∙ go (eqb (book .«aiou_plus_one») aiou) ∙ ap (λ k. cond (eqb (book .«aiou_plus_one») k) (areasIn (book .count) s) []) ea
-          where
-            go : (t : Bool) → areasIn (cond t (book .count) 0) s ≡ cond t (areasIn (book .count) s) []
-            go true = refl
-            go false = refl
+  pub count-image : Bytes s → Image n s
+  unfolding areasIn bytesOfAll
+  count-image y = subst (λ n. Image n s) (sym en) (go (eqb (book .«aiou_plus_one») aiou))
+    where
+      go : (t : Bool) → Image (cond t (book .count) 0) s
+      go true = sound-image book s w y
+      go false = record { ascending = Ascending.none; image = refl }
 
-        outcome-is : outcome book s p ≡ takeAll (blocksOf p) (areasIn n s)
-        unfolding outcome
-        outcome-is =
-            let z : ltb (length s) 192 ≡ false = le-ltb _ _ h in
-            let y : sound book s ≡ true = sym eb ∙ not-false b k in
-            let w : cutShort p ≡ false = sym ex ∙ l in
-            rw (z, y, w) (ap (takeAll (blocksOf p)) (sym areas-before))
+  module _ (v : Judged) (ev : v ≡ judgedBy (takeAll (blocksOf p) (areasIn n s))) where
+    refusal-is : (r : Refusal) → v ≡ Refused r → refused r ≡ takeBits book s p
+    refusal-is r q = sym (is-refused _ r (sym q ∙ ev)) ∙ sym outcome-is
 
-        pub count-few : n ≤ 32
-        count-few = subst (λ n. n ≤ 32) (sym en) (go (eqb (book .«aiou_plus_one») aiou))
-          where
-            go : (t : Bool) → cond t (book .count) 0 ≤ 32
-            go true = sound-count book s (sym eb ∙ not-false b k)
-            go false = omega arith
+    pub take-refused : (r : Refusal) → v ≡ Refused r → Taken.Refused r ≡ answerOf (takeBits book s p) (aiouOf p)
+    take-refused r q = ap (λ o. answerOf o (aiouOf p)) (refusal-is r q)
 
-        pub count-image : Bytes s → Image n s
-        unfolding areasIn bytesOfAll
-        count-image y = subst (λ n. Image n s) (sym en) (go (eqb (book .«aiou_plus_one») aiou))
-          where
-            go : (t : Bool) → Image (cond t (book .count) 0) s
-            go true = sound-image book s (sym eb ∙ not-false b k) y
-            go false = record { ascending = Ascending.none; image = refl }
+    pub left-refused : (r : Refusal) → v ≡ Refused r → s ≡ leftBy (takeBits book s p) s
+    left-refused r q = ap (λ o. leftBy o s) (refusal-is r q)
 
-        module _ (v : Judged) (ev : v ≡ judgedBy (takeAll (blocksOf p) (areasIn n s))) where
-          pub take-refused : (r : Refusal) → v ≡ Refused r → (Taken.Refused r ≡ takenOf book s p) × (s ≡ bytesAfter book s p)
-          take-refused r q =
-              let o : refused r ≡ outcome book s p = sym (is-refused _ r (sym q ∙ ev)) ∙ sym outcome-is in
-              (ap (λ o. answerOf o (aiouOf p)) o, ap (λ o. leftBy o s) o)
+    pub is-taken : (m : ℕ) → v ≡ Held m → isTaken (takeAll (blocksOf p) (areasIn n s)) ≡ true
+    is-taken m q = ap isTaken (is-held (takeAll (blocksOf p) (areasIn n s)) m (sym q ∙ ev) .is)
 
-          pub is-taken : (m : ℕ) → v ≡ Held m → isTaken (takeAll (blocksOf p) (areasIn n s)) ≡ true
-          is-taken m q = ap isTaken (is-held (takeAll (blocksOf p) (areasIn n s)) m (sym q ∙ ev) .is)
+    pub take-held : (m : ℕ) → v ≡ Held m → Taken.Holds (record { «aiou_plus_one» = aiou; count = m }) ≡ answerOf (takeBits book s p) (aiouOf p)
+    take-held m q =
+        let w : IsHeld (takeAll (blocksOf p) (areasIn n s)) m = is-held _ m (sym q ∙ ev) in
+        ap₂ (λ a m. Taken.Holds (record { «aiou_plus_one» = a; count = m })) ea (sym (w .many)) ∙ ap (λ o. answerOf o (aiouOf p)) (sym (w .is) ∙ sym outcome-is)
 
-          pub take-held : (m : ℕ) → v ≡ Held m → (z : List ℕ) → z ≡ leftBy (takeAll (blocksOf p) (areasIn n s)) s
-              → (Taken.Holds (record { «aiou_plus_one» = aiou; count = m }) ≡ takenOf book s p) × (z ≡ bytesAfter book s p)
-          take-held m q z ez =
-              let w : IsHeld (takeAll (blocksOf p) (areasIn n s)) m = is-held _ m (sym q ∙ ev) in
-              let o : taken (w .list) ≡ outcome book s p = sym (w .is) ∙ sym outcome-is in (
-                ap₂ (λ a m. Taken.Holds (record { «aiou_plus_one» = a; count = m })) ea (sym (w .many)) ∙ ap (λ o. answerOf o (aiouOf p)) o,
-                ez ∙ ap (λ o. leftBy o s) (sym outcome-is),
-              )
+  pub left-held : (z : List ℕ) → z ≡ leftBy (takeAll (blocksOf p) (areasIn n s)) s → z ≡ leftBy (takeBits book s p) s
+  left-held z ez = ez ∙ ap (λ o. leftBy o s) (sym outcome-is)

@@ -1,10 +1,11 @@
--- Document 01, "Book and run": the area book in its lent bytes, when it is sound, and finding an ID in it. Definitions to believe.
-use mathlib.Core.Bool.{Bool, true, false, cond, not, _&&_}
+-- Definitions to believe: the area book in its lent bytes, when it is sound, and finding an ID in it (document 01, "Book and run").
+use mathlib.Core.Bool.{Bool, true, cond, _&&_, Bool·beq}
 use mathlib.Core.List.{List, [], _∷_, _++_}
-use Prim.Native.Nat.{ℕ, zero, suc, _+_, _*_, _/_, _%_}
+use Prim.Native.Nat.{ℕ, zero, suc, _*_, _/_, _%_}
 use lib.Dec.{leb, ltb, eqb}
 use lib.ListN.{length, getD, take, drop}
 use Rattle.area.specs.Area.{sf031, isArea, bytesOf, numberIn}
+use Rattle.area.specs.declared.AreaId.{AreaId}
 use Rattle.book.specs.declared.Book.{Book}
 
 -- "The book holds one AIOU and up to 32 areas, ascending by ID, six bytes each: the 47 bits of the GAD block and a zero bit, 192 bytes."
@@ -28,12 +29,8 @@ bytesOfAll [] = []
 bytesOfAll (a ∷ l) = bytesOf a ++ bytesOfAll l
 
 -- "A book has an AIOU exactly when it has an area, at most 32, .." AIOU is 0 to 15. A book says AIOU + 1, and 0 where it has none.
-abbrev pub both : Bool → Bool → Bool
-both true b = b
-both false b = not b
-
 unfoldable pub headSound : Book → Bool
-headSound book = both (eqb (book .«aiou_plus_one») 0) (eqb (book .count) 0) && (leb (book .«aiou_plus_one») 16 && leb (book .count) mostAreas)
+headSound book = Bool·beq (eqb (book .«aiou_plus_one») 0) (eqb (book .count) 0) && (leb (book .«aiou_plus_one») 16 && leb (book .count) mostAreas)
 
 -- ".. ascending, each with fields in range, the last bit zero and no AREA_OFF": n areas whose IDs are `least` and more
 unfoldable pub areasSound : ℕ → ℕ → List ℕ → Bool
@@ -50,7 +47,14 @@ unfoldable pub placeOf : ℕ → ℕ → List ℕ → ℕ
 placeOf id zero s = zero
 placeOf id (suc n) s = cond (eqb (getD s 0 0) id) zero (suc (placeOf id n (drop 6 s)))
 
--- "Looking up an area gives its six bytes"; an absent ID gives the empty part, and so do bytes that are fewer than the areas take
-unfoldable pub found : Book → List ℕ → ℕ → List ℕ
-found book s id =
-    cond (leb (6 * book .count) (length s) && ltb (placeOf id (book .count) s) (book .count)) (take 6 (drop (6 * placeOf id (book .count) s) s)) []
+-- "Looking up an area gives its six bytes ..; an absent ID, either book short, or a state or book not sound, give the empty part at the .. book's
+-- start." Here the one book that is looked into.
+abbrev pub isHeld : Book → List ℕ → AreaId → Bool
+isHeld book s id = sound book s && ltb (placeOf (id .0) (book .count) s) (book .count)
+
+unfoldable pub found : Book → List ℕ → AreaId → List ℕ
+found book s id = cond (isHeld book s id) (take 6 (drop (6 * placeOf (id .0) (book .count) s) s)) []
+
+-- and how many bytes of the lent ones are before that part
+unfoldable pub foundAt : Book → List ℕ → AreaId → ℕ
+foundAt book s id = cond (isHeld book s id) (6 * placeOf (id .0) (book .count) s) 0

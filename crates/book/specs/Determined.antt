@@ -3,6 +3,7 @@ use mathlib.Core.Bool.{Bool}
 use mathlib.Core.Path.{_≡_, sym, _∙_}
 use mathlib.Core.List.{List}
 use Prim.Native.Nat.{ℕ}
+use Rattle.area.specs.declared.AreaId.{AreaId}
 use Rattle.book.specs.Book.{headSound, sound, found}
 use Rattle.book.specs.Take.{takenOf, bytesAfter, numberOfTaken}
 use Rattle.book.specs.declared.Book.{Book}
@@ -14,7 +15,8 @@ head-is-sound-determined book a b p q = p ∙ sym q
 pub is-sound-determined : (book : Book) (s : List ℕ) (a b : Bool) → a ≡ sound book s → b ≡ sound book s → a ≡ b
 is-sound-determined book s a b p q = p ∙ sym q
 
-pub find-determined : (book : Book) (s : List ℕ) (id : ℕ) (a b : List ℕ) → a ≡ found book s id → b ≡ found book s id → a ≡ b
+-- the bytes of the part that is found; where it starts: `part-determined` of bits/specs/Part.antt
+pub find-determined : (book : Book) (s : List ℕ) (id : AreaId) (a b : List ℕ) → a ≡ found book s id → b ≡ found book s id → a ≡ b
 find-determined book s id a b p q = p ∙ sym q
 
 pub take-determined : (book : Book) (s payload : List ℕ) (a b : Taken) (t u : List ℕ) → a ≡ takenOf book s payload → b ≡ takenOf book s payload

@@ -1,16 +1,16 @@
--- Serves proofs, and is proved: judging a GAD block by what the book and the earlier blocks say of its ID, without the areas in a row. Assumes nothing.
-use mathlib.Core.Path.{_≡_, refl, ap, ap₂, sym, _∙_, subst}
+-- Mirror: judging a GAD block by what the book and the earlier blocks say of its ID, without the areas in a row; and, proved, that it comes to the same.
+use mathlib.Core.Path.{_≡_, refl, ap, _∙_}
 use mathlib.Core.Bool.{Bool, true, false, cond}
-use mathlib.Core.List.{List, [], _∷_, _++_}
-use Prim.Native.Nat.{ℕ, zero, suc, _+_, _-_, _*_, _≤_, _<_}
+use mathlib.Core.List.{List}
+use Prim.Native.Nat.{ℕ, _+_, _*_}
 use native.Mathlib.Omega.{arith}
 use lib.Dec.{ltb, eqb}
-use lib.ListN.{length, take, drop, getD}
+use lib.ListN.{length, take}
 use Rattle.answer.specs.declared.Refusal.the-variants.{AreaOff, Conflict, BookFull}
 use Rattle.area.specs.Area.{sf031, areaOff}
 use Rattle.book.specs.Book.{mostAreas, areasIn, bytesOfAll}
 use Rattle.book.specs.Laws.{Ascending}
-use Rattle.book.specs.Take.{blockAt, blocksFrom, lookup, insert, Outcome, taken, refused, stop, placed, takeBlock}
+use Rattle.book.specs.Take.{lookup, insert, Outcome, taken, refused, stop, placed, takeBlock}
 use Rattle.book.specs.TakeLaws.{length-insert}
 use Rattle.book.specs.declared.Found.{Found}
 use Rattle.book.specs.declared.Found.the-variants.{Area, Nothing}

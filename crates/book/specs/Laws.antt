@@ -1,18 +1,18 @@
--- Serves proofs, and is proved: the areas of a book and its bytes. Assumes nothing.
-use mathlib.Core.Path.{_≡_, refl, ap, ap₂, sym, _∙_, subst}
-use mathlib.Core.Bool.{Bool, true, false, cond, not, _&&_, false≢true}
+-- Laws: the areas of a book and its bytes. Proved; assumes nothing.
+use mathlib.Core.Path.{_≡_, refl, ap, ap₂, sym, _∙_}
+use mathlib.Core.Bool.{true, _&&_, Bool·beq}
 use mathlib.Core.List.{List, [], _∷_, _++_, append-assoc}
-use Prim.Native.Nat.{ℕ, zero, suc, _+_, _-_, _*_, _/_, _%_, _^_, _≤_, _<_}
+use Prim.Native.Nat.{ℕ, zero, suc, _+_, _*_, _/_, _%_, _^_, _≤_, _<_}
 use native.Mathlib.Omega.{arith}
-use lib.Dec.{leb, ltb, eqb}
-use lib.ListN.{length, getD, take, drop, length-append, length-drop, take-append-drop}
-use lib.Seq.{take-add, drop-drop, take-at, drop-at}
-use borrow.Author.Tests.{lt-ltb, le-ltb, le-leb, leb-true, eq-eqb, eqb-true}
+use lib.Dec.{leb, eqb}
+use lib.ListN.{length, getD, take, drop, length-append, length-drop}
+use lib.Seq.{take-add, drop-drop}
+use borrow.Author.Tests.{le-leb, leb-true, eq-eqb, eqb-true}
 use Rattle.bits.specs.Bits.{Bytes}
 use Rattle.bits.specs.Laws.{bytes-drop, bytes-append, bytes-none}
 use Rattle.area.specs.Area.{sf031, isArea, bytesOf, numberIn}
 use Rattle.area.specs.Laws.{bytes-area, number-bytes, bytes-number, area-lt, half-number, both-left, both-right}
-use Rattle.book.specs.Book.{mostAreas, bookBytes, both, areaIn, areasIn, bytesOfAll, headSound, areasSound, sound}
+use Rattle.book.specs.Book.{mostAreas, bookBytes, areaIn, areasIn, bytesOfAll, headSound, areasSound, sound}
 use Rattle.book.specs.declared.Book.{Book}
 
 -- ---- areas in a row
@@ -64,33 +64,56 @@ pub data Areas : List ℕ → Type 0 where
 pub head-parts : (book : Book) → headSound book ≡ true → (book .«aiou_plus_one» ≤ 16) × (book .count ≤ mostAreas)
 unfolding headSound
 head-parts book e =
-    let r : (leb (book .«aiou_plus_one») 16 && leb (book .count) mostAreas) ≡ true = both-right (both (eqb (book .«aiou_plus_one») 0) (eqb (book .count) 0)) _ e in
+    let r : (leb (book .«aiou_plus_one») 16 && leb (book .count) mostAreas) ≡ true = both-right (Bool·beq (eqb (book .«aiou_plus_one») 0) (eqb (book .count) 0)) _ e in
     (leb-true _ _ (both-left (leb (book .«aiou_plus_one») 16) (leb (book .count) mostAreas) r), leb-true _ _ (both-right (leb (book .«aiou_plus_one») 16) (leb (book .count) mostAreas) r))
 
--- sound bytes are those of areas, ascending
+-- what it is that bytes are sound, area by area
+module _ (n least : ℕ) (s : List ℕ) (e : areasSound (suc n) least s ≡ true) where
+  rest-1 : (leb least (sf031 (areaIn s)) && (isArea (areaIn s) && areasSound n (suc (sf031 (areaIn s))) (drop 6 s))) ≡ true
+  unfolding areasSound
+  rest-1 = both-right (eqb (numberIn s % 2) 0) _ e
+
+  rest-2 : (isArea (areaIn s) && areasSound n (suc (sf031 (areaIn s))) (drop 6 s)) ≡ true
+  rest-2 = both-right (leb least (sf031 (areaIn s))) _ rest-1
+
+  first-even : numberIn s % 2 ≡ 0
+  unfolding areasSound
+  first-even = eqb-true _ _ (both-left (eqb (numberIn s % 2) 0) _ e)
+
+  first-least : least ≤ sf031 (areaIn s)
+  first-least = leb-true _ _ (both-left (leb least (sf031 (areaIn s))) _ rest-1)
+
+  first-area : isArea (areaIn s) ≡ true
+  first-area = both-left (isArea (areaIn s)) _ rest-2
+
+  others : areasSound n (suc (sf031 (areaIn s))) (drop 6 s) ≡ true
+  others = both-right (isArea (areaIn s)) _ rest-2
+
+-- sound bytes hold areas, ascending
+pub sound-ascending : (n least : ℕ) (s : List ℕ) → areasSound n least s ≡ true → Ascending least (areasIn n s)
+unfolding areasIn
+sound-ascending zero least s e = Ascending.none
+sound-ascending (suc n) least s e =
+    Ascending.more (first-least n least s e) (area-lt (areaIn s) (first-area n least s e)) (sound-ascending n (suc (sf031 (areaIn s))) (drop 6 s) (others n least s e))
+
+pub sound-each : (n least : ℕ) (s : List ℕ) → areasSound n least s ≡ true → Areas (areasIn n s)
+unfolding areasIn
+sound-each zero least s e = Areas.none
+sound-each (suc n) least s e = Areas.more (first-area n least s e) (sound-each n (suc (sf031 (areaIn s))) (drop 6 s) (others n least s e))
+
+-- and they are the bytes of those
+sound-image : (n least : ℕ) (s : List ℕ) → Bytes s → 6 * n ≤ length s → areasSound n least s ≡ true → take (6 * n) s ≡ bytesOfAll (areasIn n s)
+unfolding areasIn bytesOfAll
+sound-image zero least s b h e = refl
+sound-image (suc n) least s b h e =
+    ap (λ k. take k s) {x = 6 * suc n} {y = 6 + 6 * n} (omega arith) ∙ take-add 6 (6 * n) s
+    ∙ ap₂ (λ x y. x ++ y) (sym (bytes-number s b (omega arith) (first-even n least s e)))
+    (sound-image n (suc (sf031 (areaIn s))) (drop 6 s) (bytes-drop 6 b) (omega (arith, length-drop 6 s)) (others n least s e))
+
 pub record Sound (n least : ℕ) (s : List ℕ) : Type 0 where
   pub ascending : Ascending least (areasIn n s)
   pub areas : Areas (areasIn n s)
   pub image : take (6 * n) s ≡ bytesOfAll (areasIn n s)
-
-pub sound-areas : (n least : ℕ) (s : List ℕ) → Bytes s → 6 * n ≤ length s → areasSound n least s ≡ true → Sound n least s
-unfolding areasIn bytesOfAll areasSound
-sound-areas zero least s b h e = record { ascending = Ascending.none; areas = Areas.none; image = refl }
-sound-areas (suc n) least s b h e =
-    let a : ℕ = areaIn s in
-    let even : eqb (numberIn s % 2) 0 ≡ true = both-left _ _ e in
-    let e₁ : (leb least (sf031 a) && (isArea a && areasSound n (suc (sf031 a)) (drop 6 s))) ≡ true = both-right (eqb (numberIn s % 2) 0) _ e in
-    let low : leb least (sf031 a) ≡ true = both-left _ _ e₁ in
-    let e₂ : (isArea a && areasSound n (suc (sf031 a)) (drop 6 s)) ≡ true = both-right (leb least (sf031 a)) _ e₁ in
-    let good : isArea a ≡ true = both-left _ _ e₂ in
-    let rest : Sound n (suc (sf031 a)) (drop 6 s)
-    = sound-areas n (suc (sf031 a)) (drop 6 s) (bytes-drop 6 b) (omega (arith, length-drop 6 s)) (both-right (isArea a) _ e₂) in
-    record {
-      ascending = Ascending.more (leb-true _ _ low) (area-lt a good) (rest .ascending);
-      areas = Areas.more good (rest .areas);
-      image = ap (λ k. take k s) {x = 6 * suc n} {y = 6 + 6 * n} (omega arith) ∙ take-add 6 (6 * n) s
-          ∙ ap₂ (λ x y. x ++ y) (sym (bytes-number s b (omega arith) (eqb-true _ _ even))) (rest .image);
-    }
 
 -- what a sound book has
 module _ (book : Book) (s : List ℕ) (e : sound book s ≡ true) where
@@ -105,9 +128,16 @@ module _ (book : Book) (s : List ℕ) (e : sound book s ≡ true) where
   unfolding sound
   sound-room = leb-true _ _ (both-left (leb bookBytes (length s)) (headSound book && areasSound (book .count) 0 s) e)
 
+  pub sound-areas : areasSound (book .count) 0 s ≡ true
+  sound-areas = both-right (headSound book) (areasSound (book .count) 0 s) sound-rest
+
   pub sound-lists : Bytes s → Sound (book .count) 0 s
   sound-lists b =
-      sound-areas (book .count) 0 s b (omega (arith, head-parts book sound-head, sound-room)) (both-right (headSound book) (areasSound (book .count) 0 s) sound-rest)
+      record {
+        ascending = sound-ascending (book .count) 0 s sound-areas;
+        areas = sound-each (book .count) 0 s sound-areas;
+        image = sound-image (book .count) 0 s b (omega (arith, head-parts book sound-head, sound-room)) sound-areas;
+      }
 
 -- and bytes of areas, ascending, are sound
 pub areas-bytes : (l t : List ℕ) (least : ℕ) → Ascending least l → areasIn (length l) (bytesOfAll l ++ t) ≡ l

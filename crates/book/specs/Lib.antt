@@ -1,7 +1,12 @@
 pub mod Book
 pub mod Take
+pub mod Payload
 pub mod Laws
+pub mod FindLaws
 pub mod TakeLaws
+pub mod PayloadLaws
+pub mod TakenLaws
 pub mod Judge
 pub mod Theorems
+pub mod Examples
 pub mod Determined

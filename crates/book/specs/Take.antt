@@ -1,13 +1,16 @@
--- Document 01, "Book and run": what a GAD does to the book. Definitions to believe.
+-- Definitions to believe: what a GAD does to the book (document 01, "Book and run").
 use mathlib.Core.Bool.{Bool, true, false, cond, not}
-use mathlib.Core.List.{List, [], _∷_, _++_}
-use Prim.Native.Nat.{ℕ, zero, suc, _+_, _*_}
-use lib.Dec.{leb, ltb, eqb}
+use mathlib.Core.List.{List, [], _∷_, _++_, map}
+use Prim.Native.Nat.{ℕ, _+_, _*_, _^_}
+use lib.Dec.{ltb, eqb}
 use lib.ListN.{length, drop}
 use Rattle.answer.specs.Number.{numberOf}
 use Rattle.answer.specs.declared.Refusal.{Refusal}
-use Rattle.answer.specs.declared.Refusal.the-variants.{Short, Room, AreaOff, Conflict, BookFull, State}
-use Rattle.bits.specs.Bits.{field}
+use Rattle.answer.specs.declared.Refusal.the-variants.{Length, Room, AreaOff, Conflict, BookFull, State}
+use Rattle.bits.specs.Bits.{toBits}
+use Rattle.layout.specs.Layout.{done, readL}
+use Rattle.layout.specs.Layout as layout
+use Rattle.gad.specs.Gad.{Block, Gad, gad}
 use Rattle.area.specs.Area.{sf031, areaOff}
 use Rattle.book.specs.Book.{mostAreas, bookBytes, areasIn, bytesOfAll, sound}
 use Rattle.book.specs.declared.Book.{Book}
@@ -16,27 +19,22 @@ use Rattle.book.specs.declared.Found.the-variants.{Area, Nothing}
 use Rattle.book.specs.declared.Taken.{Taken}
 use Rattle.book.specs.declared.Taken.the-variants.{Holds, Refused}
 
--- What a GAD payload says (document 000, tables 6.23 and 6.24): 9 bits of SIOU, SF068 AIOU 4 bits, a reserved bit, SF030 5 bits, which
--- means code plus one, and so many blocks of 47 bits.
-abbrev pub aiouOf : List ℕ → ℕ
-aiouOf payload = field payload 9 4
+-- what a payload says as a GAD, by the layout of tables 6.23 and 6.24; or its first fault in reading order
+unfoldable pub gadOf : List ℕ → layout.Outcome Gad
+gadOf payload = readL (gad done) (toBits payload)
 
-abbrev pub blockCount : List ℕ → ℕ
-blockCount payload = field payload 14 5 + 1
+-- what follows from what was read, and what from a refusal
+abbrev pub reading : {A B : Type 0} → layout.Outcome A → (A → B) → (Refusal → B) → B
+reading (layout.accepted value codes used) next fault = next value
+reading (layout.refused why) next fault = fault why
 
-abbrev pub blockAt : List ℕ → ℕ → ℕ
-blockAt payload i = field payload (19 + 47 * i) 47
+-- a block as an area, "the 47 bits of the GAD block": SF031 8 bits, SF032 11, SF033 12, SF034 3, SF035 3, SF036 5, SF037 5
+abbrev pub areaOf : Block → ℕ
+areaOf b =
+    (((((b .id * 2 ^ 11 + b .latitude) * 2 ^ 12 + b .longitude) * 2 ^ 3 + b .rows) * 2 ^ 3 + b .columns) * 2 ^ 5 + b .latitudeSpacing) * 2 ^ 5 + b .longitudeSpacing
 
-unfoldable pub blocksFrom : ℕ → ℕ → List ℕ → List ℕ
-blocksFrom zero i payload = []
-blocksFrom (suc n) i payload = blockAt payload i ∷ blocksFrom n (suc i) payload
-
-abbrev pub blocksOf : List ℕ → List ℕ
-blocksOf payload = blocksFrom (blockCount payload) 0 payload
-
--- A payload that ends before its blocks do. No accepted GAD does: this keeps the call total.
-abbrev pub cutShort : List ℕ → Bool
-cutShort payload = ltb (8 * length payload) (19 + 47 * blockCount payload)
+abbrev pub areasOf : List Block → List ℕ
+areasOf blocks = map areaOf blocks
 
 -- the first area with this ID
 unfoldable pub lookup : ℕ → List ℕ → Found
@@ -77,16 +75,21 @@ takeAll [] l = taken l
 takeAll (a ∷ blocks) l = andThen (takeBlock a l) (λ l. takeAll blocks l)
 
 -- "A GAD with another AIOU begins a new book; with the same one it adds." With no book, every AIOU is another.
-unfoldable pub before : Book → List ℕ → List ℕ → List ℕ
-before book s payload = cond (eqb (book .«aiou_plus_one») (aiouOf payload + 1)) (areasIn (book .count) s) []
+unfoldable pub before : Book → List ℕ → ℕ → List ℕ
+before book s aiou = cond (eqb (book .«aiou_plus_one») (aiou + 1)) (areasIn (book .count) s) []
 
--- ROOM, STATE, then the GAD's own
+-- "LENGTH: payload of 0 or over 1,023 bytes"
+abbrev pub mostPayload : ℕ
+mostPayload = 1023
+
+-- "Order: ROOM, STATE, .. payload refusals, .. for GAD the book's refusals"
 unfoldable pub outcome : Book → List ℕ → List ℕ → Outcome
 outcome book s payload =
     stop (ltb (length s) bookBytes) Room
     (stop (not (sound book s)) State
-    (stop (cutShort payload) Short
-    (takeAll (blocksOf payload) (before book s payload))))
+    (stop (eqb (length payload) 0) Length
+    (stop (ltb mostPayload (length payload)) Length
+    (reading (gadOf payload) (λ m. takeAll (areasOf (m .blocks)) (before book s (m .aiou))) (λ why. refused why)))))
 
 -- what `take` answers, and what it leaves of the lent bytes: "only bytes of areas held are written", and a refusal changes nothing
 abbrev pub answerOf : Outcome → ℕ → Taken
@@ -98,7 +101,7 @@ leftBy (taken l) s = bytesOfAll l ++ drop (6 * length l) s
 leftBy (refused r) s = s
 
 abbrev pub takenOf : Book → List ℕ → List ℕ → Taken
-takenOf book s payload = answerOf (outcome book s payload) (aiouOf payload)
+takenOf book s payload = answerOf (outcome book s payload) (reading (gadOf payload) (λ m. m .aiou) (λ why. 0))
 
 abbrev pub bytesAfter : Book → List ℕ → List ℕ → List ℕ
 bytesAfter book s payload = leftBy (outcome book s payload) s

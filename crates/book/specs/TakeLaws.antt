@@ -1,15 +1,12 @@
--- Serves proofs, and is proved: the areas of a book after a GAD. Assumes nothing.
---     what is in it            lookup-append lookup-insert lookup-block in-book
---     order, count             length-insert ascending-insert block-good take-good
+-- Laws: looking an ID up, an area that takes its place, and what it is that a block and all blocks were taken. Proved; assumes nothing.
 use mathlib.Core.Path.{_≡_, refl, ap, ap₂, sym, _∙_, subst}
-use mathlib.Core.Bool.{Bool, true, false, cond, not, _&&_, false≢true}
-use mathlib.Core.List.{List, [], _∷_, _++_, append-assoc}
-use Prim.Native.Nat.{ℕ, zero, suc, _+_, _-_, _*_, _/_, _%_, _^_, _≤_, _<_}
+use mathlib.Core.Bool.{Bool, true, false, cond, not, _&&_}
+use mathlib.Core.List.{List, [], _∷_, _++_}
+use Prim.Native.Nat.{ℕ, zero, suc, _^_, _≤_, _<_}
 use native.Mathlib.Omega.{arith}
-use lib.Dec.{leb, ltb, eqb}
-use lib.ListN.{length, getD, take, drop}
-use borrow.Author.Tests.{lt-ltb, le-ltb, ltb-true, ltb-false, eq-eqb, ne-eqb, eqb-true, eqb-false}
-use Rattle.answer.specs.declared.Refusal.{Refusal}
+use lib.Dec.{ltb, eqb}
+use lib.ListN.{length, getD}
+use borrow.Author.Tests.{lt-ltb, ltb-true, ltb-false, eq-eqb, eqb-true, eqb-false}
 use Rattle.answer.specs.declared.Refusal.the-variants.{AreaOff, Conflict, BookFull}
 use Rattle.area.specs.Area.{sf031, inRange, areaOff, isArea}
 use Rattle.book.specs.Book.{mostAreas}
@@ -164,7 +161,7 @@ pub length-block : (a : ℕ) (l m : List ℕ) → Took a l m → length l ≤ mo
 length-block a l m (Took.held q e) p = p
 length-block a l m (Took.new q e k) p = omega (arith, length-insert a l)
 
-pub grows : (a : ℕ) (l m : List ℕ) → Took a l m → length l ≤ length m
+grows : (a : ℕ) (l m : List ℕ) → Took a l m → length l ≤ length m
 grows a l m (Took.held q e) = omega arith
 grows a l m (Took.new q e k) = omega (arith, length-insert a l)
 
@@ -183,3 +180,78 @@ took-all (a ∷ blocks) l n e = go (takeBlock a l) refl (λ m q. took-all blocks
     go : (o : Outcome) → takeBlock a l ≡ o → ((m : List ℕ) → takeAll blocks m ≡ taken n → TookAll blocks m n) → andThen o (λ l. takeAll blocks l) ≡ taken n → TookAll (a ∷ blocks) l n
     go (taken m) q ih e = TookAll.more (took a l m q) (ih m e)
     go (refused r) q ih e = let z : _≡_ {A = ℕ} 0 1 = cc in absurd (omega arith)
+
+-- under each ID the area that was held, else the message's
+pub lookup-after : (id : ℕ) (blocks l n : List ℕ) → TookAll blocks l n → lookup id n ≡ orElse (lookup id l) (lookup id blocks)
+unfolding lookup
+lookup-after id [] l n TookAll.none = sym (or-nothing (lookup id l))
+lookup-after id (a ∷ rest) l n (TookAll.more {m = m} t ts) =
+    lookup-after id rest m n ts ∙ ap (λ f. orElse f (lookup id rest)) (lookup-block id a l m t) ∙ or-assoc (lookup id l) (lookup id (a ∷ [])) (lookup id rest)
+    ∙ ap (orElse (lookup id l)) (sym (lookup-append id (a ∷ []) rest))
+
+-- each block is held under its own ID
+holds-own : (a : ℕ) (l m : List ℕ) → Took a l m → lookup (sf031 a) m ≡ Area a
+unfolding lookup
+holds-own a l m (Took.held q e) = e
+holds-own a l m (Took.new q e h) =
+    lookup-block (sf031 a) a l m (Took.new q e h) ∙ ap (λ f. orElse f (cond (eqb (sf031 a) (sf031 a)) (Area a) Nothing)) e
+    ∙ ap (λ b. cond b (Area a) Nothing) (eq-eqb (sf031 a) (sf031 a) refl)
+
+pub holds-each : (i : ℕ) (blocks l n : List ℕ) → TookAll blocks l n → i < length blocks → lookup (sf031 (getD blocks i 0)) n ≡ Area (getD blocks i 0)
+holds-each i [] l n TookAll.none h = absurd (omega arith)
+holds-each zero (a ∷ rest) l n (TookAll.more {m = m} t ts) h =
+    lookup-after (sf031 a) rest m n ts ∙ ap (λ f. orElse f (lookup (sf031 a) rest)) (holds-own a l m t)
+holds-each (suc i) (a ∷ rest) l n (TookAll.more {m = m} t ts) h = holds-each i rest m n ts (omega arith)
+
+-- ascending, at most 32, each an area of a sound book
+pub record Good (l : List ℕ) : Type 0 where
+  pub ascending : Ascending 0 l
+  pub few : length l ≤ mostAreas
+  pub areas : Areas l
+
+-- numbers of 47 bits with a latitude and a longitude in range
+pub data InRange : List ℕ → Type 0 where
+  none : InRange []
+  more : {a : ℕ} {l : List ℕ} → a < 2 ^ 47 → inRange a ≡ true → InRange l → InRange (a ∷ l)
+
+areas-block : (a : ℕ) (l m : List ℕ) → a < 2 ^ 47 → inRange a ≡ true → Took a l m → Areas l → Areas m
+unfolding isArea
+areas-block a l m h r (Took.held q e) p = p
+areas-block a l m h r (Took.new q e k) p = areas-insert a l (ap₂ (λ x y. x && y) (lt-ltb a (2 ^ 47) h) (ap₂ (λ x y. x && not y) r q)) p
+
+pub stays-good : (blocks l n : List ℕ) → InRange blocks → TookAll blocks l n → Good l → Good n
+stays-good [] l n r TookAll.none g = g
+stays-good (a ∷ rest) l n (InRange.more h k r) (TookAll.more {m = m} t ts) g =
+    stays-good rest m n r ts
+    (record {
+      ascending = ascending-block a l m h t (g .ascending);
+      few = length-block a l m t (g .few);
+      areas = areas-block a l m h k t (g .areas);
+    })
+
+-- where there is a block, there is an area afterwards
+first-area : (a : ℕ) (l m : List ℕ) → Took a l m → 1 ≤ length m
+unfolding lookup
+first-area a [] m (Took.held q e) = let z : _≡_ {A = ℕ} 0 1 = cc in absurd (omega arith)
+first-area a (b ∷ l) m (Took.held q e) = omega arith
+first-area a l m (Took.new q e k) = omega (arith, length-insert a l)
+
+all-grow : (blocks l n : List ℕ) → TookAll blocks l n → length l ≤ length n
+all-grow [] l n TookAll.none = omega arith
+all-grow (a ∷ rest) l n (TookAll.more {m = m} t ts) = omega (arith, grows a l m t, all-grow rest m n ts)
+
+pub some-area : (a : ℕ) (blocks l n : List ℕ) → TookAll (a ∷ blocks) l n → 1 ≤ length n
+some-area a blocks l n (TookAll.more {m = m} t ts) = omega (arith, first-area a l m t, all-grow blocks m n ts)
+
+-- blocks that are held already change nothing
+pub retake : (blocks l n : List ℕ) → TookAll blocks l n → (x : List ℕ) → ((i : ℕ) → i < length blocks → lookup (sf031 (getD blocks i 0)) x ≡ Area (getD blocks i 0))
+    → takeAll blocks x ≡ taken x
+unfolding takeAll takeBlock
+retake [] l n TookAll.none x h = refl
+retake (a ∷ rest) l n (TookAll.more {m = m} t ts) x h =
+    let held : lookup (sf031 a) x ≡ Area a = h 0 (omega arith) in
+    rw (on-grid a l m t, held, eq-eqb a a refl) (retake rest m n ts x (λ i k. h (suc i) (omega arith)))
+  where
+    on-grid : (a : ℕ) (l m : List ℕ) → Took a l m → areaOff a ≡ false
+    on-grid a l m (Took.held q e) = q
+    on-grid a l m (Took.new q e k) = q

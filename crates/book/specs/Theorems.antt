@@ -1,94 +1,132 @@
--- Theorems on the book after a GAD, stated once over lists of areas: what is in it, its order, at most 32, and that a sound book stays sound. Proved; assumes nothing.
+-- Theorems: the book after a GAD, in the words of the calls `take` and `find`. It is sound (`stays-sound`), or as it was (`refusal-keeps`, `repeat-keeps`); under each ID there is what
+-- there was, else the GAD's block, else nothing (`in-book`, and its three parts `block-found`, `area-stays`, `nothing-else`). Proved; assumes nothing.
 use mathlib.Core.Path.{_≡_, refl, ap, ap₂, sym, _∙_, subst}
-use mathlib.Core.Bool.{Bool, true, false, cond, not, _&&_, false≢true}
+use mathlib.Core.Bool.{Bool, true, false, cond}
 use mathlib.Core.List.{List, [], _∷_, _++_}
-use Prim.Native.Nat.{ℕ, zero, suc, _+_, _-_, _*_, _^_, _≤_, _<_}
+use Prim.Native.Nat.{ℕ, _+_, _*_, _<_}
 use native.Mathlib.Omega.{arith}
-use lib.Dec.{leb, ltb, eqb}
-use lib.ListN.{length, drop, length-append, length-drop}
-use borrow.Author.Tests.{lt-ltb, le-leb, ne-eqb}
+use lib.Dec.{eqb}
+use lib.ListN.{length, getD, drop}
+use lib.Seq.{drop-at}
+use borrow.Author.Tests.{eq-eqb}
+use Rattle.answer.specs.declared.Refusal.{Refusal}
+use Rattle.bits.specs.Bits.{Bytes}
 use Rattle.bits.specs.Laws.{field-lt}
-use Rattle.area.specs.Area.{sf031, inRange, areaOff, isArea}
-use Rattle.book.specs.Book.{mostAreas, bookBytes, bytesOfAll, headSound, areasSound, sound}
-use Rattle.book.specs.Laws.{Ascending, Areas, length-bytes, sound-bytes}
-use Rattle.book.specs.Take.{aiouOf, blockCount, blockAt, blocksOf, blocksFrom, lookup, insert, taken, takeAll}
-use Rattle.book.specs.TakeLaws.{orElse, or-assoc, or-nothing, grows, lookup-append, length-insert, areas-insert, Took, TookAll, took-all, lookup-block, ascending-block, length-block}
+use Rattle.layout.specs.Layout.{accepted}
+use Rattle.gad.specs.Gad.{Gad}
+use Rattle.area.specs.Area.{sf031, bytesOf}
+use Rattle.area.specs.declared.AreaId.{AreaId}
+use Rattle.book.specs.Book.{areasIn, bytesOfAll, sound, found}
+use Rattle.book.specs.Laws.{sound-room, areas-bytes, length-bytes}
+use Rattle.book.specs.Take.{gadOf, reading, areasOf, lookup, Outcome, taken, refused, takeAll, before, outcome, answerOf, leftBy, takenOf, bytesAfter}
+use Rattle.book.specs.Payload.{aiouOf, blocksOf, takeBits, byVerdict}
+use Rattle.book.specs.PayloadLaws.{AsRead, as-read}
+use Rattle.book.specs.TakeLaws.{orElse, TookAll, lookup-after, holds-each, retake}
+use Rattle.book.specs.FindLaws.{bytesOfFound, found-in, found-is}
+use Rattle.book.specs.TakenLaws.{outcome-judged, answer-judged, made-sound, left, one-after, good-after, bytes-are}
 use Rattle.book.specs.declared.Book.{Book}
 use Rattle.book.specs.declared.Found.{Found}
 use Rattle.book.specs.declared.Found.the-variants.{Area, Nothing}
+use Rattle.book.specs.declared.Taken.the-variants.{Holds, Refused}
 
--- The book has exactly the areas that it had and the new ones: under each ID the area that it had, else the message's.
-pub in-book : (blocks l n : List ℕ) → takeAll blocks l ≡ taken n → (id : ℕ) → lookup id n ≡ orElse (lookup id l) (lookup id blocks)
-unfolding lookup
-in-book blocks l n e id = go blocks l n (took-all blocks l n e)
+-- A sound book stays sound, whatever the payload is.
+pub stays-sound : (book : Book) (s payload : List ℕ) (after : Book) → sound book s ≡ true → takenOf book s payload ≡ Holds after → sound after (bytesAfter book s payload) ≡ true
+stays-sound book s payload after w e = let p = left book s payload after w e in
+    ap₂ sound (p .head) (bytes-are book s payload after w e)
+    ∙ made-sound (p .areas) s (aiouOf payload) (sound-room book s w) (one-after book s payload after w e) (field-lt payload 9 4) (good-after book s payload after w e)
+
+-- "It is taken whole or refused": a refusal changes nothing.
+pub refusal-keeps : (book : Book) (s payload : List ℕ) (r : Refusal) → takenOf book s payload ≡ Refused r → bytesAfter book s payload ≡ s
+refusal-keeps book s payload r = go (outcome book s payload)
   where
-    go : (blocks l n : List ℕ) → TookAll blocks l n → lookup id n ≡ orElse (lookup id l) (lookup id blocks)
-    go [] l n TookAll.none = sym (or-nothing (lookup id l))
-    go (a ∷ rest) l n (TookAll.more {m = m} t ts) =
-        go rest m n ts ∙ ap (λ f. orElse f (lookup id rest)) (lookup-block id a l m t) ∙ or-assoc (lookup id l) (lookup id (a ∷ [])) (lookup id rest)
-        ∙ ap (orElse (lookup id l)) (sym (lookup-append id (a ∷ []) rest))
+    go : (o : Outcome) → answerOf o (reading (gadOf payload) (λ m. m .aiou) (λ why. 0)) ≡ Refused r → leftBy o s ≡ s
+    go (taken l) e = let z : _≡_ {A = ℕ} 0 1 = cc in absurd (omega arith)
+    go (refused q) e = refl
 
--- blocks of 47 bits with fields in range, as an accepted GAD has them
-pub data InRange : List ℕ → Type 0 where
-  none : InRange []
-  more : {a : ℕ} {l : List ℕ} → a < 2 ^ 47 → inRange a ≡ true → InRange l → InRange (a ∷ l)
+-- "An identical repeat changes nothing."
+module _ (book : Book) (s payload : List ℕ) (after : Book) (w : sound book s ≡ true) (e : takenOf book s payload ≡ Holds after) where
+  again : takeBits after (bytesAfter book s payload) payload ≡ taken (left book s payload after w e .areas)
+  unfolding before
+  again = let p = left book s payload after w e in
+      ap (takeAll (blocksOf payload))
+      (ap (λ (b : Book). cond (eqb (b .«aiou_plus_one») (aiouOf payload + 1)) (areasIn (b .count) (bytesAfter book s payload)) []) (p .head)
+      ∙ ap (λ t. cond t (areasIn (length (p .areas)) (bytesAfter book s payload)) []) (eq-eqb (aiouOf payload + 1) (aiouOf payload + 1) refl)
+      ∙ ap (areasIn (length (p .areas))) (bytes-are book s payload after w e)
+      ∙ areas-bytes (p .areas) (drop (6 * length (p .areas)) s) 0 (good-after book s payload after w e .ascending))
+      ∙ retake (blocksOf payload) (before book s (aiouOf payload)) (p .areas) (p .all) (p .areas) (λ i. holds-each i (blocksOf payload) (before book s (aiouOf payload)) (p .areas) (p .all))
 
--- ascending, at most 32, each an area of a sound book
-pub record Good (l : List ℕ) : Type 0 where
-  pub ascending : Ascending 0 l
-  pub few : length l ≤ mostAreas
-  pub areas : Areas l
+  pub repeat-keeps : (takenOf after (bytesAfter book s payload) payload ≡ Holds after) × (bytesAfter after (bytesAfter book s payload) payload ≡ bytesAfter book s payload)
+  repeat-keeps = let p = left book s payload after w e in
+      let n : List ℕ = p .areas in
+      let s₁ : List ℕ = bytesAfter book s payload in
+      let w₁ : sound after s₁ ≡ true = stays-sound book s payload after w e in
+      let kept : drop (6 * length n) s₁ ≡ drop (6 * length n) s
+      = ap (drop (6 * length n)) (bytes-are book s payload after w e) ∙ drop-at (bytesOfAll n) (drop (6 * length n) s) (6 * length n) (length-bytes n) in (
+        answer-judged after s₁ payload w₁
+            ∙ ap₂ (λ v o. byVerdict v (answerOf o (aiouOf payload)) (λ why. Refused why)) (p .reads) again
+            ∙ ap Holds (sym (p .head)),
+        ap (λ o. leftBy o s₁) (outcome-judged after s₁ payload w₁ ∙ ap₂ (λ v o. byVerdict v o (λ why. refused why)) (p .reads) again)
+            ∙ ap (λ t. bytesOfAll n ++ t) kept
+            ∙ sym (bytes-are book s payload after w e),
+      )
 
-areas-block : (a : ℕ) (l m : List ℕ) → a < 2 ^ 47 → inRange a ≡ true → Took a l m → Areas l → Areas m
-unfolding isArea
-areas-block a l m h r (Took.held q e) p = p
-areas-block a l m h r (Took.new q e k) p = areas-insert a l (ap₂ (λ x y. x && y) (lt-ltb a (2 ^ 47) h) (ap₂ (λ x y. x && not y) r q)) p
+-- ---- what is found afterwards
 
-pub stays-good : (blocks l n : List ℕ) → InRange blocks → takeAll blocks l ≡ taken n → Good l → Good n
-stays-good blocks l n r e g = go blocks l n r (took-all blocks l n e) g
+-- what the book had under an ID, if its AIOU is the GAD's: "A GAD with another AIOU begins a new book; with the same one it adds."
+abbrev pub foundBefore : Book → List ℕ → ℕ → AreaId → List ℕ
+foundBefore book s aiou id = cond (eqb (book .«aiou_plus_one») (aiou + 1)) (found book s id) []
+
+-- the first of two parts that has bytes
+abbrev pub firstOf : List ℕ → List ℕ → List ℕ
+firstOf [] y = y
+firstOf (x ∷ xs) y = x ∷ xs
+
+bytes-or : (f g : Found) → bytesOfFound (orElse f g) ≡ firstOf (bytesOfFound f) (bytesOfFound g)
+bytes-or (Area a) g = refl
+bytes-or Nothing g = refl
+
+first-stays : (x y : List ℕ) → (x ≡ [] → ⊥) → firstOf x y ≡ x
+first-stays [] y h = absurd (h refl)
+first-stays (x ∷ xs) y h = refl
+
+before-found : (book : Book) (s : List ℕ) → sound book s ≡ true → Bytes s → (aiou : ℕ) (id : AreaId) → bytesOfFound (lookup (id .0) (before book s aiou)) ≡ foundBefore book s aiou id
+unfolding before lookup
+before-found book s w b aiou id = go (eqb (book .«aiou_plus_one») (aiou + 1))
   where
-    go : (blocks l n : List ℕ) → InRange blocks → TookAll blocks l n → Good l → Good n
-    go [] l n r TookAll.none g = g
-    go (a ∷ rest) l n (InRange.more h k r) (TookAll.more {m = m} t ts) g =
-        go rest m n r ts
-        (record {
-          ascending = ascending-block a l m h t (g .ascending);
-          few = length-block a l m t (g .few);
-          areas = areas-block a l m h k t (g .areas);
-        })
+    go : (t : Bool) → bytesOfFound (lookup (id .0) (cond t (areasIn (book .count) s) [])) ≡ cond t (found book s id) []
+    go true = sym (found-is book s w b id)
+    go false = refl
 
--- a GAD has a block, so the book has an area afterwards
-some-area : (a : ℕ) (l m : List ℕ) → Took a l m → 1 ≤ length m
-unfolding lookup
-some-area a [] m (Took.held q e) = let z : _≡_ {A = ℕ} 0 1 = cc in absurd (omega arith)
-some-area a (b ∷ l) m (Took.held q e) = omega arith
-some-area a l m (Took.new q e k) = omega (arith, length-insert a l)
+-- After a GAD m was taken into a sound book (s are bytes, as those of every slice of u8 are):
+module _ (book : Book) (s payload : List ℕ) (after : Book) (w : sound book s ≡ true) (b : Bytes s) (e : takenOf book s payload ≡ Holds after)
+    (m : Gad) (codes : List ℕ) (used : ℕ) (r : gadOf payload ≡ accepted m codes used) (id : AreaId) where
+  looked-up : found after (bytesAfter book s payload) id ≡ bytesOfFound (lookup (id .0) (left book s payload after w e .areas))
+  looked-up = let p = left book s payload after w e in
+      found-in after (bytesAfter book s payload) (stays-sound book s payload after w e) id (p .areas) (drop (6 * length (p .areas)) s) (bytes-are book s payload after w e) (ap (λ (x : Book). x .count) (p .head))
 
-pub not-empty : (payload l n : List ℕ) → takeAll (blocksOf payload) l ≡ taken n → 1 ≤ length n
-unfolding blocksFrom
-not-empty payload l n e = go (blockCount payload) 0 l n (omega arith) (took-all (blocksOf payload) l n e)
-  where
-    all-grow : (blocks l n : List ℕ) → TookAll blocks l n → length l ≤ length n
-    all-grow [] l n TookAll.none = omega arith
-    all-grow (a ∷ rest) l n (TookAll.more {m = m} t ts) = omega (arith, grows a l m t, all-grow rest m n ts)
+  -- under each ID there is what there was before, else the GAD's block, else nothing;
+  pub in-book : found after (bytesAfter book s payload) id ≡ firstOf (foundBefore book s (m .aiou) id) (bytesOfFound (lookup (id .0) (areasOf (m .blocks))))
+  in-book = let p = left book s payload after w e in
+      let a : AsRead payload m = as-read payload m codes used r in
+      looked-up
+      ∙ ap bytesOfFound (lookup-after (id .0) (blocksOf payload) (before book s (aiouOf payload)) (p .areas) (p .all))
+      ∙ bytes-or (lookup (id .0) (before book s (aiouOf payload))) (lookup (id .0) (blocksOf payload))
+      ∙ ap₂ (λ x y. firstOf x (bytesOfFound (lookup (id .0) y))) (before-found book s w b (aiouOf payload) id ∙ ap (λ n. foundBefore book s n id) (a .aiou)) (a .blocks)
 
-    go : (k i : ℕ) (l n : List ℕ) → 1 ≤ k → TookAll (blocksFrom k i payload) l n → 1 ≤ length n
-    go zero i l n h t = absurd (omega arith)
-    go (suc k) i l n h (TookAll.more {m = m} t ts) = omega (arith, some-area (blockAt payload i) l m t, all-grow (blocksFrom k (suc i) payload) m n ts)
+  -- so each of its blocks is found under its ID, with its own six bytes;
+  pub block-found : (i : ℕ) → i < length (areasOf (m .blocks)) → id .0 ≡ sf031 (getD (areasOf (m .blocks)) i 0)
+      → found after (bytesAfter book s payload) id ≡ bytesOf (getD (areasOf (m .blocks)) i 0)
+  block-found i h q = let p = left book s payload after w e in
+      let a : AsRead payload m = as-read payload m codes used r in
+      let t : TookAll (areasOf (m .blocks)) (before book s (aiouOf payload)) (p .areas) = subst (λ l. TookAll l (before book s (aiouOf payload)) (p .areas)) (a .blocks) (p .all) in
+      looked-up ∙ ap bytesOfFound (ap (λ k. lookup k (p .areas)) q ∙ holds-each i (areasOf (m .blocks)) (before book s (aiouOf payload)) (p .areas) t h)
 
--- the book that a GAD leaves is sound
-pub stays-sound : (payload s l n : List ℕ) → bookBytes ≤ length s → InRange (blocksOf payload) → takeAll (blocksOf payload) l ≡ taken n → Good l
-    → sound (record { «aiou_plus_one» = aiouOf payload + 1; count = length n }) (bytesOfAll n ++ drop (6 * length n) s) ≡ true
-unfolding sound headSound
-stays-sound payload s l n h r e g =
-    let w : Good n = stays-good (blocksOf payload) l n r e g in
-    let one : 1 ≤ length n = not-empty payload l n e in
-    let small : aiouOf payload < 2 ^ 4 = field-lt payload 9 4 in
-    let long : length (bytesOfAll n ++ drop (6 * length n) s) ≡ length s
-    = length-append (bytesOfAll n) (drop (6 * length n) s) ∙ omega (arith, length-bytes n, length-drop (6 * length n) s, w .few) in
-    let z₀ : leb 192 (length (bytesOfAll n ++ drop (6 * length n) s)) ≡ true = le-leb 192 (length (bytesOfAll n ++ drop (6 * length n) s)) (omega arith) in
-    let z₁ : eqb (aiouOf payload + 1) 0 ≡ false = ne-eqb (aiouOf payload + 1) 0 (λ q. omega arith) in
-    let z₂ : eqb (length n) 0 ≡ false = ne-eqb (length n) 0 (λ q. omega arith) in
-    let z₃ : leb (aiouOf payload + 1) 16 ≡ true = le-leb (aiouOf payload + 1) 16 (omega arith) in
-    let z₄ : leb (length n) 32 ≡ true = le-leb (length n) 32 (w .few) in
-    rw (z₀, z₁, z₂, z₃, z₄) (sound-bytes n (drop (6 * length n) s) 0 (w .ascending) (w .areas))
+  -- each area of the same AIOU that was found before is still found;
+  pub area-stays : book .«aiou_plus_one» ≡ m .aiou + 1 → (found book s id ≡ [] → ⊥) → found after (bytesAfter book s payload) id ≡ found book s id
+  area-stays q h =
+      let z : foundBefore book s (m .aiou) id ≡ found book s id = ap (λ t. cond t (found book s id) []) (eq-eqb (book .«aiou_plus_one») (m .aiou + 1) q) in
+      in-book ∙ ap (λ x. firstOf x (bytesOfFound (lookup (id .0) (areasOf (m .blocks))))) z ∙ first-stays (found book s id) _ h
+
+  -- and nothing else is.
+  pub nothing-else : foundBefore book s (m .aiou) id ≡ [] → lookup (id .0) (areasOf (m .blocks)) ≡ Nothing → found after (bytesAfter book s payload) id ≡ []
+  nothing-else p q = in-book ∙ ap₂ (λ x y. firstOf x (bytesOfFound y)) p q

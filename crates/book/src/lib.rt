@@ -5,17 +5,24 @@ ghost use mathlib.Core.List.{_++_};
 ghost use Prim.Native.Nat.{_+_, _*_, _^_, _<_, _≤_};
 ghost use lib.Dec.{eqb};
 ghost use lib.ListN.{length, drop};
+ghost use Rattle.bits.specs.Part.{PartOf};
 ghost use Rattle.area.specs.Area.{sf031};
-ghost use Rattle.book.specs.Book.{areasIn, bytesOfAll, headSound, areasSound, sound, placeOf, found};
-ghost use Rattle.book.specs.Take.{aiouOf, blockCount, blockAt, blocksFrom, blocksOf, cutShort, lookup, insert, takeAll, leftBy, takenOf, bytesAfter, numberOfTaken};
+ghost use Rattle.book.specs.Book.{areasIn, bytesOfAll, headSound, areasSound, sound, placeOf, found, foundAt};
+ghost use Rattle.book.specs.Take.{lookup, insert, takeAll, answerOf, leftBy, takenOf, bytesAfter, numberOfTaken};
+ghost use Rattle.book.specs.Payload.{aiouOf, blockCount, blockAt, blocksFrom, blocksOf, blockVerdict, blocksVerdict, payloadVerdict, takeBits};
 ghost use Rattle.book.specs.TakeLaws.{orElse};
 ghost use Rattle.book.specs.Judge.{judgedBy, isTaken, judgeFound, judgeBlock, Image};
 use answer::Refusal;
+use area::AreaId;
+use layout::Verdict;
 
 // "The book holds one AIOU and up to 32 areas, .. six bytes each: .. 192 bytes."
 const AREAS: usize = 32;
 
 const BYTES: usize = 192;
+
+// "payload of 0 or over 1,023 bytes" is LENGTH.
+const LONGEST_PAYLOAD: usize = 1023;
 
 // What is known of a book besides its bytes: AIOU + 1, or 0 where it has no AIOU, and how many areas it has.
 pub struct Book {
@@ -117,15 +124,17 @@ fn place(bytes: &[u8], count: usize, id: u8) -> usize
     count
 }
 
-// The six bytes of the area with this ID as a part of the book's bytes, or the empty part at their start.
-pub fn find(book: Book, bytes: &[u8], id: u8) -> &[u8]
+// The six bytes of the area with this ID as a part of the book's bytes. An absent ID, too few bytes and a book that is not sound give the
+// empty part at their start.
+pub fn find(book: Book, bytes: &[u8], id: AreaId) -> &[u8]
     ensures { λ r. ⌜ now r ≡ found book (now (bytes .entry)) id ⌝ }
+    ensures { λ r. ⌜ PartOf r (bytes .entry) (foundAt book (now (bytes .entry)) id) ⌝ }
 {
-    let count = book.count;
-    if bytes.len() / 6 < count {
+    if !is_sound(book, bytes) {
         return &bytes[..0];
     }
-    let i = place(bytes, count, id);
+    let count = book.count;
+    let i = place(bytes, count, id.0);
     if count <= i {
         return &bytes[..0];
     }
@@ -163,13 +172,64 @@ fn block_count(payload: &[u8]) -> usize
     count(bits::get(payload, 14, 5) + 1)
 }
 
-fn is_cut_short(payload: &[u8]) -> bool
-    ensures { λ r. ⌜ r ≡ cutShort (now (payload .entry)) ⌝ }
+// The first fault of block i in reading order: SHORT where the payload ends inside a field, FIELD for a latitude or a longitude out of range.
+fn block_verdict(payload: &[u8], i: usize) -> Verdict
+    requires { ⌜ (i < 32) × (length (now payload) ≤ 1023) ⌝ }
+    ensures { λ r. ⌜ r ≡ blockVerdict (now (payload .entry)) (19 + 47 * i) ⌝ }
 {
-    if payload.len() < 3 {
-        return true;
+    let bits = 8 * payload.len();
+    let at = 19 + 47 * i;
+    if bits < at + 19 {
+        return Verdict::Fault(Refusal::Short);
     }
-    payload.len() < (26 + 47 * block_count(payload)) / 8
+    if 1800 < bits::get(payload, at + 8, 11) {
+        return Verdict::Fault(Refusal::Field);
+    }
+    if bits < at + 31 {
+        return Verdict::Fault(Refusal::Short);
+    }
+    if 3600 < bits::get(payload, at + 19, 12) {
+        return Verdict::Fault(Refusal::Field);
+    }
+    if bits < at + 47 {
+        return Verdict::Fault(Refusal::Short);
+    }
+    Verdict::Taken
+}
+
+fn blocks_verdict(payload: &[u8], n: usize) -> Verdict
+    requires { ⌜ (n ≤ 32) × (length (now payload) ≤ 1023) ⌝ }
+    ensures { λ r. ⌜ r ≡ blocksVerdict n 0 (now (payload .entry)) ⌝ }
+{
+    let mut i: usize = 0;
+    while i < n {
+        match block_verdict(payload, i) {
+            Verdict::Taken => {
+                i += 1;
+            }
+            Verdict::Fault(refusal) => {
+                return Verdict::Fault(refusal);
+            }
+        }
+    }
+    Verdict::Taken
+}
+
+// A payload's own refusals: LENGTH, then the first fault in reading order.
+fn payload_verdict(payload: &[u8]) -> Verdict
+    ensures { λ r. ⌜ r ≡ payloadVerdict (now (payload .entry)) ⌝ }
+{
+    let size = payload.len();
+    if size == 0 {
+        return Verdict::Fault(Refusal::Length);
+    }
+    if LONGEST_PAYLOAD < size {
+        return Verdict::Fault(Refusal::Length);
+    }
+    if size < 3 {
+        return Verdict::Fault(Refusal::Short);
+    }
+    blocks_verdict(payload, block_count(payload))
 }
 
 // A block's area.
@@ -333,21 +393,12 @@ fn count_under(book: Book, aiou: u8) -> usize
     0
 }
 
-// Takes a GAD payload, which is to have been accepted: the book that is left, with its areas in the lent bytes. It is taken whole, or
-// refused and nothing changes. A payload that ends before its blocks do is SHORT.
-pub fn take(book: Book, bytes: &mut [u8], payload: &[u8]) -> Taken
-    ensures { λ r. ⌜ r ≡ takenOf book (now (bytes .entry)) (now (payload .entry)) ⌝ }
-    ensures { λ _. ⌜ now (bytes .exit) ≡ bytesAfter book (now (bytes .entry)) (now (payload .entry)) ⌝ }
+// The blocks of a payload that reads as a GAD, taken into a sound book.
+fn take_blocks(book: Book, bytes: &mut [u8], payload: &[u8]) -> Taken
+    requires { ⌜ (192 ≤ length (now bytes)) × (sound book (now bytes) ≡ true) × (19 + 47 * blockCount (now payload) ≤ 8 * length (now payload)) ⌝ }
+    ensures { λ r. ⌜ r ≡ answerOf (takeBits book (now (bytes .entry)) (now (payload .entry))) (aiouOf (now (payload .entry))) ⌝ }
+    ensures { λ _. ⌜ now (bytes .exit) ≡ leftBy (takeBits book (now (bytes .entry)) (now (payload .entry))) (now (bytes .entry)) ⌝ }
 {
-    if bytes.len() < BYTES {
-        return Taken::Refused(Refusal::Room);
-    }
-    if !is_sound(book, bytes) {
-        return Taken::Refused(Refusal::State);
-    }
-    if is_cut_short(payload) {
-        return Taken::Refused(Refusal::Short);
-    }
     let aiou = aiou_plus_one(payload);
     let count = count_under(book, aiou);
     match judge(bytes, count, payload) {
@@ -359,6 +410,23 @@ pub fn take(book: Book, bytes: &mut [u8], payload: &[u8]) -> Taken
                 count: held,
             })
         }
+    }
+}
+
+// Takes a GAD payload: the book that is left, with its areas in the lent bytes. It is taken whole, or refused and nothing changes.
+pub fn take(book: Book, bytes: &mut [u8], payload: &[u8]) -> Taken
+    ensures { λ r. ⌜ r ≡ takenOf book (now (bytes .entry)) (now (payload .entry)) ⌝ }
+    ensures { λ _. ⌜ now (bytes .exit) ≡ bytesAfter book (now (bytes .entry)) (now (payload .entry)) ⌝ }
+{
+    if bytes.len() < BYTES {
+        return Taken::Refused(Refusal::Room);
+    }
+    if !is_sound(book, bytes) {
+        return Taken::Refused(Refusal::State);
+    }
+    match payload_verdict(payload) {
+        Verdict::Fault(refusal) => Taken::Refused(refusal),
+        Verdict::Taken => take_blocks(book, bytes, payload),
     }
 }
 

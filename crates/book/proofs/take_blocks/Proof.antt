@@ -1,0 +1,54 @@
+-- `take_blocks`: a message that is judged taken is put into its places (Taking.antt).
+use Rattle.bits.specs.Bits.{Bytes}
+use Rattle.book.proofs.Taking.{count-few, count-fits, count-image, is-taken, take-refused, left-refused, take-held, left-held}
+use borrow.Author.Needs.{needs}
+use Rattle.book.proofs.take_blocks.Statement.{statement}
+use Rattle.book.proofs.take_blocks.Tie as tie
+
+aiou-plus-one-requires : tie.Need-aiou-plus-one-requires
+aiou-plus-one-requires c κs = search needs
+
+count-under-requires : tie.Need-count-under-requires
+count-under-requires c κs = search needs
+
+judge-requires : tie.Need-judge-requires
+judge-requires c κs = search (count-fits, needs)
+
+enum-known-refusal : tie.Need-enum-known-refusal
+enum-known-refusal c = search needs
+
+enum-known-held : tie.Need-enum-known-held
+enum-known-held c = search needs
+
+insert-all-requires : tie.Need-insert-all-requires
+insert-all-requires c κs =
+    let u = c .before .before .before .before .before .before in
+    let y : Bytes (u .before .before .before .before .args .bytes .now) = record { byte = λ j. u .before .before .before .slice-known .given j .fits } in
+    search (count-image, count-few, is-taken, needs)
+
+same-length : tie.Need-same-length
+same-length c = search needs
+
+returns : tie.Need-returns
+returns c = search (take-refused, left-refused, needs)
+
+same-length-2 : tie.Need-same-length-2
+same-length-2 c = search needs
+
+returns-2 : tie.Need-returns-2
+returns-2 c = search (take-held, left-held, needs)
+
+pub take-blocks-spec : {M : Type 1} → statement M
+take-blocks-spec =
+    tie.close
+    (tie.spec
+    aiou-plus-one-requires
+    count-under-requires
+    judge-requires
+    enum-known-refusal
+    enum-known-held
+    insert-all-requires
+    same-length
+    returns
+    same-length-2
+    returns-2)
