@@ -66,9 +66,8 @@ module _ (b : List ℕ) (t : Tray) (ready : Ready b t) (b′ : List ℕ) (a : An
       rw (p, q) (omega (arith, ap length (finish-event ready (w .0) k)))
 
 -- what holds from turn to turn
-pub record Hearing (bytes₀ out₀ portion bytes out : List ℕ) (tray : Tray) (at used : ℕ) : Type 0 where
+pub record Hearing (bytes₀ out₀ portion bytes out : List ℕ) (tray : Tray) (used : ℕ) : Type 0 where
   pub ready : Ready bytes tray
-  pub at-in : at ≤ length out
   pub used-in : used ≤ length portion
   pub same-bytes : length bytes ≡ length bytes₀
   pub same-out : length out ≡ length out₀

@@ -3,53 +3,21 @@ use frame::Checked;
 use frame::Frame;
 use frame::Seal;
 use frame::Sealing;
-use libc::STDOUT_FILENO;
-ghost use Prim.Native.Nat.{_≤_};
-ghost use lib.ListN.{length};
-ghost use Rattle.io.specs.Counts.{Counts};
+use text::say;
+use text::say_number;
 
-// Puts a text behind what out holds; what has no room is left out.
-fn put(out: &mut [u8], at: usize, text: &[u8]) -> usize
-    requires { ⌜ at ≤ length (now out) ⌝ }
-    ensures { λ r. ⌜ r ≤ length (now (out .exit)) ⌝ }
-{
-    let mut end = at;
-    let mut i = 0;
-    while i < text.len() && end < out.len() {
-        out[end] = text[i];
-        end += 1;
-        i += 1;
-    }
-    end
-}
-
-fn put_hex(out: &mut [u8], at: usize, n: u64, digits: usize) -> usize
-    requires { ⌜ at ≤ length (now out) ⌝ }
-    ensures { λ r. ⌜ r ≤ length (now (out .exit)) ⌝ }
-{
+fn put_hex(out: &mut [u8], at: usize, n: u64, digits: usize) -> usize {
     let mut text = [0u8; 16];
     let k = io::hex(n, digits, &mut text);
-    put(out, at, &text[..k])
-}
-
-fn put_decimal(out: &mut [u8], at: usize, n: u64) -> usize
-    requires { ⌜ at ≤ length (now out) ⌝ }
-    ensures { λ r. ⌜ r ≤ length (now (out .exit)) ⌝ }
-{
-    let mut text = [0u8; 20];
-    let k = io::decimal(n, &mut text);
-    put(out, at, &text[..k])
+    say(out, at, &text[..k])
 }
 
 // Puts what a function gave beside what it should be, and the line's end.
-fn put_compared(out: &mut [u8], at: usize, given: u64, wanted: u64, digits: usize) -> usize
-    requires { ⌜ at ≤ length (now out) ⌝ }
-    ensures { λ r. ⌜ r ≤ length (now (out .exit)) ⌝ }
-{
+fn put_compared(out: &mut [u8], at: usize, given: u64, wanted: u64, digits: usize) -> usize {
     let a = put_hex(out, at, given, digits);
-    let b = put(out, a, b" should be ");
+    let b = say(out, a, b" should be ");
     let c = put_hex(out, b, wanted, digits);
-    put(out, c, b"\n")
+    say(out, c, b"\n")
 }
 
 // TF018 of the text 123456789.
@@ -60,11 +28,8 @@ fn put_check(
     check_type: u8,
     wanted: u64,
     digits: usize,
-) -> usize
-    requires { ⌜ at ≤ length (now out) ⌝ }
-    ensures { λ r. ⌜ r ≤ length (now (out .exit)) ⌝ }
-{
-    let named = put(out, at, name);
+) -> usize {
+    let named = say(out, at, name);
     put_compared(
         out,
         named,
@@ -75,15 +40,12 @@ fn put_check(
 }
 
 // TF006 of a header whose TF004 is 1 and TF005 is 2, as those of all four published ones are.
-fn put_header(out: &mut [u8], at: usize, tf002: u64, tf003: u64, wanted: u64) -> usize
-    requires { ⌜ at ≤ length (now out) ⌝ }
-    ensures { λ r. ⌜ r ≤ length (now (out .exit)) ⌝ }
-{
-    let a = put(out, at, b"TF006 of ");
-    let b = put_decimal(out, a, tf002);
-    let c = put(out, b, b" ");
-    let d = put_decimal(out, c, tf003);
-    let e = put(out, d, b" 1 2 ");
+fn put_header(out: &mut [u8], at: usize, tf002: u64, tf003: u64, wanted: u64) -> usize {
+    let a = say(out, at, b"TF006 of ");
+    let b = say_number(out, a, tf002);
+    let c = say(out, b, b" ");
+    let d = say_number(out, c, tf003);
+    let e = say(out, d, b" 1 2 ");
     let bits = (tf002 << 17) | (tf003 << 7) | (1 << 6) | (2 << 4);
     let given = checks::frame_crc(
         ((bits >> 16) % 256) as u8,
@@ -93,20 +55,14 @@ fn put_header(out: &mut [u8], at: usize, tf002: u64, tf003: u64, wanted: u64) ->
     put_compared(out, e, given as u64, wanted, 1)
 }
 
-fn put_checks(out: &mut [u8], at: usize) -> usize
-    requires { ⌜ at ≤ length (now out) ⌝ }
-    ensures { λ r. ⌜ r ≤ length (now (out .exit)) ⌝ }
-{
+fn put_checks(out: &mut [u8], at: usize) -> usize {
     let a = put_check(out, at, b"CRC-8 ", 0, 0xF4, 2);
     let b = put_check(out, a, b"CRC-16 ", 1, 0x31C3, 4);
     let c = put_check(out, b, b"CRC-24 ", 2, 0xCDE703, 6);
     put_check(out, c, b"CRC-32 ", 3, 0xFC891918, 8)
 }
 
-fn put_headers(out: &mut [u8], at: usize) -> usize
-    requires { ⌜ at ≤ length (now out) ⌝ }
-    ensures { λ r. ⌜ r ≤ length (now (out .exit)) ⌝ }
-{
+fn put_headers(out: &mut [u8], at: usize) -> usize {
     let a = put_header(out, at, 0, 37, 2);
     let b = put_header(out, a, 1, 495, 11);
     let c = put_header(out, b, 0, 33, 3);
@@ -114,76 +70,55 @@ fn put_headers(out: &mut [u8], at: usize) -> usize
 }
 
 // A number that a frame's header gave beside what it should be.
-fn put_field(out: &mut [u8], at: usize, name: &[u8], given: u64, wanted: u64) -> usize
-    requires { ⌜ at ≤ length (now out) ⌝ }
-    ensures { λ r. ⌜ r ≤ length (now (out .exit)) ⌝ }
-{
-    let a = put(out, at, name);
-    let b = put_decimal(out, a, given);
-    let c = put(out, b, b" should be ");
-    let d = put_decimal(out, c, wanted);
-    put(out, d, b"\n")
+fn put_field(out: &mut [u8], at: usize, name: &[u8], given: u64, wanted: u64) -> usize {
+    let a = say(out, at, name);
+    let b = say_number(out, a, given);
+    let c = say(out, b, b" should be ");
+    let d = say_number(out, c, wanted);
+    say(out, d, b"\n")
 }
 
 // TF012 to TF015.
-fn put_sealing(out: &mut [u8], at: usize, sealing: Sealing) -> usize
-    requires { ⌜ at ≤ length (now out) ⌝ }
-    ensures { λ r. ⌜ r ≤ length (now (out .exit)) ⌝ }
-{
+fn put_sealing(out: &mut [u8], at: usize, sealing: Sealing) -> usize {
     let a = put_field(out, at, b"TF012 ", sealing.id as u64, 1);
     let b = put_field(out, a, b"TF013 ", sealing.sequence as u64, 9);
     let c = put_field(out, b, b"TF014 ", sealing.authentication as u64, 1);
     put_field(out, c, b"TF015 ", sealing.authentication_length as u64, 0)
 }
 
-fn put_seal(out: &mut [u8], at: usize, seal: Seal) -> usize
-    requires { ⌜ at ≤ length (now out) ⌝ }
-    ensures { λ r. ⌜ r ≤ length (now (out .exit)) ⌝ }
-{
+fn put_seal(out: &mut [u8], at: usize, seal: Seal) -> usize {
     match seal {
-        Seal::Plain => put(out, at, b"TF004 0 should be 1\n"),
+        Seal::Plain => say(out, at, b"TF004 0 should be 1\n"),
         Seal::Sealed(sealing) => {
-            let next = put(out, at, b"TF004 1 should be 1\n");
+            let next = say(out, at, b"TF004 1 should be 1\n");
             put_sealing(out, next, sealing)
         }
     }
 }
 
 // TF002, TF003 and TF005.
-fn put_start(out: &mut [u8], at: usize, frame: Frame) -> usize
-    requires { ⌜ at ≤ length (now out) ⌝ }
-    ensures { λ r. ⌜ r ≤ length (now (out .exit)) ⌝ }
-{
+fn put_start(out: &mut [u8], at: usize, frame: Frame) -> usize {
     let a = put_field(out, at, b"TF002 ", frame.message_type as u64, 0);
     let b = put_field(out, a, b"TF003 ", frame.payload_length as u64, 37);
     put_field(out, b, b"TF005 ", frame.check_type as u64, 2)
 }
 
 // TF007 to TF009.
-fn put_tag(out: &mut [u8], at: usize, frame: Frame) -> usize
-    requires { ⌜ at ≤ length (now out) ⌝ }
-    ensures { λ r. ⌜ r ≤ length (now (out .exit)) ⌝ }
-{
+fn put_tag(out: &mut [u8], at: usize, frame: Frame) -> usize {
     let a = put_field(out, at, b"TF007 ", frame.subtype as u64, 0);
     let b = put_field(out, a, b"TF008 ", frame.tag_kind as u64, 0);
     put_field(out, b, b"TF009 ", frame.tag, 3970)
 }
 
 // TF010 and TF011, where the payload starts and the frame ends.
-fn put_rest(out: &mut [u8], at: usize, frame: Frame) -> usize
-    requires { ⌜ at ≤ length (now out) ⌝ }
-    ensures { λ r. ⌜ r ≤ length (now (out .exit)) ⌝ }
-{
+fn put_rest(out: &mut [u8], at: usize, frame: Frame) -> usize {
     let a = put_field(out, at, b"TF010 ", frame.solution as u64, 5);
     let b = put_field(out, a, b"TF011 ", frame.processor as u64, 11);
     let c = put_field(out, b, b"payload at ", frame.payload_at as u64, 10);
     put_field(out, c, b"whole frame ", frame.length as u64, 50)
 }
 
-fn put_frame(out: &mut [u8], at: usize, frame: Frame) -> usize
-    requires { ⌜ at ≤ length (now out) ⌝ }
-    ensures { λ r. ⌜ r ≤ length (now (out .exit)) ⌝ }
-{
+fn put_frame(out: &mut [u8], at: usize, frame: Frame) -> usize {
     let a = put_start(out, at, frame);
     let b = put_tag(out, a, frame);
     let c = put_rest(out, b, frame);
@@ -192,10 +127,7 @@ fn put_frame(out: &mut [u8], at: usize, frame: Frame) -> usize
 }
 
 // A published whole frame: a sealed GPS OCB.
-fn put_published(out: &mut [u8], at: usize) -> usize
-    requires { ⌜ at ≤ length (now out) ⌝ }
-    ensures { λ r. ⌜ r ≤ length (now (out .exit)) ⌝ }
-{
+fn put_published(out: &mut [u8], at: usize) -> usize {
     let published = [
         0x73,
         0x00,
@@ -250,17 +182,15 @@ fn put_published(out: &mut [u8], at: usize) -> usize
     ];
     match frame::check(&published) {
         Checked::Accepted(frame) => {
-            let next = put(out, at, b"the published frame is accepted\n");
+            let next = say(out, at, b"the published frame is accepted\n");
             put_frame(out, next, frame)
         }
-        Checked::Short(_) => put(out, at, b"the published frame is SHORT\n"),
-        Checked::Refused(_) => put(out, at, b"the published frame is refused\n"),
+        Checked::Short(_) => say(out, at, b"the published frame is SHORT\n"),
+        Checked::Refused(_) => say(out, at, b"the published frame is refused\n"),
     }
 }
 
-fn put_all(out: &mut [u8]) -> usize
-    ensures { λ r. ⌜ Counts r (now (out .exit)) ⌝ }
-{
+fn put_all(out: &mut [u8]) -> usize {
     let headers = put_checks(out, 0);
     let published = put_headers(out, headers);
     put_published(out, published)
@@ -269,5 +199,5 @@ fn put_all(out: &mut [u8]) -> usize
 fn main() {
     let mut out = io::buffer();
     let n = put_all(&mut out);
-    io::write_all(STDOUT_FILENO, &out[..n]);
+    text::flush(&out, n);
 }

@@ -1,13 +1,13 @@
 -- The tray stays ready, and each event told is one of those left to tell.
-use borrow.Author.Needs.{needs}
 use lib.ListN.{length, drop}
 use Rattle.stream.specs.Driving.{left}
 use Rattle.listen.proofs.Turns.{ready-next, inside-next, fits-next, fewer-left, Hearing}
+use borrow.Author.Needs.{needs}
 use Rattle.listen.proofs.hear.Statement.{statement}
 use Rattle.listen.proofs.hear.Tie as tie
 
 abbrev Inv-loop : tie.InvT-loop
-Inv-loop bytes₀ portion out₀ tray₀ at₀ used₀ bytes out tray at used = Hearing bytes₀ out₀ portion bytes out tray at used
+Inv-loop bytes₀ portion out₀ tray₀ at₀ used₀ bytes out tray at used = Hearing bytes₀ out₀ portion bytes out tray used
 
 abbrev μ-loop : tie.MeasureT-loop
 μ-loop bytes₀ portion out₀ tray₀ at₀ used₀ bytes out tray at used = length (left bytes tray (drop used portion))
@@ -42,24 +42,14 @@ same-length-2 c = search needs
 returns : tie.Need-returns Inv-loop μ-loop
 returns c = search (ready-next, needs)
 
-make-room-requires : tie.Need-make-room-requires Inv-loop μ-loop
-make-room-requires c κs = search needs
-
-put-said-requires : tie.Need-put-said-requires Inv-loop μ-loop
-put-said-requires c κs = search needs
+say-said-requires : tie.Need-say-said-requires Inv-loop μ-loop
+say-said-requires c κs = search needs
 
 loop-less : tie.Need-loop-less Inv-loop μ-loop
 loop-less c = search (fewer-left, needs)
 
 loop-again : tie.Need-loop-again Inv-loop μ-loop
-loop-again c =
-    record {
-      ready = search (ready-next, needs);
-      at-in = search needs;
-      used-in = search (inside-next, needs);
-      same-bytes = search needs;
-      same-out = search needs;
-    }
+loop-again c = record { ready = search (ready-next, needs); used-in = search (inside-next, needs); same-bytes = search needs; same-out = search needs }
 
 pub hear-spec : {M : Type 1} → statement M
 hear-spec =
@@ -77,7 +67,6 @@ hear-spec =
     same-length
     same-length-2
     returns
-    make-room-requires
-    put-said-requires
+    say-said-requires
     loop-less
     loop-again)

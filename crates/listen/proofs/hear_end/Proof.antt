@@ -1,14 +1,14 @@
 -- The tray stays ready, and each event told is one of those left to tell.
-use borrow.Author.Needs.{needs}
 use mathlib.Core.List.{[]}
 use lib.ListN.{length}
 use Rattle.stream.specs.Driving.{left}
 use Rattle.listen.proofs.Turns.{ready-last, fewer-last, Hearing}
+use borrow.Author.Needs.{needs}
 use Rattle.listen.proofs.hear_end.Statement.{statement}
 use Rattle.listen.proofs.hear_end.Tie as tie
 
 abbrev Inv-loop : tie.InvT-loop
-Inv-loop bytes₀ out₀ tray₀ at₀ bytes out tray at = Hearing bytes₀ out₀ [] bytes out tray at 0
+Inv-loop bytes₀ out₀ tray₀ at₀ bytes out tray at = Hearing bytes₀ out₀ [] bytes out tray 0
 
 abbrev μ-loop : tie.MeasureT-loop
 μ-loop bytes₀ out₀ tray₀ at₀ bytes out tray at = length (left bytes tray [])
@@ -19,14 +19,11 @@ loop-holds c = search needs
 finish-requires : tie.Need-finish-requires Inv-loop μ-loop
 finish-requires c κs = search needs
 
-make-room-requires : tie.Need-make-room-requires Inv-loop μ-loop
-make-room-requires c κs = search needs
-
 is-event-requires : tie.Need-is-event-requires Inv-loop μ-loop
 is-event-requires c κs = search needs
 
-put-end-requires : tie.Need-put-end-requires Inv-loop μ-loop
-put-end-requires c κs = search needs
+say-end-requires : tie.Need-say-end-requires Inv-loop μ-loop
+say-end-requires c κs = search needs
 
 same-length : tie.Need-same-length Inv-loop μ-loop
 same-length c = search needs
@@ -37,8 +34,8 @@ same-length-2 c = search needs
 returns : tie.Need-returns Inv-loop μ-loop
 returns c = search needs
 
-put-said-requires : tie.Need-put-said-requires Inv-loop μ-loop
-put-said-requires c κs = search needs
+say-said-requires : tie.Need-say-said-requires Inv-loop μ-loop
+say-said-requires c κs = search needs
 
 loop-less : tie.Need-loop-less Inv-loop μ-loop
 loop-less c = search (fewer-last, needs)
@@ -54,12 +51,11 @@ hear-end-spec =
     μ-loop
     loop-holds
     finish-requires
-    make-room-requires
     is-event-requires
-    put-end-requires
+    say-end-requires
     same-length
     same-length-2
     returns
-    put-said-requires
+    say-said-requires
     loop-less
     loop-again)

@@ -1,16 +1,14 @@
 -- The tray stays ready from read to read; the turns that are left fall.
-use borrow.Author.Needs.{needs}
-use mathlib.Core.Path.{_≡_, sym}
+use mathlib.Core.Path.{_≡_}
 use mathlib.Core.List.{[]}
-use native.Mathlib.Omega.{arith}
 use lib.ListN.{length}
-use lib.Seq.{length-take-le}
 use Rattle.listen.proofs.Turns.{Hearing, start-ready}
+use borrow.Author.Needs.{needs}
 use Rattle.listen.proofs.listen.Statement.{statement}
 use Rattle.listen.proofs.listen.Tie as tie
 
 abbrev Inv-loop : tie.InvT-loop
-Inv-loop bytes₀ input₀ out₀ heard₀ turns₀ bytes input out heard turns = Hearing bytes₀ out₀ [] bytes out (heard .tray) (heard .at) 0 × (length input ≡ length input₀)
+Inv-loop bytes₀ input₀ out₀ heard₀ turns₀ bytes input out heard turns = Hearing bytes₀ out₀ [] bytes out (heard .tray) 0 × (length input ≡ length input₀)
 
 abbrev μ-loop : tie.MeasureT-loop
 μ-loop bytes₀ input₀ out₀ heard₀ turns₀ bytes input out heard turns = turns
@@ -31,20 +29,13 @@ loop-less : tie.Need-loop-less Inv-loop μ-loop
 loop-less c = search needs
 
 loop-again : tie.Need-loop-again Inv-loop μ-loop
-loop-again c =
-    (record { ready = search needs; at-in = search needs; used-in = search needs; same-bytes = search needs; same-out = search needs }, search needs)
+loop-again c = (record { ready = search needs; used-in = search needs; same-bytes = search needs; same-out = search needs }, search needs)
 
 hear-end-requires : tie.Need-hear-end-requires Inv-loop μ-loop
 hear-end-requires c κs = search needs
 
-slice-reshare-prefix-write-all : tie.Need-slice-reshare-prefix-write-all Inv-loop μ-loop
-slice-reshare-prefix-write-all c = search needs
-
-slice-aggregate-write-all : tie.Need-slice-aggregate-write-all Inv-loop μ-loop
-slice-aggregate-write-all c = sym (length-take-le _ _ (omega arith))
-
-write-all-requires : tie.Need-write-all-requires Inv-loop μ-loop
-write-all-requires c κs = search needs
+flush-requires : tie.Need-flush-requires Inv-loop μ-loop
+flush-requires c κs = search needs
 
 same-length : tie.Need-same-length Inv-loop μ-loop
 same-length c = search needs
@@ -71,9 +62,7 @@ listen-spec =
     loop-less
     loop-again
     hear-end-requires
-    slice-reshare-prefix-write-all
-    slice-aggregate-write-all
-    write-all-requires
+    flush-requires
     same-length
     same-length-2
     same-length-3

@@ -1,0 +1,64 @@
+// Text for standard output, gathered in a lent buffer: what has no room behind the text that waits there makes that go out first.
+ghost use mathlib.Core.Path.{_≡_};
+ghost use mathlib.Core.Bool.{false};
+ghost use Prim.Native.Nat.{_≤_, _<_};
+ghost use lib.ListN.{length};
+ghost use Rattle.text.specs.Text.{endAfter, outAfter};
+use libc::STDOUT_FILENO;
+
+// Puts a text behind the first `at` bytes, if it has room there, and says where it ends; else nothing is written, and that is `at`.
+pub fn put(out: &mut [u8], at: usize, text: &[u8]) -> usize
+    ensures { λ r. ⌜ r ≡ endAfter (now (out .entry)) at (now (text .entry)) ⌝ }
+    ensures { λ _. ⌜ now (out .exit) ≡ outAfter (now (out .entry)) at (now (text .entry)) ⌝ }
+{
+    if out.len() < at {
+        return at;
+    }
+    if out.len() - at < text.len() {
+        return at;
+    }
+    let end = at + text.len();
+    bytes::copy(text, &mut out[at..end]);
+    end
+}
+
+// Puts a text behind the `at` bytes that wait, which go out first if there is no room for it, and says how many wait then.
+pub fn say(out: &mut [u8], at: usize, text: &[u8]) -> usize
+    ensures { λ r. ⌜ r ≤ length (now (out .exit)) ⌝ }
+{
+    if out.len() < at {
+        return 0;
+    }
+    if out.len() - at < text.len() {
+        flush(out, at);
+        return placed(out, 0, text);
+    }
+    placed(out, at, text)
+}
+
+// `put` where `at` is in the buffer.
+fn placed(out: &mut [u8], at: usize, text: &[u8]) -> usize
+    requires { ⌜ at ≤ length (now out) ⌝ }
+    ensures { λ r. ⌜ r ≤ length (now (out .exit)) ⌝ }
+{
+    put(out, at, text)
+}
+
+// Writes the `at` bytes that wait, and says whether all of them went out.
+pub fn flush(out: &[u8], at: usize) -> bool
+    ensures { λ r. ⌜ (length (now (out .entry)) < at → r ≡ false) ⌝ }
+{
+    if out.len() < at {
+        return false;
+    }
+    io::write_all(STDOUT_FILENO, &out[..at])
+}
+
+// A number in decimal digits.
+pub fn say_number(out: &mut [u8], at: usize, n: u64) -> usize
+    ensures { λ r. ⌜ r ≤ length (now (out .exit)) ⌝ }
+{
+    let mut digits = [0u8; 20];
+    let k = io::decimal(n, &mut digits);
+    say(out, at, &digits[..k])
+}
