@@ -240,8 +240,8 @@ fn block(payload: &[u8], i: usize) -> u64
     bits::get(payload, 19 + 47 * i, 47)
 }
 
-// The area with this ID among the book's.
-fn look(bytes: &[u8], count: usize, id: u8) -> Found
+// The area with this ID among the book's. Internal: its callers have a sound book.
+pub fn look(bytes: &[u8], count: usize, id: u8) -> Found
     requires { ⌜ 6 * count ≤ length (now bytes) ⌝ }
     ensures { λ r. ⌜ r ≡ lookup id (areasIn count (now (bytes .entry))) ⌝ }
 {

@@ -96,7 +96,7 @@ first-small Galileo first e = omega arith
 first-small BeiDou first e = omega arith
 first-small Qzss first e = omega arith
 
-numbered-few : (first width mask : ℕ) → length (numbered first width mask) ≤ width
+pub numbered-few : (first width mask : ℕ) → length (numbered first width mask) ≤ width
 unfolding numbered
 numbered-few first zero mask = omega arith
 numbered-few first (suc width) mask = go (eqb (mask / 2 ^ width % 2) 1) (numbered-few (suc first) width mask)
