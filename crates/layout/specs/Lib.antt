@@ -1,8 +1,10 @@
 pub mod Layout
 pub mod Parts
+pub mod Record
 pub mod RoundTrip
 pub mod Walks
 pub mod Run
 pub mod Put
+pub mod Reaches
 pub mod Tests
 pub mod Determined

@@ -36,28 +36,28 @@ front-bits w l b h = ap (λ (x : ℕ). bitsOf x (number (take w l))) (sym (lengt
 
 -- ---- what an accepted outcome says of each step
 
-fitting-acc : (b : Bool) (o : Written) {bs : List ℕ} → fitting b o ≡ written bs → (b ≡ true) × (o ≡ written bs)
+pub fitting-acc : (b : Bool) (o : Written) {bs : List ℕ} → fitting b o ≡ written bs → (b ≡ true) × (o ≡ written bs)
 fitting-acc true o e = (refl, e)
 fitting-acc false o e = let z : _≡_ {A = ℕ} 0 1 = cc in absurd (omega arith)
 
-judgedW-acc : (v : Verdict) (o : Written) {bs : List ℕ} → judgedW v o ≡ written bs → (v ≡ Taken) × (o ≡ written bs)
+pub judgedW-acc : (v : Verdict) (o : Written) {bs : List ℕ} → judgedW v o ≡ written bs → (v ≡ Taken) × (o ≡ written bs)
 judgedW-acc Taken o e = (refl, e)
 judgedW-acc (Fault why) o e = let z : _≡_ {A = ℕ} 0 1 = cc in absurd (omega arith)
 
-behind-acc : (p : List ℕ) (o : Written) {bs : List ℕ} → behind p o ≡ written bs → (q : List ℕ) × (o ≡ written q) × (bs ≡ p ++ q)
+pub behind-acc : (p : List ℕ) (o : Written) {bs : List ℕ} → behind p o ≡ written bs → (q : List ℕ) × (o ≡ written q) × (bs ≡ p ++ q)
 behind-acc p (written q) e = (q, refl, cc)
 behind-acc p (unwritten why) e = let z : _≡_ {A = ℕ} 0 1 = cc in absurd (omega arith)
 
 module _ {A : Type 0} where
-  enough-acc : (b : Bool) (o : Outcome A) {v : A} {cs : List ℕ} {n : ℕ} → enough b o ≡ accepted v cs n → (b ≡ true) × (o ≡ accepted v cs n)
+  pub enough-acc : (b : Bool) (o : Outcome A) {v : A} {cs : List ℕ} {n : ℕ} → enough b o ≡ accepted v cs n → (b ≡ true) × (o ≡ accepted v cs n)
   enough-acc true o e = (refl, e)
   enough-acc false o e = let z : _≡_ {A = ℕ} 0 1 = cc in absurd (omega arith)
 
-  judged-acc : (k : Verdict) (o : Outcome A) {v : A} {cs : List ℕ} {n : ℕ} → judged k o ≡ accepted v cs n → (k ≡ Taken) × (o ≡ accepted v cs n)
+  pub judged-acc : (k : Verdict) (o : Outcome A) {v : A} {cs : List ℕ} {n : ℕ} → judged k o ≡ accepted v cs n → (k ≡ Taken) × (o ≡ accepted v cs n)
   judged-acc Taken o e = (refl, e)
   judged-acc (Fault why) o e = let z : _≡_ {A = ℕ} 0 1 = cc in absurd (omega arith)
 
-  before-acc : (c w : ℕ) (o : Outcome A) {v : A} {cs : List ℕ} {n : ℕ} → before c w o ≡ accepted v cs n
+  pub before-acc : (c w : ℕ) (o : Outcome A) {v : A} {cs : List ℕ} {n : ℕ} → before c w o ≡ accepted v cs n
       → (ds : List ℕ) × (m : ℕ) × (o ≡ accepted v ds m) × (cs ≡ c ∷ ds) × (n ≡ w + m)
   before-acc c w (accepted u ds m) {v} e = (ds, m, (let x : u ≡ v = cc in ap (λ y. accepted y ds m) x), cc, cc)
   before-acc c w (refused why) e = let z : _≡_ {A = ℕ} 0 1 = cc in absurd (omega arith)

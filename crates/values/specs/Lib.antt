@@ -2,5 +2,4 @@ pub mod Values
 pub mod Columns
 pub mod Laws
 pub mod Ranges
-pub mod Cases
 pub mod Determined

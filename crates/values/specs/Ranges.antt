@@ -1,63 +1,77 @@
--- The table of Values.antt beside document 000 and document 01: the highest value of each field is the one that its row's range names, and the fields that
+-- The table of Values.antt beside document 000 and document 01: the lowest and the highest value of each field are those that its row's range names, and the fields that
 -- document 01 lists are those of the table. Each is computed; they serve as checks of the table.
 use mathlib.Core.Path.{_≡_, refl}
 use mathlib.Core.List.{List, [], _∷_}
 use mathlib.Core.Bool.{Bool, true, false, not, _&&_}
 use Prim.Native.Nat.{ℕ, _*_, _-_, _^_}
 use lib.Dec.{eqb}
+use lib.IntN.{ℤ}
 use Rattle.values.specs.Values.{Meaning, metres, degrees, tecu, coefficient, count, residualMetres, residualTecu, yaw, Steps, about, oneMore, sixfold, spacings, Row, none, row, table, stepCount}
-use Rattle.values.specs.Laws.{steps}
+use Rattle.values.specs.Laws.{negative, steps}
 
--- "±16.382 m" of SF020 is `upTo 20 16382 1000`
+-- "±16.382 m" of SF020 is `plusMinus 20 16382 1000`; "0.1 to 3.2 degrees" of SF036 is `fromTo 36 1 32 10`
 pub data Range : Type 0 where
-  upTo : (sf digits over : ℕ) → Range
+  plusMinus : (sf digits over : ℕ) → Range
+  fromTo : (sf least most over : ℕ) → Range
 
 unfoldable pub ranges : List Range
 ranges =
-    upTo 20 16382 1000 ∷
-    upTo 21 354 1 ∷
-    upTo 29 2046 100 ∷
-    upTo 30 32 1 ∷
-    upTo 32 9000 100 ∷
-    upTo 33 18000 100 ∷
-    upTo 34 8 1 ∷
-    upTo 35 8 1 ∷
-    upTo 36 32 10 ∷
-    upTo 37 32 10 ∷
-    upTo 43 508 1000 ∷
-    upTo 45 252 1000 ∷
-    upTo 46 63 1000 ∷
-    upTo 47 510 10000 ∷
-    upTo 48 1020 1000 ∷
-    upTo 49 255 1000 ∷
-    upTo 50 2046 10000 ∷
-    upTo 52 124 1000 ∷
-    upTo 53 508 1000 ∷
-    upTo 57 8188 100 ∷
-    upTo 58 16376 1000 ∷
-    upTo 59 8190 1000 ∷
-    upTo 60 32764 100 ∷
-    upTo 61 65528 1000 ∷
-    upTo 62 32766 1000 ∷
-    upTo 64 28 100 ∷
-    upTo 65 252 100 ∷
-    upTo 66 2044 100 ∷
-    upTo 67 32764 100 ∷
-    upTo 71 4 1 ∷
-    upTo 73 8500 100 ∷
-    upTo 74 18000 100 ∷
-    upTo 75 16 1 ∷
-    upTo 76 16 1 ∷
-    upTo 77 150 10 ∷
-    upTo 78 150 10 ∷
-    upTo 80 51175 100 ∷
-    upTo 82 1575 100 ∷
-    upTo 83 25575 100 ∷
+    plusMinus 20 16382 1000 ∷
+    fromTo 21 0 354 1 ∷
+    plusMinus 29 2046 100 ∷
+    fromTo 30 1 32 1 ∷
+    plusMinus 32 9000 100 ∷
+    plusMinus 33 18000 100 ∷
+    fromTo 34 1 8 1 ∷
+    fromTo 35 1 8 1 ∷
+    fromTo 36 1 32 10 ∷
+    fromTo 37 1 32 10 ∷
+    plusMinus 43 508 1000 ∷
+    plusMinus 45 252 1000 ∷
+    plusMinus 46 63 1000 ∷
+    plusMinus 47 510 10000 ∷
+    plusMinus 48 1020 1000 ∷
+    plusMinus 49 255 1000 ∷
+    plusMinus 50 2046 10000 ∷
+    plusMinus 52 124 1000 ∷
+    plusMinus 53 508 1000 ∷
+    plusMinus 57 8188 100 ∷
+    plusMinus 58 16376 1000 ∷
+    plusMinus 59 8190 1000 ∷
+    plusMinus 60 32764 100 ∷
+    plusMinus 61 65528 1000 ∷
+    plusMinus 62 32766 1000 ∷
+    plusMinus 64 28 100 ∷
+    plusMinus 65 252 100 ∷
+    plusMinus 66 2044 100 ∷
+    plusMinus 67 32764 100 ∷
+    fromTo 71 1 4 1 ∷
+    plusMinus 73 8500 100 ∷
+    plusMinus 74 18000 100 ∷
+    fromTo 75 1 16 1 ∷
+    fromTo 76 1 16 1 ∷
+    fromTo 77 25 150 10 ∷
+    fromTo 78 25 150 10 ∷
+    plusMinus 80 51175 100 ∷
+    plusMinus 82 1575 100 ∷
+    plusMinus 83 25575 100 ∷
     []
 
+abbrev same : Bool → Bool → Bool
+same true b = b
+same false b = not b
+
+-- a step count, at so many steps a unit, is the decimal, negative or not
+abbrev isAt : Bool → (digits over perUnit : ℕ) → ℤ → Bool
+isAt minus digits over perUnit z = same minus (negative z) && eqb (steps z * over) (digits * perUnit)
+
+-- code 0 means the lowest value, the highest code that is taken the highest
 abbrev agree : Row → Range → Bool
 agree none range = false
-agree (row sf width most s perUnit meaning) (upTo n digits over) = eqb sf n && eqb (steps (stepCount s most) * over) (digits * perUnit)
+agree (row sf width most s perUnit meaning) (plusMinus n digits over) =
+    eqb sf n && (isAt true digits over perUnit (stepCount s 0) && isAt false digits over perUnit (stepCount s most))
+agree (row sf width most s perUnit meaning) (fromTo n low high over) =
+    eqb sf n && (isAt false low over perUnit (stepCount s 0) && isAt false high over perUnit (stepCount s most))
 
 unfoldable pub allAgree : List Row → List Range → Bool
 allAgree [] [] = true
@@ -111,3 +125,18 @@ isOneMore spacings = false
 pub one-more : fields (λ width most s meaning. isOneMore s) table ≡ 30 ∷ 34 ∷ 35 ∷ 36 ∷ 37 ∷ 71 ∷ 75 ∷ 76 ∷ []
 unfolding fields table
 one-more = refl
+
+-- ---- the ranges that document 01 lists
+
+-- the highest code of each field that takes neither its full width nor all codes but the top one, behind the field's number
+unfoldable pub ownRanges : List Row → List ℕ
+ownRanges [] = []
+ownRanges (none ∷ rows) = ownRanges rows
+ownRanges (row sf width most s perUnit meaning ∷ rows) =
+    with-field (not (eqb most (2 ^ width - 1)) && not (eqb most (2 ^ width - 2))) sf
+    (with-field (not (eqb most (2 ^ width - 1)) && not (eqb most (2 ^ width - 2))) most (ownRanges rows))
+
+-- "Other ranges: SF021 0 to 59, with 63 invalid; SF032 0 to 1800; SF033 0 to 3600; SF073 0 to 170; SF074 0 to 360"
+pub own-ranges : ownRanges table ≡ 21 ∷ 59 ∷ 32 ∷ 1800 ∷ 33 ∷ 3600 ∷ 73 ∷ 170 ∷ 74 ∷ 360 ∷ []
+unfolding ownRanges table
+own-ranges = refl

@@ -1,0 +1,89 @@
+-- Document 01, "Measured cases": one table against the definitions, with a single proof. Definitions to believe. Cases 9 and 10 join with the desk, as two more
+-- kinds of questions and a row each.
+use mathlib.Core.Path.{_≡_, refl}
+use mathlib.Core.Bool.{Bool, true, false}
+use mathlib.Core.List.{List, [], _∷_, map}
+use Prim.Native.Nat.{ℕ, _+_, _*_, _^_}
+use lib.IntN.{pos}
+use lib.Ieee.{Float, fin, binary64, round, div, ofInt}
+use Rattle.answer.specs.declared.Refusal.the-variants.{Field}
+use Rattle.area.specs.Area.{areaOff}
+use Rattle.bits.specs.Bits.{bitsOf}
+use Rattle.codes.specs.Fields.{numbered}
+use Rattle.codes.specs.Tables.{maskSizes, maskSize}
+use Rattle.groups.specs.Groups.{groups, groupsOf}
+use Rattle.layout.specs.Layout.{judge, writeL}
+use Rattle.sheet.specs.declared.WriteAnswer.{WriteAnswer}
+use Rattle.sheet.specs.declared.WriteAnswer.the-variants.{Written}
+use Rattle.sheet.specs.Sheet.{judgingSheet, judgedSheet}
+use Rattle.values.specs.declared.Yaw.the-variants as Yaw
+use Rattle.values.specs.declared.Value.{Value}
+use Rattle.values.specs.declared.Value.the-variants.{Metres, Degrees, OfYaw, Refused}
+use Rattle.values.specs.Values.{table, find, rowOf, quotient, valueOf}
+
+-- ---- what a case asks of the definitions, and what they say
+
+pub data Question : Type 0 where
+  valueAt : (sf code : ℕ) → Question
+  payloadOf : (kind subtype : ℕ) (sheet : List ℕ) → Question
+  offPole : (area : ℕ) → Question
+  inGroups : (number : ℕ) → Question
+
+pub data Answer : Type 0 where
+  means : (value : Value) → Answer
+  takes : (answer : WriteAnswer) → Answer
+  isOff : (off : Bool) → Answer
+  bytes : (groups : List ℕ) → Answer
+
+abbrev pub said : Question → Answer
+said (valueAt sf code) = means (valueOf sf code)
+said (payloadOf kind subtype sheet) = takes (judgedSheet kind subtype sheet)
+said (offPole area) = isOff (areaOff area)
+said (inGroups number) = bytes (groupsOf number)
+
+pub record Case : Type 0 where
+  pub asked : Question
+  pub answer : Answer
+
+abbrev pub at : Question → Answer → Case
+at asked answer = record { asked = asked; answer = answer }
+
+-- ---- the table
+
+-- a decimal of the page, negative or not, as the float nearest to it: -16.382 is `decimal true 16382 1000`
+unfoldable pub decimal : Bool → ℕ → ℕ → Float
+decimal negative digits over = round binary64 negative digits over
+
+-- 8 rows at 3.2 degrees from a latitude: SF034 is 7, SF036 is 31
+abbrev pub eightRows : ℕ → ℕ
+eightRows latitude = latitude * 2 ^ 28 + 7 * 2 ^ 13 + 31 * 2 ^ 5
+
+unfoldable pub measured : List Case
+measured =
+    -- 1. SF020: 0 is -16.382 m, 8191 zero, 16382 +16.382, 16383 FIELD.
+    at (valueAt 20 0) (means (Metres (decimal true 16382 1000))) ∷
+    at (valueAt 20 8191) (means (Metres (fin false 0 (pos 0)))) ∷
+    at (valueAt 20 16382) (means (Metres (decimal false 16382 1000))) ∷
+    at (valueAt 20 16383) (means (Refused Field)) ∷
+    -- 2. SF032: 1800 is 90.0, 1801 FIELD.
+    at (valueAt 32 1800) (means (Degrees (decimal false 900 10))) ∷
+    at (valueAt 32 1801) (means (Refused Field)) ∷
+    -- 3. SF021: 59 is 354, 60 FIELD.
+    at (valueAt 21 59) (means (OfYaw (Yaw.Degrees (decimal false 354 1)))) ∷
+    at (valueAt 21 60) (means (Refused Field)) ∷
+    -- 4. GPS OCB, one unused satellite: 50 bits, 7 bytes.
+    at (payloadOf 0 0 (5 ∷ 1 ∷ 0 ∷ 0 ∷ 0 ∷ 0 ∷ 0 ∷ 134217728 ∷ 1 ∷ [])) (takes (Written 50 7)) ∷
+    -- 5. BeiDou likewise 57 bits, 8 bytes.
+    at (payloadOf 0 3 (5 ∷ 1 ∷ 0 ∷ 0 ∷ 0 ∷ 0 ∷ 0 ∷ 4294967296 ∷ 1 ∷ [])) (takes (Written 57 8)) ∷
+    -- 6. One-area GAD: 66 bits, 9 bytes.
+    at (payloadOf 2 0 (5 ∷ 3 ∷ 0 ∷ 0 ∷ 7 ∷ 1234 ∷ 2000 ∷ 3 ∷ 4 ∷ 9 ∷ 9 ∷ [])) (takes (Written 66 9)) ∷
+    -- 7. 8 rows at 3.2 degrees: latitude code 224 fits (-90.0), 223 AREA_OFF.
+    at (offPole (eightRows 224)) (isOff false) ∷
+    at (offPole (eightRows 223)) (isOff true) ∷
+    -- 8. 43,199 is BF D1 02.
+    at (inGroups 43199) (bytes (0xBF ∷ 0xD1 ∷ 0x02 ∷ [])) ∷
+    []
+
+pub measured-hold : map (λ (c : Case). said (c .asked)) measured ≡ map (λ (c : Case). c .answer) measured
+unfolding measured decimal valueOf rowOf table find quotient div ofInt round judgedSheet judgingSheet writeL judge bitsOf numbered maskSize maskSizes areaOff groupsOf groups
+measured-hold = refl

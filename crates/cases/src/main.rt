@@ -1,0 +1,114 @@
+// Runs document 01's measured cases over the real calls and prints for each whether it holds. specs/Cases.antt proves them of the definitions.
+use groups::Written;
+use libc::STDOUT_FILENO;
+use sheet::WriteAnswer;
+use values::Value;
+use values::Yaw;
+
+// The number of FIELD.
+const FIELD: u8 = 8;
+
+// A line: the case as the page has it, and whether it holds.
+fn tell(text: &[u8], holds: bool) {
+    io::write_all(STDOUT_FILENO, text);
+    if holds {
+        io::write_all(STDOUT_FILENO, b": yes\n");
+    } else {
+        io::write_all(STDOUT_FILENO, b": NO\n");
+    }
+}
+
+fn is_metres(sf: u16, code: u64, x: f64) -> bool {
+    match values::value_of(sf, code) {
+        Value::Metres(y) => y == x,
+        _ => false,
+    }
+}
+
+fn is_degrees(sf: u16, code: u64, x: f64) -> bool {
+    match values::value_of(sf, code) {
+        Value::Degrees(y) => y == x,
+        _ => false,
+    }
+}
+
+fn is_angle(yaw: Yaw, x: f64) -> bool {
+    match yaw {
+        Yaw::Degrees(y) => y == x,
+        _ => false,
+    }
+}
+
+fn is_yaw(code: u64, x: f64) -> bool {
+    match values::value_of(21, code) {
+        Value::OfYaw(yaw) => is_angle(yaw, x),
+        _ => false,
+    }
+}
+
+fn is_field(sf: u16, code: u64) -> bool {
+    values::number_of_value(values::value_of(sf, code)) == FIELD
+}
+
+// A sheet is written with so many bits and bytes.
+fn takes(kind: u8, subtype: u8, sheet: &[u64], bits: usize, bytes: usize) -> bool {
+    let mut out = [0u8; 1023];
+    match sheet::write(kind, subtype, sheet, &mut out) {
+        WriteAnswer::Written { bits: b, bytes: n } => { if b == bits { n == bytes } else { false } }
+        WriteAnswer::Refused(_) => false,
+    }
+}
+
+// 8 rows at 3.2 degrees from a latitude: SF034 is 7, SF036 is 31.
+fn is_off(latitude: u16) -> bool {
+    area::is_off(latitude as u64 * 268435456 + 7 * 8192 + 31 * 32)
+}
+
+// A number takes three bytes, and they are these.
+fn is_three(number: u64, first: u8, second: u8, third: u8) -> bool {
+    let mut out = [0u8; 3];
+    match groups::put(number, &mut out) {
+        Written::Bytes(n) => n == 3 && out[0] == first && out[1] == second && out[2] == third,
+        Written::Refused(_) => false,
+    }
+}
+
+fn tell_values() {
+    tell(b"1. SF020: 0 is -16.382 m", is_metres(20, 0, 0.0 - 16.382));
+    tell(b"1. SF020: 8191 zero", is_metres(20, 8191, 0.0));
+    tell(b"1. SF020: 16382 +16.382", is_metres(20, 16382, 16.382));
+    tell(b"1. SF020: 16383 FIELD", is_field(20, 16383));
+    tell(b"2. SF032: 1800 is 90.0", is_degrees(32, 1800, 90.0));
+    tell(b"2. SF032: 1801 FIELD", is_field(32, 1801));
+    tell(b"3. SF021: 59 is 354", is_yaw(59, 354.0));
+    tell(b"3. SF021: 60 FIELD", is_field(21, 60));
+}
+
+fn tell_payloads() {
+    tell(
+        b"4. GPS OCB, one unused satellite: 50 bits, 7 bytes",
+        takes(0, 0, &[5, 1, 0, 0, 0, 0, 0, 134217728, 1], 50, 7),
+    );
+    tell(
+        b"5. BeiDou likewise 57 bits, 8 bytes",
+        takes(0, 3, &[5, 1, 0, 0, 0, 0, 0, 4294967296, 1], 57, 8),
+    );
+    tell(
+        b"6. One-area GAD: 66 bits, 9 bytes",
+        takes(2, 0, &[5, 3, 0, 0, 7, 1234, 2000, 3, 4, 9, 9], 66, 9),
+    );
+}
+
+fn main() {
+    tell_values();
+    tell_payloads();
+    tell(
+        b"7. 8 rows at 3.2 degrees: latitude code 224 fits",
+        !is_off(224),
+    );
+    tell(
+        b"7. 8 rows at 3.2 degrees: latitude code 223 AREA_OFF",
+        is_off(223),
+    );
+    tell(b"8. 43,199 is BF D1 02", is_three(43199, 0xBF, 0xD1, 0x02));
+}

@@ -1,0 +1,7 @@
+pub mod State
+pub mod Carrying
+pub mod Tests
+pub mod Books
+pub mod Runs
+pub mod Frames
+pub mod Looking

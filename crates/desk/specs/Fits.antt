@@ -1,0 +1,144 @@
+-- Laws: what a verdict on a frame can be, given the desk. Proved; assumes nothing.
+use mathlib.Core.Path.{_≡_, refl}
+use mathlib.Core.Bool.{Bool, true, false, cond, not, _&&_, _||_}
+use mathlib.Core.List.{List}
+use Prim.Native.Nat.{ℕ, _≤_, _<_}
+use native.Mathlib.Omega.{arith}
+use lib.Dec.{ltb, eqb}
+use lib.ListN.{length}
+use borrow.Author.Tests.{ltb-false, not-false}
+use Rattle.answer.specs.declared.Refusal.{Refusal}
+use Rattle.answer.specs.declared.Refusal.the-variants as refusal
+use Rattle.area.specs.Laws.{both-left, both-right}
+use Rattle.layout.specs.Layout as layout
+use Rattle.hpac.specs.Hpac.{Hpac}
+use Rattle.message.specs.Messages.{Message, ocbMessage, hpacMessage, gadMessage, bpacMessage}
+use Rattle.sheet.specs.Sheet.{judging}
+use Rattle.frame.specs.Check.{checked, payloadIn}
+use Rattle.frame.specs.declared.Frame.{Frame}
+use Rattle.frame.specs.declared.Checked.{Checked}
+use Rattle.frame.specs.declared.Checked.the-variants as check
+use Rattle.book.specs.Book.{bookBytes, sound}
+use Rattle.book.specs.Take.{takenOf, bytesAfter}
+use Rattle.book.specs.Laws.{sound-room}
+use Rattle.book.specs.Theorems.{stays-sound}
+use Rattle.book.specs.declared.Book.{Book}
+use Rattle.book.specs.declared.Taken as took
+use Rattle.book.specs.declared.Taken.the-variants as gad
+use Rattle.desk.specs.Desk.{tags, sourceInRange, runSound, deskSound}
+use Rattle.desk.specs.Take.{logRoom, Verdict, refused, defines, continues, opens, stop, byRun, badTag, tagOf, byBook, byMessage, byPayload, ours, isSealed, byHeader, byFrame, noRoom, verdict, copied, bookVerdict}
+use Rattle.desk.specs.Copied.{copied-sound}
+use Rattle.desk.specs.declared.Desk.{Desk}
+use Rattle.desk.specs.declared.Run.{Run}
+use Rattle.desk.specs.declared.Run.the-variants.{Closed, Open}
+
+-- ---- the parts of a sound desk
+
+module _ (desk : Desk) (live run : List ℕ) (e : deskSound desk live run ≡ true) where
+  books : (sound (desk .book) live && runSound (desk .run) run) ≡ true
+  unfolding deskSound
+  books = both-right (sourceInRange (desk .solution) (desk .processor)) (sound (desk .book) live && runSound (desk .run) run) e
+
+  pub sound-source : sourceInRange (desk .solution) (desk .processor) ≡ true
+  unfolding deskSound
+  sound-source = both-left (sourceInRange (desk .solution) (desk .processor)) (sound (desk .book) live && runSound (desk .run) run) e
+
+  pub sound-live : sound (desk .book) live ≡ true
+  sound-live = both-left (sound (desk .book) live) (runSound (desk .run) run) books
+
+  pub sound-run : runSound (desk .run) run ≡ true
+  sound-run = both-right (sound (desk .book) live) (runSound (desk .run) run) books
+
+-- ---- a frame is taken only by a sound desk with room
+
+pub record Ready (desk : Desk) (live run : List ℕ) : Type 0 where
+  pub state : deskSound desk live run ≡ true
+  pub room : bookBytes ≤ length run
+
+-- the live book that a GAD leaves is sound; a message continues the open run, by that run's book; a run is opened with a tag in range
+pub data Fits (desk : Desk) (live run : List ℕ) : Verdict → Type 0 where
+  not-taken : {why : Refusal} → Fits desk live run (refused why)
+  new-areas : {book : Book} {bytes : List ℕ} → Ready desk live run → sound book bytes ≡ true → Fits desk live run (defines book bytes)
+  same-run : {tag : ℕ} {book : Book} {message : Hpac} → Ready desk live run → desk .run ≡ Open tag book → Fits desk live run (continues book message)
+  new-run : {tag : ℕ} {message : Hpac} → Ready desk live run → tag < tags → Fits desk live run (opens tag message)
+
+module _ (desk : Desk) (live run : List ℕ) where
+  fits-stop : (b : Bool) (why : Refusal) (rest : Verdict) → (b ≡ false → Fits desk live run rest) → Fits desk live run (stop b why rest)
+  fits-stop true why rest h = not-taken
+  fits-stop false why rest h = h refl
+
+  module _ (ready : Ready desk live run) (header : Frame) (payload : List ℕ) where
+    tag-in-range : tagOf header < tags
+    tag-in-range = omega arith
+
+    fits-run : (r : Run) (message : Hpac) → desk .run ≡ r → Fits desk live run (byRun r (tagOf header) message)
+    fits-run Closed message e = new-run ready tag-in-range
+    fits-run (Open current book) message e = go (eqb (tagOf header) current)
+      where
+        go : (b : Bool) → Fits desk live run (cond b (continues book message) (opens (tagOf header) message))
+        go true = same-run ready e
+        go false = new-run ready tag-in-range
+
+    fits-book : (t : took.Taken) → takenOf (desk .book) live payload ≡ t → Fits desk live run (byBook t (bytesAfter (desk .book) live payload))
+    fits-book (gad.Holds book) e = new-areas ready (stays-sound (desk .book) live payload book (sound-live desk live run (ready .state)) e)
+    fits-book (gad.Refused why) e = not-taken
+
+    fits-message : (m : Message) → Fits desk live run (byMessage desk live header payload m)
+    fits-message (hpacMessage constellation body) = fits-stop (badTag header) refusal.Tag (byRun (desk .run) (tagOf header) body) (λ e. fits-run (desk .run) body refl)
+    fits-message (gadMessage body) = fits-book (takenOf (desk .book) live payload) refl
+    fits-message (ocbMessage constellation body) = not-taken
+    fits-message (bpacMessage body) = not-taken
+
+    fits-payload : (o : layout.Outcome Message) → Fits desk live run (byPayload desk live header payload o)
+    fits-payload (layout.accepted message codes bits) = fits-message message
+    fits-payload (layout.refused why) = not-taken
+
+    fits-header : Fits desk live run (byHeader desk live header payload)
+    unfolding byHeader
+    fits-header =
+        let o : layout.Outcome Message = judging (header .«message_type») (header .subtype) payload in
+        let rest : Verdict = byPayload desk live header payload o in
+        fits-stop (not (ours desk header)) refusal.NotOurs (stop (isSealed (header .seal)) refusal.Sealed rest) (λ e.
+        fits-stop (isSealed (header .seal)) refusal.Sealed rest (λ f. fits-payload o))
+
+  fits-frame : Ready desk live run → (frame : List ℕ) (c : Checked) → Fits desk live run (byFrame desk live c frame)
+  fits-frame ready frame (check.Accepted header) = fits-header ready header (payloadIn header frame)
+  fits-frame ready frame (check.Short wanted) = not-taken
+  fits-frame ready frame (check.Refused why) = not-taken
+
+  room-run : (log : List ℕ) → noRoom live run log ≡ false → bookBytes ≤ length run
+  room-run log e = go (ltb (length live) bookBytes) (ltb (length run) bookBytes) refl (ltb (length log) logRoom) e
+    where
+      go : (a b : Bool) → ltb (length run) bookBytes ≡ b → (c : Bool) → (a || (b || c)) ≡ false → bookBytes ≤ length run
+      go false false q c e = ltb-false (length run) bookBytes q
+      go true b q c e = let z : _≡_ {A = ℕ} 0 1 = cc in absurd (omega arith)
+      go false true q c e = let z : _≡_ {A = ℕ} 0 1 = cc in absurd (omega arith)
+
+  pub fits : (frame log : List ℕ) → Fits desk live run (verdict desk frame live run log)
+  unfolding verdict
+  fits frame log =
+      let rest : Verdict = byFrame desk live (checked frame) frame in
+      fits-stop (noRoom live run log) refusal.Room (stop (not (deskSound desk live run)) refusal.State rest) (λ r.
+      fits-stop (not (deskSound desk live run)) refusal.State rest (λ s.
+      fits-frame (record { state = not-false (deskSound desk live run) s; room = room-run log r }) frame (checked frame)))
+
+  -- and a kept book that is taken is sound where it is copied to
+  fits-book-in : Ready desk live run → (book : Book) (bytes : List ℕ) → sound book bytes ≡ true → Fits desk live run (defines book (copied book bytes live))
+  fits-book-in ready book bytes w =
+      new-areas ready (copied-sound book bytes live w (sound-room (desk .book) live (sound-live desk live run (ready .state))))
+
+  pub fits-kept : (book : Book) (bytes : List ℕ) → Fits desk live run (bookVerdict desk book bytes live run)
+  unfolding bookVerdict
+  fits-kept book bytes =
+      let rest : Verdict = defines book (copied book bytes live) in
+      let both : Bool = deskSound desk live run && sound book bytes in
+      fits-stop (ltb (length bytes) bookBytes || (ltb (length live) bookBytes || ltb (length run) bookBytes)) refusal.Room (stop (not both) refusal.State rest) (λ r.
+      fits-stop (not both) refusal.State rest (λ s.
+      fits-book-in
+      (record { state = both-left (deskSound desk live run) (sound book bytes) (not-false both s); room = last-room (ltb (length bytes) bookBytes) (ltb (length live) bookBytes) r })
+      book bytes (both-right (deskSound desk live run) (sound book bytes) (not-false both s))))
+    where
+      last-room : (a b : Bool) → (a || (b || ltb (length run) bookBytes)) ≡ false → bookBytes ≤ length run
+      last-room false false e = ltb-false (length run) bookBytes e
+      last-room true b e = let z : _≡_ {A = ℕ} 0 1 = cc in absurd (omega arith)
+      last-room false true e = let z : _≡_ {A = ℕ} 0 1 = cc in absurd (omega arith)

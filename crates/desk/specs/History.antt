@@ -1,0 +1,64 @@
+-- Definitions to believe: a desk that is given frames and kept books one after the other, and the live book as it was when the open run was opened.
+use mathlib.Core.List.{List, [], _∷_, _++_}
+use Prim.Native.Nat.{ℕ}
+use Rattle.book.specs.declared.Book.{Book}
+use Rattle.log.specs.Log.{opened, logOf}
+use Rattle.desk.specs.Take.{Verdict, refused, defines, continues, opens, verdict, bookVerdict, deskBy, liveBy, runBytesBy, entriesBy}
+use Rattle.desk.specs.declared.Desk.{Desk}
+
+-- what a desk has between two frames: its state, and the bytes of the live book and of the run's
+pub record Held : Type 0 where
+  pub desk : Desk
+  pub live : List ℕ
+  pub run : List ℕ
+
+-- what it is given next: a frame, with what is lent for its log, or a book that was read from its kept form
+pub data Given : Type 0 where
+  frameWith : (frame log : List ℕ) → Given
+  keptBook : (book : Book) (bytes : List ℕ) → Given
+
+abbrev pub verdictOn : Held → Given → Verdict
+verdictOn held (frameWith frame log) = verdict (held .desk) frame (held .live) (held .run) log
+verdictOn held (keptBook book bytes) = bookVerdict (held .desk) book bytes (held .live) (held .run)
+
+abbrev pub heldBy : Held → Verdict → Held
+heldBy held v = record { desk = deskBy (held .desk) v; live = liveBy (held .live) v; run = runBytesBy (held .desk) (held .live) (held .run) v }
+
+-- the numbers that are added to the run log
+abbrev pub entriesOf : Held → Verdict → List ℕ
+entriesOf held v = entriesBy (held .desk) (held .live) (held .run) v
+
+-- a live book as it was at some moment
+pub record Snapshot : Type 0 where
+  pub book : Book
+  pub bytes : List ℕ
+
+-- the live book at the moment when the run was opened: what the auditor asks for. Only a frame that opens a run sets it.
+abbrev pub openingBy : Held → Snapshot → Verdict → Snapshot
+openingBy held opening (refused why) = opening
+openingBy held opening (defines book bytes) = opening
+openingBy held opening (continues book message) = opening
+openingBy held opening (opens tag message) = record { book = held .desk .book; bytes = held .live }
+
+-- a desk along what it is given, with that moment's live book beside it
+pub record Course : Type 0 where
+  pub held : Held
+  pub opening : Snapshot
+
+abbrev pub onward : Course → Given → Course
+onward course given =
+    record {
+      held = heldBy (course .held) (verdictOn (course .held) given);
+      opening = openingBy (course .held) (course .opening) (verdictOn (course .held) given);
+    }
+
+unfoldable pub along : Course → List Given → Course
+along course [] = course
+along course (given ∷ rest) = along (onward course given) rest
+
+-- the log of a message by a live book: "1, tag, AIOU + 1, count of areas" if it opens the run, then an entry 2 or 3 for each area
+abbrev pub toldBy : Snapshot → Verdict → List ℕ
+toldBy opening (refused why) = []
+toldBy opening (defines book bytes) = []
+toldBy opening (continues book message) = logOf (opening .book) (opening .bytes) message
+toldBy opening (opens tag message) = opened tag (opening .book) ++ logOf (opening .book) (opening .bytes) message

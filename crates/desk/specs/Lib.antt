@@ -1,0 +1,10 @@
+pub mod Desk
+pub mod Take
+pub mod Lookup
+pub mod Steps
+pub mod Copied
+pub mod Fits
+pub mod History
+pub mod Continues
+pub mod Theorems
+pub mod Determined

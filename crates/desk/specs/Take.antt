@@ -1,0 +1,220 @@
+-- Definitions to believe: document 01, "Book and run": what a desk makes of a frame, in the order of its checks, and what it leaves.
+use mathlib.Core.Bool.{Bool, true, false, cond, not, _&&_, _||_}
+use mathlib.Core.List.{List, [], _++_}
+use Prim.Native.Nat.{ℕ, _*_, _%_}
+use lib.Dec.{leb, ltb, eqb}
+use lib.ListN.{length, take, drop}
+use Rattle.answer.specs.Number.{numberOf}
+use Rattle.answer.specs.declared.Refusal.{Refusal}
+use Rattle.answer.specs.declared.Refusal.the-variants as refusal
+use Rattle.codes.specs.Tables.{rowOf}
+use Rattle.codes.specs.declared.Constellation.{Constellation}
+use Rattle.frame.specs.Check.{checked, payloadIn}
+use Rattle.frame.specs.declared.Frame.{Frame}
+use Rattle.frame.specs.declared.Seal.{Seal}
+use Rattle.frame.specs.declared.Seal.the-variants as seal
+use Rattle.frame.specs.declared.Checked.{Checked}
+use Rattle.frame.specs.declared.Checked.the-variants as check
+use Rattle.layout.specs.Layout as layout
+use Rattle.hpac.specs.Hpac.{Hpac}
+use Rattle.message.specs.Messages.{Message, ocbMessage, hpacMessage, gadMessage, bpacMessage}
+use Rattle.sheet.specs.Sheet.{judging}
+use Rattle.book.specs.Book.{bookBytes, sound}
+use Rattle.book.specs.Take.{takenOf, bytesAfter}
+use Rattle.book.specs.declared.Book.{Book}
+use Rattle.book.specs.declared.Taken as took
+use Rattle.book.specs.declared.Taken.the-variants as gad
+use Rattle.groups.specs.Groups.{groupsOfAll}
+use Rattle.log.specs.Log.{opened, logOf}
+use Rattle.desk.specs.Desk.{tags, deskSound}
+use Rattle.desk.specs.declared.Desk.{Desk}
+use Rattle.desk.specs.declared.Run.{Run}
+use Rattle.desk.specs.declared.Run.the-variants.{Closed, Open}
+use Rattle.desk.specs.declared.Said.{Said}
+use Rattle.desk.specs.declared.Said.the-variants as said
+use Rattle.desk.specs.declared.Taken.{Taken}
+
+-- "Log room: 4,096 bytes per frame"
+abbrev pub logRoom : ℕ
+logRoom = 4096
+
+-- ---- what a frame is to a desk
+
+pub data Verdict : Type 0 where
+  -- not taken
+  refused : Refusal → Verdict
+  -- a GAD: the live book that it leaves, and its bytes
+  defines : (book : Book) (bytes : List ℕ) → Verdict
+  -- an HPAC message of the open run, whose book is this one
+  continues : (book : Book) (message : Hpac) → Verdict
+  -- an HPAC message that opens a run with this tag
+  opens : (tag : ℕ) (message : Hpac) → Verdict
+
+-- the test holds: refused; else go on
+abbrev pub stop : Bool → Refusal → Verdict → Verdict
+stop true why rest = refused why
+stop false why rest = rest
+
+-- for HPAC: "A tag other than the open run's, earlier ones too, opens a run"
+abbrev pub byRun : Run → (tag : ℕ) → Hpac → Verdict
+byRun Closed tag message = opens tag message
+byRun (Open current book) tag message = cond (eqb tag current) (continues book message) (opens tag message)
+
+-- TAG: "16-bit time tag over 43,199"
+abbrev pub badTag : Frame → Bool
+badTag header = eqb (header .«tag_kind») 0 && leb tags (header .tag)
+
+-- "An HPAC tag is taken modulo 43,200."
+abbrev pub tagOf : Frame → ℕ
+tagOf header = header .tag % tags
+
+-- for GAD "the book's refusals", or the live book that is left
+abbrev pub byBook : took.Taken → List ℕ → Verdict
+byBook (gad.Holds book) bytes = defines book bytes
+byBook (gad.Refused why) bytes = refused why
+
+-- "then for HPAC TAG, for GAD the book's refusals (a GAD's tag does not count)"; no other payload comes as far as here
+abbrev pub byMessage : Desk → (live : List ℕ) → Frame → (payload : List ℕ) → Message → Verdict
+byMessage desk live header payload (hpacMessage constellation body) = stop (badTag header) refusal.Tag (byRun (desk .run) (tagOf header) body)
+byMessage desk live header payload (gadMessage body) = byBook (takenOf (desk .book) live payload) (bytesAfter (desk .book) live payload)
+byMessage desk live header payload (ocbMessage constellation body) = refused refusal.NotOurs
+byMessage desk live header payload (bpacMessage body) = refused refusal.NotOurs
+
+-- "payload refusals"
+abbrev pub byPayload : Desk → (live : List ℕ) → Frame → (payload : List ℕ) → layout.Outcome Message → Verdict
+byPayload desk live header payload (layout.accepted message codes bits) = byMessage desk live header payload message
+byPayload desk live header payload (layout.refused why) = refused why
+
+-- "Its payload types are GAD and that constellation's HPAC.": 2-0, and 1 with the constellation's subtype
+abbrev pub ourType : Constellation → (kind subtype : ℕ) → Bool
+ourType constellation kind subtype = (eqb kind 2 && eqb subtype 0) || (eqb kind 1 && eqb subtype (rowOf constellation))
+
+-- not NOT_OURS, which is: "other solution, processor or payload type"
+abbrev pub ours : Desk → Frame → Bool
+ours desk header =
+    eqb (header .solution) (desk .solution)
+    && (eqb (header .processor) (desk .processor) && ourType (desk .constellation) (header .«message_type») (header .subtype))
+
+-- SEALED: "TF004 is 1, payload wanted"
+abbrev pub isSealed : Seal → Bool
+isSealed seal.Plain = false
+isSealed (seal.Sealed sealing) = true
+
+-- "NOT_OURS, SEALED, payload refusals, .."
+unfoldable pub byHeader : Desk → (live : List ℕ) → Frame → (payload : List ℕ) → Verdict
+byHeader desk live header payload =
+    stop (not (ours desk header)) refusal.NotOurs
+    (stop (isSealed (header .seal)) refusal.Sealed
+    (byPayload desk live header payload (judging (header .«message_type») (header .subtype) payload)))
+
+-- "the frame's own refusals, .."
+abbrev pub byFrame : Desk → (live : List ℕ) → Checked → (frame : List ℕ) → Verdict
+byFrame desk live (check.Accepted header) frame = byHeader desk live header (payloadIn header frame)
+byFrame desk live (check.Short wanted) frame = refused refusal.Short
+byFrame desk live (check.Refused why) frame = refused why
+
+-- ROOM: "lent buffer under its stated size"
+abbrev pub noRoom : (live run log : List ℕ) → Bool
+noRoom live run log = ltb (length live) bookBytes || (ltb (length run) bookBytes || ltb (length log) logRoom)
+
+-- "Order: ROOM, STATE, the frame's own refusals, NOT_OURS, SEALED, payload refusals, then for HPAC TAG, for GAD the book's refusals"
+unfoldable pub verdict : Desk → (frame live run log : List ℕ) → Verdict
+verdict desk frame live run log =
+    stop (noRoom live run log) refusal.Room
+    (stop (not (deskSound desk live run)) refusal.State
+    (byFrame desk live (checked frame) frame))
+
+-- ---- what a verdict leaves: "A refusal returns its number and the old state, .. and alters no lent byte"
+
+-- "the book is copied to the run's book. In both books only bytes of areas held are written."
+abbrev pub copied : Book → (from to : List ℕ) → List ℕ
+copied book from to = take (6 * book .count) from ++ drop (6 * book .count) to
+
+-- the run that is open then
+abbrev pub runBy : Desk → Verdict → Run
+runBy desk (refused why) = desk .run
+runBy desk (defines book bytes) = desk .run
+runBy desk (continues book message) = desk .run
+runBy desk (opens tag message) = Open tag (desk .book)
+
+-- the live book
+abbrev pub bookBy : Desk → Verdict → Book
+bookBy desk (refused why) = desk .book
+bookBy desk (defines book bytes) = book
+bookBy desk (continues book message) = desk .book
+bookBy desk (opens tag message) = desk .book
+
+abbrev pub deskBy : Desk → Verdict → Desk
+deskBy desk v =
+    record { solution = desk .solution; processor = desk .processor; constellation = desk .constellation; book = bookBy desk v; run = runBy desk v }
+
+-- the bytes of the live book, and of the run's
+abbrev pub liveBy : (live : List ℕ) → Verdict → List ℕ
+liveBy live (refused why) = live
+liveBy live (defines book bytes) = bytes
+liveBy live (continues book message) = live
+liveBy live (opens tag message) = live
+
+abbrev pub runBytesBy : Desk → (live run : List ℕ) → Verdict → List ℕ
+runBytesBy desk live run (refused why) = run
+runBytesBy desk live run (defines book bytes) = run
+runBytesBy desk live run (continues book message) = run
+runBytesBy desk live run (opens tag message) = copied (desk .book) live run
+
+-- the numbers of the entries that the frame adds to the run log: "1, tag, ..: run opened", then those of the areas by the run's book
+abbrev pub entriesBy : Desk → (live run : List ℕ) → Verdict → List ℕ
+entriesBy desk live run (refused why) = []
+entriesBy desk live run (defines book bytes) = []
+entriesBy desk live run (continues book message) = logOf book run message
+entriesBy desk live run (opens tag message) = opened tag (desk .book) ++ logOf (desk .book) (copied (desk .book) live run) message
+
+-- their bytes
+unfoldable pub loggedBy : Desk → (live run : List ℕ) → Verdict → List ℕ
+loggedBy desk live run v = groupsOfAll (entriesBy desk live run v)
+
+abbrev pub logBy : Desk → (live run log : List ℕ) → Verdict → List ℕ
+logBy desk live run log v = loggedBy desk live run v ++ drop (length (loggedBy desk live run v)) log
+
+-- the answer: OK with the log bytes written, or the refusal
+abbrev pub saidBy : Verdict → (logged : ℕ) → Said
+saidBy (refused why) logged = said.Refused why
+saidBy (defines book bytes) logged = said.Accepted logged
+saidBy (continues book message) logged = said.Accepted logged
+saidBy (opens tag message) logged = said.Accepted logged
+
+-- the answer and the desk then
+abbrev pub takenBy : Desk → (live run : List ℕ) → Verdict → Taken
+takenBy desk live run v = record { said = saidBy v (length (loggedBy desk live run v)); desk = deskBy desk v }
+
+-- ---- what `take` answers, and its lent buffers afterwards
+
+unfoldable pub frameTaken : Desk → (frame live run log : List ℕ) → Taken
+frameTaken desk frame live run log = takenBy desk live run (verdict desk frame live run log)
+
+unfoldable pub liveAfter : Desk → (frame live run log : List ℕ) → List ℕ
+liveAfter desk frame live run log = liveBy live (verdict desk frame live run log)
+
+unfoldable pub runAfter : Desk → (frame live run log : List ℕ) → List ℕ
+runAfter desk frame live run log = runBytesBy desk live run (verdict desk frame live run log)
+
+unfoldable pub logAfter : Desk → (frame live run log : List ℕ) → List ℕ
+logAfter desk frame live run log = logBy desk live run log (verdict desk frame live run log)
+
+-- the answer's number in document 01
+abbrev pub numberOfSaid : Said → ℕ
+numberOfSaid (said.Accepted log) = 0
+numberOfSaid (said.Refused refusal) = numberOf refusal
+
+-- ---- a book that was read from its kept form, in bytes of its own, is taken as the live book; an open run stays as it is
+
+unfoldable pub bookVerdict : Desk → Book → (bytes live run : List ℕ) → Verdict
+bookVerdict desk book bytes live run =
+    stop (ltb (length bytes) bookBytes || (ltb (length live) bookBytes || ltb (length run) bookBytes)) refusal.Room
+    (stop (not (deskSound desk live run && sound book bytes)) refusal.State
+    (defines book (copied book bytes live)))
+
+unfoldable pub bookTaken : Desk → Book → (bytes live run : List ℕ) → Taken
+bookTaken desk book bytes live run = takenBy desk live run (bookVerdict desk book bytes live run)
+
+unfoldable pub liveAfterBook : Desk → Book → (bytes live run : List ℕ) → List ℕ
+liveAfterBook desk book bytes live run = liveBy live (bookVerdict desk book bytes live run)

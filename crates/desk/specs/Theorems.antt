@@ -1,0 +1,203 @@
+-- Theorems on the desk. A sound desk stays sound. Which definition placed this residual: that of the live book as it was when its run was opened, whatever GAD came
+-- since; so two definitions never mix in one run. A GAD changes no later entry of the open run. Proved; assumes nothing.
+use mathlib.Core.Path.{_≡_, refl, ap, ap₂, sym, _∙_, subst}
+use mathlib.Core.Bool.{Bool, true, false, cond, _&&_}
+use mathlib.Core.List.{List, [], _∷_, _++_}
+use Prim.Native.Nat.{ℕ, _≤_}
+use native.Mathlib.Omega.{arith}
+use lib.ListN.{length}
+use borrow.Author.Tests.{lt-ltb, le-leb}
+use Rattle.area.specs.declared.AreaId.{AreaId}
+use Rattle.hpac.specs.Hpac.{Area, Hpac}
+use Rattle.book.specs.Book.{bookBytes, headSound, areasSound, sound, found}
+use Rattle.book.specs.declared.Book.{Book}
+use Rattle.log.specs.Log.{joined, opened, areaId, bitsFor, reasonFor, reasonOf, troposphereSaid, ionosphereSaid, entryOf, logOf}
+use Rattle.answer.specs.declared.Refusal.the-variants.{Field}
+use Rattle.message.specs.Machine.{constellationFor}
+use Rattle.message.specs.declared.Subtype.{Subtype}
+use Rattle.message.specs.declared.Subtype.the-variants as subtype
+use Rattle.desk.specs.Desk.{tags, sourceInRange, noBook, madeFor, newDesk, deskSound}
+use Rattle.desk.specs.Take.{Verdict, refused, defines, continues, opens, copied, deskBy}
+use Rattle.desk.specs.Copied.{copied-sound, copied-found}
+use Rattle.desk.specs.Fits.{sound-source, sound-live, sound-run, Fits, new-areas, same-run, new-run, fits, fits-kept}
+use Rattle.desk.specs.History.{Held, Given, frameWith, keptBook, verdictOn, heldBy, entriesOf, Snapshot, openingBy, Course, onward, along, toldBy}
+use Rattle.desk.specs.Continues.{still-continues}
+use Rattle.desk.specs.declared.Desk.{Desk}
+use Rattle.desk.specs.declared.NewDesk.the-variants.{Made, Refused}
+use Rattle.desk.specs.declared.Run.{Run}
+use Rattle.desk.specs.declared.Run.the-variants.{Closed, Open}
+
+-- ---- a sound desk stays sound
+
+abbrev pub heldSound : Held → Bool
+heldSound held = deskSound (held .desk) (held .live) (held .run)
+
+-- what a verdict can be, on a frame and on a kept book
+pub fits-on : (held : Held) (given : Given) → Fits (held .desk) (held .live) (held .run) (verdictOn held given)
+fits-on held (frameWith frame log) = fits (held .desk) (held .live) (held .run) frame log
+fits-on held (keptBook book bytes) = fits-kept (held .desk) (held .live) (held .run) book bytes
+
+all-three : {a b c : Bool} → a ≡ true → b ≡ true → c ≡ true → (a && (b && c)) ≡ true
+all-three p q r = rw (p, q, r)
+
+pub stays-sound : (held : Held) (given : Given) → heldSound held ≡ true → heldSound (heldBy held (verdictOn held given)) ≡ true
+unfolding deskSound
+stays-sound held given e = go (verdictOn held given) (fits-on held given)
+  where
+    go : (v : Verdict) → Fits (held .desk) (held .live) (held .run) v → heldSound (heldBy held v) ≡ true
+    go (refused why) f = e
+    go (defines book bytes) (new-areas r w) = all-three (sound-source (held .desk) (held .live) (held .run) e) w (sound-run (held .desk) (held .live) (held .run) e)
+    go (continues book message) f = e
+    go (opens tag message) (new-run r h) =
+        let w : sound (held .desk .book) (held .live) ≡ true = sound-live (held .desk) (held .live) (held .run) e in
+        all-three (sound-source (held .desk) (held .live) (held .run) e) w
+        (ap₂ (λ x y. x && y) (lt-ltb tag tags h) (copied-sound (held .desk .book) (held .live) (held .run) w (r .room)))
+
+-- a new desk is sound, with any bytes lent for its books
+pub new-sound : (solution processor constellation : ℕ) (desk : Desk) (live run : List ℕ) → newDesk solution processor constellation ≡ Made desk → bookBytes ≤ length live
+    → deskSound desk live run ≡ true
+unfolding newDesk deskSound sound headSound areasSound
+new-sound solution processor constellation desk live run e h = go (sourceInRange solution processor) refl (constellationFor constellation) e
+  where
+    go : (b : Bool) → sourceInRange solution processor ≡ b → (s : Subtype) → cond b (madeFor solution processor s) (Refused Field) ≡ Made desk → deskSound desk live run ≡ true
+    go true q (subtype.Known c) e =
+        let z : record { solution = solution; processor = processor; constellation = c; book = noBook; run = Closed } ≡ desk = cc in
+        subst (λ d. deskSound d live run ≡ true) z (rw (q, le-leb bookBytes (length live) h))
+    go true q subtype.Unknown e = let z : _≡_ {A = ℕ} 0 1 = cc in absurd (omega arith)
+    go false q s e = let z : _≡_ {A = ℕ} 0 1 = cc in absurd (omega arith)
+
+-- ---- which definition placed this residual
+
+-- the log of a message is settled by what each ID finds in the book
+entry-same : (book : Book) (s t : List ℕ) → ((id : AreaId) → found book s id ≡ found book t id) → (aiou : ℕ) (x : Area) → entryOf book s aiou x ≡ entryOf book t aiou x
+unfolding reasonFor
+entry-same book s t h aiou x = rw (h (areaId (x .id)))
+
+log-same : (book : Book) (s t : List ℕ) → ((id : AreaId) → found book s id ≡ found book t id) → (message : Hpac) → logOf book s message ≡ logOf book t message
+unfolding logOf
+log-same book s t h message = go (message .areas)
+  where
+    go : (xs : List Area) → joined (entryOf book s (message .aiou)) xs ≡ joined (entryOf book t (message .aiou)) xs
+    go [] = refl
+    go (x ∷ xs) = ap₂ (λ a b. a ++ b) (entry-same book s t h (message .aiou) x) (go xs)
+
+-- the run's book, if a run is open, is the live book as it was when the run was opened: under each ID the same six bytes
+pub data Kept (run : List ℕ) (opening : Snapshot) : Run → Type 0 where
+  closed : Kept run opening Closed
+  kept : {tag : ℕ} {book : Book} → book ≡ opening .book → ((id : AreaId) → found book run id ≡ found book (opening .bytes) id) → Kept run opening (Open tag book)
+
+abbrev pub KeptOn : Course → Type 0
+KeptOn course = Kept (course .held .run) (course .opening) (course .held .desk .run)
+
+stays-kept : (course : Course) (given : Given) → KeptOn course → KeptOn (onward course given)
+stays-kept course given k = go (verdictOn held given) (fits-on held given)
+  where
+    held : Held
+    held = course .held
+
+    go : (v : Verdict) → Fits (held .desk) (held .live) (held .run) v → KeptOn (record { held = heldBy held v; opening = openingBy held (course .opening) v })
+    go (refused why) f = k
+    go (defines book bytes) f = k
+    go (continues book message) f = k
+    go (opens tag message) (new-run r h) =
+        kept refl (copied-found (held .desk .book) (held .live) (held .run) (sound-live (held .desk) (held .live) (held .run) (r .state)) (r .room))
+
+pub always-kept : (course : Course) (frames : List Given) → KeptOn course → KeptOn (along course frames)
+unfolding along
+always-kept course [] k = k
+always-kept course (given ∷ rest) k = always-kept (onward course given) rest (stays-kept course given k)
+
+kept-from : (start : Course) → start .held .desk .run ≡ Closed → (before : List Given) → KeptOn (along start before)
+kept-from start e before = always-kept start before (subst (λ r. Kept (start .held .run) (start .opening) r) (sym e) closed)
+
+told : (course : Course) (given : Given) → KeptOn course
+    → entriesOf (course .held) (verdictOn (course .held) given) ≡ toldBy (onward course given .opening) (verdictOn (course .held) given)
+told course given k = go (verdictOn held given) (fits-on held given)
+  where
+    held : Held
+    held = course .held
+
+    by-run : (r : Run) (tag : ℕ) (book : Book) → Kept (held .run) (course .opening) r → r ≡ Open tag book → (message : Hpac)
+        → logOf book (held .run) message ≡ logOf (course .opening .book) (course .opening .bytes) message
+    by-run Closed tag book closed e message = let z : _≡_ {A = ℕ} 0 1 = cc in absurd (omega arith)
+    by-run (Open t b) tag book (kept p q) e message =
+        let same : b ≡ book = cc in
+        ap (λ b. logOf b (held .run) message) (sym same) ∙ log-same b (held .run) (course .opening .bytes) q message
+        ∙ ap (λ b. logOf b (course .opening .bytes) message) p
+
+    go : (v : Verdict) → Fits (held .desk) (held .live) (held .run) v → entriesOf held v ≡ toldBy (openingBy held (course .opening) v) v
+    go (refused why) f = refl
+    go (defines book bytes) f = refl
+    go (continues book message) (same-run {tag = tag} r e) = by-run (held .desk .run) tag book k e message
+    go (opens tag message) (new-run r h) =
+        ap (λ l. opened tag (held .desk .book) ++ l)
+        (log-same (held .desk .book) (copied (held .desk .book) (held .live) (held .run)) (held .live)
+        (copied-found (held .desk .book) (held .live) (held .run) (sound-live (held .desk) (held .live) (held .run) (r .state)) (r .room)) message)
+
+-- For a desk without an open run, as a new one is, whatever its books hold and whatever frames and kept books it is given: what any frame then adds to the run
+-- log is the log of its message by the live book as it was when the message's run was opened.
+pub which-definition : (start : Course) → start .held .desk .run ≡ Closed → (before : List Given) (given : Given)
+    → entriesOf (along start before .held) (verdictOn (along start before .held) given)
+    ≡ toldBy (onward (along start before) given .opening) (verdictOn (along start before .held) given)
+which-definition start e before given = told (along start before) given (kept-from start e before)
+
+-- In it an area is placed, entry 2, with the 47 bits that its ID has in that book.
+pub placed-with : (opening : Snapshot) (aiou : ℕ) (x : Area) → reasonOf (opening .book) (opening .bytes) aiou x ≡ 0
+    → entryOf (opening .book) (opening .bytes) aiou x
+    ≡ 2 ∷ x .id ∷ bitsFor (opening .book) (opening .bytes) (x .id)
+    ∷ (troposphereSaid (bitsFor (opening .book) (opening .bytes) (x .id)) x ++ ionosphereSaid x)
+placed-with opening aiou x e = rw e
+
+-- ---- an area book that is changed between two messages never mixes in one run
+
+abbrev pub isOpening : Verdict → Bool
+isOpening (refused why) = false
+isOpening (defines book bytes) = false
+isOpening (continues book message) = false
+isOpening (opens tag message) = true
+
+pub data NoneOpens : Course → List Given → Type 0 where
+  none : {course : Course} → NoneOpens course []
+  more : {course : Course} {given : Given} {rest : List Given} → isOpening (verdictOn (course .held) given) ≡ false → NoneOpens (onward course given) rest → NoneOpens course (given ∷ rest)
+
+opening-stays : (course : Course) (since : List Given) → NoneOpens course since → along course since .opening ≡ course .opening
+unfolding along
+opening-stays course [] none = refl
+opening-stays course (given ∷ rest) (more e n) = opening-stays (onward course given) rest n ∙ go (verdictOn (course .held) given) e
+  where
+    go : (v : Verdict) → isOpening v ≡ false → openingBy (course .held) (course .opening) v ≡ course .opening
+    go (refused why) e = refl
+    go (defines book bytes) e = refl
+    go (continues book message) e = refl
+    go (opens tag message) e = let z : _≡_ {A = ℕ} 0 1 = cc in absurd (omega arith)
+
+-- Once a frame has opened a run, and as long as no other run is opened, every message of the run is told by the live book as it was before that frame, whatever
+-- GADs and kept books came since.
+pub never-mixes : (start : Course) → start .held .desk .run ≡ Closed → (before : List Given) (first : Given) (tag : ℕ) (opener : Hpac)
+    → verdictOn (along start before .held) first ≡ opens tag opener
+    → (since : List Given) → NoneOpens (onward (along start before) first) since
+    → (given : Given) (book : Book) (message : Hpac) → verdictOn (along (onward (along start before) first) since .held) given ≡ continues book message
+    → entriesOf (along (onward (along start before) first) since .held) (continues book message)
+    ≡ logOf (along start before .held .desk .book) (along start before .held .live) message
+never-mixes start e before first tag opener o since n given book message q =
+    let course : Course = along start before in
+    let later : Course = along (onward course first) since in
+    let k : KeptOn later = always-kept (onward course first) since (stays-kept course first (kept-from start e before)) in
+    let t : entriesOf (later .held) (continues book message) ≡ logOf (later .opening .book) (later .opening .bytes) message
+    = subst (λ v. entriesOf (later .held) v ≡ toldBy (openingBy (later .held) (later .opening) v) v) q (told later given k) in
+    let s : later .opening ≡ record { book = course .held .desk .book; bytes = course .held .live }
+    = opening-stays (onward course first) since n ∙ ap (openingBy (course .held) (course .opening)) o in
+    t ∙ ap (λ x. logOf (x .book) (x .bytes) message) s
+
+-- ---- a GAD changes no later entry of the open run
+
+-- A frame that is a message of the open run is one also after a GAD, or a kept book, was taken before it, and adds the same entries.
+pub gad-changes-no-entry : (held : Held) (given : Given) (book : Book) (bytes : List ℕ) → verdictOn held given ≡ defines book bytes
+    → (frame log : List ℕ) (runBook : Book) (message : Hpac) → verdictOn held (frameWith frame log) ≡ continues runBook message
+    → (verdictOn (heldBy held (defines book bytes)) (frameWith frame log) ≡ continues runBook message)
+    × (entriesOf (heldBy held (defines book bytes)) (continues runBook message) ≡ entriesOf held (continues runBook message))
+gad-changes-no-entry held given book bytes e frame log runBook message q = let f : Fits (held .desk) (held .live) (held .run) (defines book bytes) = subst (λ v. Fits (held .desk) (held .live) (held .run) v) e (fits-on held given) in
+    (still-continues (held .desk) (held .live) (held .run) book bytes (after-sound f) runBook message frame log q, refl)
+  where
+    after-sound : Fits (held .desk) (held .live) (held .run) (defines book bytes) → deskSound (deskBy (held .desk) (defines book bytes)) bytes (held .run) ≡ true
+    after-sound (new-areas r w) = subst (λ v. heldSound (heldBy held v) ≡ true) e (stays-sound held given (r .state))

@@ -1,0 +1,6 @@
+pub mod Entries
+pub mod Gads
+pub mod Ocbs
+pub mod Calls
+pub mod Bpacs
+pub mod Hpacs

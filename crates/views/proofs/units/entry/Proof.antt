@@ -1,0 +1,20 @@
+-- `entry`: past the end a list gives 0.
+use Rattle.views.proofs.Entries.{entry-none}
+use borrow.Author.Needs.{needs}
+use Rattle.views.proofs.units.entry.Statement.{statement}
+use Rattle.views.proofs.units.entry.Tie as tie
+
+mul-result : tie.Need-mul-result
+mul-result c = search needs
+
+shared-slice-read-result : tie.Need-shared-slice-read-result
+shared-slice-read-result c = search needs
+
+returns : tie.Need-returns
+returns c = search needs
+
+returns-2 : tie.Need-returns-2
+returns-2 c = search (entry-none, needs)
+
+pub entry-spec : {M : Type 1} → statement M
+entry-spec = tie.close (tie.spec mul-result shared-slice-read-result returns returns-2)
