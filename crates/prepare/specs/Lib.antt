@@ -1,0 +1,11 @@
+pub mod Uncut
+pub mod Prepare
+pub mod Driver
+pub mod Steps
+pub mod Stays
+pub mod Driving
+pub mod Placed
+pub mod Placing
+pub mod Theorems
+pub mod Moves
+pub mod Determined

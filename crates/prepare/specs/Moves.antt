@@ -1,0 +1,89 @@
+-- Mirror: what the steps of a call return, by what the stream says. Serves proofs.
+use mathlib.Core.Path.{_≡_}
+use mathlib.Core.List.{List}
+use Prim.Native.Nat.{ℕ}
+use lib.ListN.{length, take}
+use Rattle.frame.specs.declared.Frame.{Frame}
+use Rattle.frame.specs.declared.Checked.the-variants.{Accepted}
+use Rattle.frame.specs.Check.{checked}
+use Rattle.stream.specs.Scan.{Event, frame}
+use Rattle.stream.specs.declared.Said as stream-said
+use Rattle.stream.specs.declared.Said.the-variants as hears
+use Rattle.stream.specs.declared.Answer as stream-answer
+use Rattle.desk.specs.declared.Desk.{Desk}
+use Rattle.desk.specs.declared.Said as desk-said
+use Rattle.desk.specs.declared.Said.the-variants as desk
+use Rattle.desk.specs.declared.Taken.{Taken}
+use Rattle.desk.specs.History.{Held}
+use Rattle.prepare.specs.declared.Said.{Said}
+use Rattle.prepare.specs.declared.Said.the-variants as said
+use Rattle.prepare.specs.declared.Answer.{Answer}
+use Rattle.prepare.specs.Uncut.{toldOf, booksAfter, entriesOf}
+use Rattle.prepare.specs.Prepare.{saidOf, written}
+
+-- ---- what the desk said of a frame
+
+abbrev pub saidWith : Frame → desk-said.Said → Said
+saidWith header (desk.Accepted log) = said.Accepted header
+saidWith header (desk.Refused why) = said.FrameRefused header why
+
+abbrev pub logWith : desk-said.Said → ℕ
+logWith (desk.Accepted log) = log
+logWith (desk.Refused why) = 0
+
+abbrev pub taken : stream-answer.Answer → Frame → Taken → Answer
+taken heard header t = record { said = saidWith header (t .said); used = heard .used; log = logWith (t .said); tray = heard .tray; desk = t .desk }
+
+-- the desk is as it was
+abbrev pub untaken : stream-answer.Answer → Said → Desk → Answer
+untaken heard said desk = record { said = said; used = heard .used; log = 0; tray = heard .tray; desk = desk }
+
+-- ---- what the stream said moves the desk on: a frame lies first in the tray
+
+abbrev pub lying : Frame → (bytes : List ℕ) → Event
+lying header bytes = frame header (take (header .length) bytes)
+
+abbrev pub framed : Held → stream-answer.Answer → Frame → (bytes : List ℕ) → Answer
+framed books heard header bytes = record {
+  said = saidOf (toldOf books (lying header bytes));
+  used = heard .used;
+  log = length (entriesOf (toldOf books (lying header bytes)));
+  tray = heard .tray;
+  desk = booksAfter books (lying header bytes) .desk;
+}
+
+abbrev pub movedAnswer : Held → stream-answer.Answer → stream-said.Said → (bytes : List ℕ) → Answer
+movedAnswer books heard (hears.Frame header) bytes = framed books heard header bytes
+movedAnswer books heard (hears.Noise count) bytes = untaken heard (said.Noise count) (books .desk)
+movedAnswer books heard hears.Hungry bytes = untaken heard said.Hungry (books .desk)
+movedAnswer books heard hears.Done bytes = untaken heard said.Done (books .desk)
+movedAnswer books heard (hears.Refused why) bytes = untaken heard (said.Refused why) (books .desk)
+
+abbrev pub movedBooks : Held → stream-said.Said → (bytes : List ℕ) → Held
+movedBooks books (hears.Frame header) bytes = booksAfter books (lying header bytes)
+movedBooks books (hears.Noise count) bytes = books
+movedBooks books hears.Hungry bytes = books
+movedBooks books hears.Done bytes = books
+movedBooks books (hears.Refused why) bytes = books
+
+abbrev pub movedLog : Held → stream-said.Said → (bytes log : List ℕ) → List ℕ
+movedLog books (hears.Frame header) bytes log = written (entriesOf (toldOf books (lying header bytes))) log
+movedLog books (hears.Noise count) bytes log = log
+movedLog books hears.Hungry bytes log = log
+movedLog books hears.Done bytes log = log
+movedLog books (hears.Refused why) bytes log = log
+
+-- the answer and every lent byte are these
+pub record Moves (books : Held) (heard : stream-answer.Answer) (s : stream-said.Said) (bytes log : List ℕ) (r : Answer) (live′ run′ log′ : List ℕ) : Type 0 where
+  pub answer : r ≡ movedAnswer books heard s bytes
+  pub live-is : live′ ≡ movedBooks books s bytes .live
+  pub run-is : run′ ≡ movedBooks books s bytes .run
+  pub log-is : log′ ≡ movedLog books s bytes log
+
+-- a frame that is told was checked, and lies first
+abbrev pub Lies : stream-said.Said → (bytes : List ℕ) → Type 0
+Lies (hears.Frame header) bytes = checked (take (header .length) bytes) ≡ Accepted header
+Lies (hears.Noise count) bytes = Unit {0}
+Lies hears.Hungry bytes = Unit {0}
+Lies hears.Done bytes = Unit {0}
+Lies (hears.Refused why) bytes = Unit {0}

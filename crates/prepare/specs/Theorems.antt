@@ -1,0 +1,114 @@
+-- The theorems of stream and desk together, worded after the demand: "A byte stream cut into portions anywhere, some empty, gives the frames, noise counts,
+-- run log and closing state that document 01 lays down for the uncut stream. Each residual is placed by the area definition in force when its run opened."
+-- They are about the definitions that the contracts of `call` and `finish` cite. The proofs rest on Driving.antt, Placing.antt and the theorems of stream and desk.
+use mathlib.Core.Path.{_≡_, sym, ap, ap₂, _∙_}
+use mathlib.Core.List.{List, [], _∷_, _++_, append-assoc, append-nil, flatten}
+use Prim.Native.Nat.{ℕ, _≤_}
+use native.Mathlib.Omega.{arith}
+use lib.ListN.{length, replicate, length-replicate}
+use Rattle.stream.specs.Scan.{scan}
+use Rattle.stream.specs.Driver as streaming
+use Rattle.stream.specs.Theorems as stream
+use Rattle.desk.specs.Take.{logRoom}
+use Rattle.desk.specs.History.{Held, Snapshot}
+use Rattle.desk.specs.declared.Desk.{Desk}
+use Rattle.desk.specs.declared.Run.the-variants.{Closed}
+use Rattle.desk.specs.declared.NewDesk.the-variants.{Made}
+use Rattle.desk.specs.Desk.{newDesk}
+use Rattle.desk.specs.Theorems.{new-sound}
+use Rattle.book.specs.Book.{bookBytes}
+use Rattle.prepare.specs.Uncut.{Told, toldAll, booksAll, runLog, uncutTold, uncutLog, uncutBooks}
+use Rattle.prepare.specs.Driver.{State, Sound, Feeds, start, Whole}
+use Rattle.prepare.specs.Placed.{placedLog}
+use Rattle.prepare.specs.Placing.{placed}
+use Rattle.prepare.specs.Stays.{new-closed}
+use Rattle.prepare.specs.Driving.{Ready, feeds-so, feeds-ready, closes-so, so-feeds, so-closes, told-append, books-append, log-append}
+
+one : (l : List ℕ) → flatten (l ∷ []) ≡ l
+unfolding flatten
+one l = append-nil l
+
+module _ {bytes : List ℕ} {books : Held} (clear : streaming.Clear bytes) (sound : Sound books) where
+  ready : Ready (start bytes books)
+  ready = record { tray-ready = stream.fresh-sound clear; books-sound = sound }
+
+  -- However a stream is cut into portions, some of them empty: calling on each until hungry and then finishing until done tells the frames, with what the desk
+  -- says of each, and the noise counts of the uncut stream; the run log is the uncut stream's; and so is the closing state: the fresh tray with its bytes as they
+  -- were lent, and the desk with every byte of both books.
+  pub prepared : {portions : List (List ℕ)} → (w : Whole bytes books portions)
+      → (w .before ++ w .after ≡ uncutTold books (flatten portions))
+      × (runLog (w .before ++ w .after) ≡ uncutLog books (flatten portions))
+      × (w .end ≡ start bytes (uncutBooks books (flatten portions)))
+  prepared {portions} w =
+      let f = feeds-so (w .feeds) ready in
+      let g = closes-so (w .closes) (feeds-ready (w .feeds) ready) in
+      let z = stream.stream clear (record { before = f .events; bytes₁ = _; tray₁ = _; feeds = f .feeds; after = g .events; bytes₂ = _; tray₂ = _; closes = g .closes }) in
+      let t : w .before ++ w .after ≡ uncutTold books (flatten portions)
+      = ap₂ (λ a b. a ++ b) (f .told) (g .told ∙ ap (λ d. toldAll d (g .events)) (f .books)) ∙ sym (told-append books (f .events) (g .events))
+      ∙ ap (toldAll books) (z .0) in
+      let d : w .end .books ≡ uncutBooks books (flatten portions)
+      = g .books ∙ ap (λ d. booksAll d (g .events)) (f .books) ∙ sym (books-append books (f .events) (g .events)) ∙ ap (booksAll books) (z .0) in
+      (t, ap runLog t, λ i. record { bytes = z .2 i; tray = z .1 i; books = d i })
+
+  -- And the calls end, whatever the portions are, and whatever log each call is lent.
+  pub prepared-ends : (lends : State → List ℕ) → ((s : State) → logRoom ≤ length (lends s)) → (portions : List (List ℕ)) → Whole bytes books portions
+  prepared-ends lends room portions =
+      let w = stream.stream-ends clear portions in
+      let f = so-feeds lends room (w .feeds) books ready in
+      let g = so-closes lends room (w .closes) (booksAll books (w .before)) (feeds-ready f ready) in
+      record { before = _; between = _; feeds = f; after = _; end = _; closes = g }
+
+  -- Before finish, what is told and the state, every byte of tray and books included, depend on the joined bytes alone.
+  pub cut : {portions portions′ : List (List ℕ)} {ts ts′ : List Told} {s s′ : State}
+      → Feeds (start bytes books) portions ts s → Feeds (start bytes books) portions′ ts′ s′ → flatten portions ≡ flatten portions′
+      → (ts ≡ ts′) × (s ≡ s′)
+  cut f f′ q =
+      let x = feeds-so f ready in
+      let y = feeds-so f′ ready in
+      let z = stream.cut clear (x .feeds) (y .feeds) q in
+      let d = x .books ∙ ap (booksAll books) (z .0) ∙ sym (y .books) in
+      (x .told ∙ ap (toldAll books) (z .0) ∙ sym (y .told), λ i. record { bytes = z .2 i; tray = z .1 i; books = d i })
+
+  -- What is told before finish on a stream is told first on every longer stream that begins with it, and the log told before finish is the beginning of its log:
+  -- before finish ..
+  pub prefix : {portions portions′ : List (List ℕ)} {ts ts′ : List Told} {s s′ : State}
+      → Feeds (start bytes books) portions ts s → Feeds (start bytes books) portions′ ts′ s′
+      → (more : List ℕ) → flatten portions′ ≡ flatten portions ++ more
+      → (rest : List Told) × (ts′ ≡ ts ++ rest) × (runLog ts′ ≡ runLog ts ++ runLog rest)
+  prefix {ts = ts} f f′ more q =
+      let x = feeds-so f ready in
+      let y = feeds-so f′ ready in
+      let z = stream.prefix clear (x .feeds) (y .feeds) more q in
+      let rest = toldAll (booksAll books (x .events)) (z .0) in
+      let e = y .told ∙ ap (toldAll books) (z .1) ∙ told-append books (x .events) (z .0) ∙ ap (λ ts. ts ++ rest) (sym (x .told)) in
+      (rest, e, ap runLog e ∙ log-append ts rest)
+
+  -- .. and of the whole longer stream, uncut.
+  pub prefix-uncut : {portions : List (List ℕ)} {ts : List Told} {s : State} → Feeds (start bytes books) portions ts s → (more : List ℕ)
+      → (rest : List Told) × (uncutTold books (flatten portions ++ more) ≡ ts ++ rest) × (uncutLog books (flatten portions ++ more) ≡ runLog ts ++ runLog rest)
+  prefix-uncut {portions} {ts} f more =
+      let w = prepared-ends (λ _. replicate logRoom 0) (λ _. omega (arith, length-replicate {A = ℕ} logRoom 0)) ((flatten portions ++ more) ∷ []) in
+      let p = prefix f (w .feeds) more (one (flatten portions ++ more)) in
+      let e : uncutTold books (flatten portions ++ more) ≡ ts ++ (p .0 ++ w .after)
+      = ap (uncutTold books) (sym (one (flatten portions ++ more))) ∙ sym (prepared w .0) ∙ ap (λ us. us ++ w .after) (p .1) ∙ append-assoc ts (p .0) (w .after) in
+      (p .0 ++ w .after, e, ap runLog e ∙ log-append ts (p .0 ++ w .after))
+
+  -- Each residual is placed by the area definition in force when its run opened: from a desk without an open run, the run log, however the stream is cut, is the one in
+  -- which each message is told by the live book as it was at the moment when its run opened (`opening` is never asked before a run opens). In it an area is placed
+  -- with the 47 bits that its ID has in that book: `placed-with` of the desk.
+  pub in-force : books .desk .run ≡ Closed → (opening : Snapshot) {portions : List (List ℕ)} (w : Whole bytes books portions)
+      → runLog (w .before ++ w .after) ≡ placedLog books opening (scan (flatten portions))
+  in-force e opening {portions} w = prepared w .1 ∙ placed books sound e opening (scan (flatten portions))
+
+-- A sound state stays sound: so it is before finish, whatever the portions were.
+pub stays-sound : {bytes : List ℕ} {books : Held} → streaming.Clear bytes → Sound books → {portions : List (List ℕ)} {ts : List Told} {s : State}
+    → Feeds (start bytes books) portions ts s → (streaming.Ready (s .bytes) (s .tray)) × Sound (s .books)
+stays-sound clear sound f = let r = feeds-ready f (ready clear sound) in (r .tray-ready, r .books-sound)
+
+-- A fresh desk may start: a new one, with any bytes that have room for its books.
+pub fresh-sound : (solution processor constellation : ℕ) (desk : Desk) → newDesk solution processor constellation ≡ Made desk → (live run : List ℕ)
+    → bookBytes ≤ length live → bookBytes ≤ length run → (Sound (record { desk = desk; live = live; run = run })) × (desk .run ≡ Closed)
+fresh-sound solution processor constellation desk e live run hl hr = (
+  record { live-room = hl; run-room = hr; is-sound = new-sound solution processor constellation desk live run e hl },
+  new-closed solution processor constellation desk e,
+)

@@ -1,0 +1,223 @@
+// Stream and desk together: a portion of bytes in, one event out, and the run log's entries with it (document 01, "The stream", "Book and run").
+ghost use mathlib.Core.Path.{_≡_};
+ghost use mathlib.Core.Bool.{true};
+ghost use Prim.Native.Nat.{_≤_};
+ghost use lib.ListN.{length, take};
+ghost use Rattle.frame.specs.Check.{checked};
+ghost use Rattle.frame.specs.declared.Checked.the-variants.{Accepted};
+ghost use Rattle.desk.specs.Desk.{deskSound};
+ghost use Rattle.prepare.specs.Prepare.{noRoom, numberOfSaid, booksIn, callAnswer, callBytes, callLive, callRun, callLog, finishAnswer, finishBytes, finishLive, finishRun, finishLog};
+ghost use Rattle.prepare.specs.Moves.{taken, untaken, Moves, Lies};
+ghost use Rattle.prepare.specs.declared.Said.the-variants as said;
+ghost use Rattle.stream.specs.declared.Said.the-variants as hears;
+use answer::Refusal;
+use desk::Desk;
+use frame::Frame;
+use stream::Tray;
+
+// The tray's room, a book's, and the log's.
+const TRAY: usize = 1103;
+
+const BOOK: usize = 192;
+
+const LOG: usize = 4096;
+
+// What a call says: a frame that the desk took, or refused with its reason, which lies first in the tray; a count of noise; all input is used; all is
+// told; or a refusal of the call.
+pub enum Said {
+    Accepted(Frame),
+    FrameRefused { header: Frame, why: Refusal },
+    Noise(u32),
+    Hungry,
+    Done,
+    Refused(Refusal),
+}
+
+// What is said, how many bytes of the input were used and of the log written, and the tray and the desk as they are now.
+pub struct Answer {
+    pub said: Said,
+    pub used: usize,
+    pub log: usize,
+    pub tray: Tray,
+    pub desk: Desk,
+}
+
+// The number in document 01 of what was said.
+pub fn number(said: Said) -> u8
+    ensures { λ r. ⌜ r ≡ numberOfSaid said ⌝ }
+{
+    match said {
+        Said::Accepted(_) => 0,
+        Said::FrameRefused { header: _, why } => answer::number(why),
+        Said::Noise(_) => 0,
+        Said::Hungry => 0,
+        Said::Done => 0,
+        Said::Refused(why) => answer::number(why),
+    }
+}
+
+// Any lent buffer is under its stated size.
+fn lacks_room(bytes: &[u8], live: &[u8], run: &[u8], log: &[u8]) -> bool
+    ensures { λ r. ⌜ r ≡ noRoom (now (bytes .entry)) (now (live .entry)) (now (run .entry)) (now (log .entry)) ⌝ }
+{
+    if bytes.len() < TRAY {
+        return true;
+    }
+    if live.len() < BOOK {
+        return true;
+    }
+    if run.len() < BOOK {
+        return true;
+    }
+    log.len() < LOG
+}
+
+// A refusal of the call: the old states, nothing used and nothing written.
+fn refused(tray: Tray, desk: Desk, why: Refusal) -> Answer
+    ensures { λ r. ⌜ r ≡ record { said = said.Refused why; used = 0; log = 0; tray = tray; desk = desk } ⌝ }
+{
+    Answer {
+        said: Said::Refused(why),
+        used: 0,
+        log: 0,
+        tray: tray,
+        desk: desk,
+    }
+}
+
+// What is no frame does not reach the desk.
+fn beside(heard: stream::Answer, said: Said, desk: Desk) -> Answer
+    ensures { λ r. ⌜ r ≡ untaken heard said desk ⌝ }
+{
+    let tray = heard.tray;
+    Answer {
+        said: said,
+        used: heard.used,
+        log: 0,
+        tray: tray,
+        desk: desk,
+    }
+}
+
+// What the desk said of a frame is an event of the call.
+fn answered(heard: stream::Answer, header: Frame, given: desk::Taken) -> Answer
+    ensures { λ r. ⌜ r ≡ taken heard header given ⌝ }
+{
+    let tray = heard.tray;
+    let desk = given.desk;
+    let said = given.said;
+    match said {
+        desk::Said::Accepted { log } => Answer {
+            said: Said::Accepted(header),
+            used: heard.used,
+            log: log,
+            tray: tray,
+            desk: desk,
+        },
+        desk::Said::Refused(why) => Answer {
+            said: Said::FrameRefused {
+                header: header,
+                why: why,
+            },
+            used: heard.used,
+            log: 0,
+            tray: tray,
+            desk: desk,
+        },
+    }
+}
+
+// A frame event goes to the desk. The frame lies first in the tray and was checked there, so it is not checked again.
+fn give(
+    heard: stream::Answer,
+    header: Frame,
+    bytes: &[u8],
+    desk: Desk,
+    live: &mut [u8],
+    run: &mut [u8],
+    log: &mut [u8],
+) -> Answer
+    requires { ⌜ (deskSound desk (now live) (now run) ≡ true) × (192 ≤ length (now live)) × (192 ≤ length (now run)) × (4096 ≤ length (now log)) ⌝ }
+    requires { ⌜ checked (take (header .length) (now bytes)) ≡ Accepted header ⌝ }
+    ensures { λ r. ⌜ Moves (booksIn desk (now (live .entry)) (now (run .entry))) heard (hears.Frame header) (now (bytes .entry)) (now (log .entry)) r (now (live .exit)) (now (run .exit)) (now (log .exit)) ⌝ }
+{
+    let length = header.length;
+    let payload = frame::payload_in(&bytes[..length], header);
+    let given = desk::take_header(desk, header, payload, live, run, log);
+    answered(heard, header, given)
+}
+
+// What the stream says moves the desk on.
+fn step(
+    heard: stream::Answer,
+    bytes: &[u8],
+    desk: Desk,
+    live: &mut [u8],
+    run: &mut [u8],
+    log: &mut [u8],
+) -> Answer
+    requires { ⌜ (deskSound desk (now live) (now run) ≡ true) × (192 ≤ length (now live)) × (192 ≤ length (now run)) × (4096 ≤ length (now log)) ⌝ }
+    requires { ⌜ Lies (heard .said) (now bytes) ⌝ }
+    ensures { λ r. ⌜ Moves (booksIn desk (now (live .entry)) (now (run .entry))) heard (heard .said) (now (bytes .entry)) (now (log .entry)) r (now (live .exit)) (now (run .exit)) (now (log .exit)) ⌝ }
+{
+    let said = heard.said;
+    match said {
+        stream::Said::Frame(header) => give(heard, header, bytes, desk, live, run, log),
+        stream::Said::Noise(count) => beside(heard, Said::Noise(count), desk),
+        stream::Said::Hungry => beside(heard, Said::Hungry, desk),
+        stream::Said::Done => beside(heard, Said::Done, desk),
+        stream::Said::Refused(why) => beside(heard, Said::Refused(why), desk),
+    }
+}
+
+// Takes a portion and moves stream and desk one event on. Where the tray is not sound the stream refuses with the same number as the desk would, so
+// neither is tested twice.
+pub fn call(
+    bytes: &mut [u8],
+    tray: Tray,
+    desk: Desk,
+    live: &mut [u8],
+    run: &mut [u8],
+    log: &mut [u8],
+    input: &[u8],
+) -> Answer
+    ensures { λ r. ⌜ r ≡ callAnswer (now (bytes .entry)) tray desk (now (live .entry)) (now (run .entry)) (now (log .entry)) (now (input .entry)) ⌝ }
+    ensures { λ _. ⌜ now (bytes .exit) ≡ callBytes (now (bytes .entry)) tray desk (now (live .entry)) (now (run .entry)) (now (log .entry)) (now (input .entry)) ⌝ }
+    ensures { λ _. ⌜ now (live .exit) ≡ callLive (now (bytes .entry)) tray desk (now (live .entry)) (now (run .entry)) (now (log .entry)) (now (input .entry)) ⌝ }
+    ensures { λ _. ⌜ now (run .exit) ≡ callRun (now (bytes .entry)) tray desk (now (live .entry)) (now (run .entry)) (now (log .entry)) (now (input .entry)) ⌝ }
+    ensures { λ _. ⌜ now (log .exit) ≡ callLog (now (bytes .entry)) tray desk (now (live .entry)) (now (run .entry)) (now (log .entry)) (now (input .entry)) ⌝ }
+{
+    if lacks_room(bytes, live, run, log) {
+        return refused(tray, desk, Refusal::Room);
+    }
+    if !desk::is_sound(desk, live, run) {
+        return refused(tray, desk, Refusal::State);
+    }
+    let heard = stream::call(bytes, tray, input);
+    step(heard, bytes, desk, live, run, log)
+}
+
+// The same at the stream's end: called until it says done.
+pub fn finish(
+    bytes: &mut [u8],
+    tray: Tray,
+    desk: Desk,
+    live: &mut [u8],
+    run: &mut [u8],
+    log: &mut [u8],
+) -> Answer
+    ensures { λ r. ⌜ r ≡ finishAnswer (now (bytes .entry)) tray desk (now (live .entry)) (now (run .entry)) (now (log .entry)) ⌝ }
+    ensures { λ _. ⌜ now (bytes .exit) ≡ finishBytes (now (bytes .entry)) tray desk (now (live .entry)) (now (run .entry)) (now (log .entry)) ⌝ }
+    ensures { λ _. ⌜ now (live .exit) ≡ finishLive (now (bytes .entry)) tray desk (now (live .entry)) (now (run .entry)) (now (log .entry)) ⌝ }
+    ensures { λ _. ⌜ now (run .exit) ≡ finishRun (now (bytes .entry)) tray desk (now (live .entry)) (now (run .entry)) (now (log .entry)) ⌝ }
+    ensures { λ _. ⌜ now (log .exit) ≡ finishLog (now (bytes .entry)) tray desk (now (live .entry)) (now (run .entry)) (now (log .entry)) ⌝ }
+{
+    if lacks_room(bytes, live, run, log) {
+        return refused(tray, desk, Refusal::Room);
+    }
+    if !desk::is_sound(desk, live, run) {
+        return refused(tray, desk, Refusal::State);
+    }
+    let heard = stream::finish(bytes, tray);
+    step(heard, bytes, desk, live, run, log)
+}
