@@ -6,8 +6,8 @@ use mathlib.Core.Bool.{Bool, true, false, cond, not, _&&_, true≢false}
 use Prim.Native.Nat.{ℕ, zero, suc, _+_, _-_, _*_, _^_, _≤_, _<_}
 use native.Mathlib.Omega.{arith}
 use lib.Dec.{leb, ltb, eqb}
-use lib.ListN.{length, getD, take, drop, length-append, length-drop, List·getD-append}
-use lib.Seq.{take-append-le, drop-append-le}
+use lib.ListN.{length, getD, take, drop, length-append, length-drop, take-append-drop, List·getD-append}
+use lib.Seq.{take-append-le, drop-append-le, length-take-le}
 use borrow.Author.Tests.{lt-ltb, le-ltb, le-leb, ltb-true, ltb-false, eqb-true, eqb-false, eq-eqb, ne-eqb, not-true, not-false}
 use Rattle.answer.specs.declared.Refusal.{Refusal}
 use Rattle.answer.specs.declared.Refusal.the-variants.{Preamble, FrameCrc, Length, MessageCrc}
@@ -339,3 +339,48 @@ payload-there s f e =
     let n : f .«payload_at» ≡ payloadAt s = ap (λ (x : Frame). x .«payload_at») (a .is) in
     let m : f .«payload_length» ≡ tf003 s = ap (λ (x : Frame). x .«payload_length») (a .is) in
     rw (e, le-leb (f .«payload_at» + f .«payload_length») (length s) (omega (arith, a .there, n, m)))
+
+-- ---- "Bytes after the frame are not looked at": an accepted frame's own bytes are that frame
+
+-- no more than k bytes are wanted
+data Wanted (k : ℕ) : Checked → Type 0 where
+  so-many : {n : ℕ} → n ≤ k → Wanted k (Short n)
+  not-accepted : {r : Refusal} → Wanted k (Refused r)
+  all-there : {f : Frame} → Wanted k (Accepted f)
+
+wanted-want : (k n : ℕ) (s : List ℕ) (v : Checked) → n ≤ k → (n ≤ length s → Wanted k v) → Wanted k (want n s v)
+wanted-want k n s v l h = go (ltb (length s) n) refl
+  where
+    go : (b : Bool) → ltb (length s) n ≡ b → Wanted k (stop b (Short n) v)
+    go true q = so-many l
+    go false q = h (ltb-false (length s) n q)
+
+wanted-stop : (k : ℕ) (a : Bool) (r : Refusal) (v : Checked) → (a ≡ false → Wanted k v) → Wanted k (stop a (Refused r) v)
+wanted-stop k true r v h = not-accepted
+wanted-stop k false r v h = h refl
+
+wanted : (s t : List ℕ) → Wanted (frameBytes (s ++ t)) (checked s)
+unfolding checked
+wanted s t =
+    wanted-want (frameBytes (s ++ t)) 1 s _ (omega arith) (λ a.
+    wanted-stop (frameBytes (s ++ t)) (not (eqb (getD s 0 0) preamble)) Preamble _ (λ _.
+    wanted-want (frameBytes (s ++ t)) 4 s _ (omega arith) (λ b.
+    wanted-stop (frameBytes (s ++ t)) (badFrameCrc s) FrameCrc _ (λ _.
+    wanted-stop (frameBytes (s ++ t)) (eqb (tf003 s) 0) Length _ (λ _.
+    wanted-want (frameBytes (s ++ t)) (payloadAt s) s _ (omega (arith, payloadAt-more s t b)) (λ d.
+    wanted-stop (frameBytes (s ++ t)) (authenticated s && ltb 4 (tf015 s)) Length _ (λ _.
+    wanted-want (frameBytes (s ++ t)) (frameBytes s) s _ (omega (arith, frameBytes-same s t b d)) (λ w.
+    wanted-stop (frameBytes (s ++ t)) (badMessageCrc s) MessageCrc _ (λ _. all-there)))))))))
+
+pub own-bytes : (s : List ℕ) (f : Frame) → checked s ≡ Accepted f → checked (take (f .length) s) ≡ Accepted f
+unfolding frameOf
+own-bytes s f e =
+    let n : f .length ≡ frameBytes s = ap (λ (x : Frame). x .length) (accepted s f e .is) in
+    let l : length (take (f .length) s) ≡ f .length = length-take-le (f .length) s (accepted-length s f e .1) in
+    let j : take (f .length) s ++ drop (f .length) s ≡ s = take-append-drop (f .length) s in
+    go (take (f .length) s) (drop (f .length) s) (checked (take (f .length) s)) _ (keeps (take (f .length) s) (drop (f .length) s)) refl (ap checked j ∙ e)
+    (omega (arith, ap frameBytes j)) (wanted (take (f .length) s) (drop (f .length) s))
+  where
+    go : (u v : List ℕ) (c w : Checked) → Keeps c w → checked u ≡ c → w ≡ Accepted f → frameBytes (u ++ v) ≡ length u → Wanted (frameBytes (u ++ v)) c → c ≡ Accepted f
+    go u v c w kept q e k h = e
+    go u v c w (unknown {n}) q e k (so-many l) = absurd (omega (arith, short-wants u n q))

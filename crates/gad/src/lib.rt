@@ -1,6 +1,9 @@
 // GAD, 2-0: tables 6.23 and 6.24. A state carries the codes of the block that were read.
 ghost use mathlib.Core.Path.{_≡_};
 ghost use Rattle.gad.specs.Machine.{gadField, gadStep, blocksFrom};
+
+pub mod row;
+
 use layout::Field;
 use layout::up_to;
 

@@ -3,7 +3,9 @@
 ghost use mathlib.Core.Path.{_≡_};
 ghost use Rattle.hpac.specs.Machine.{hpacField, hpacStep, areasFrom, areaEnd, troposphereFrom, tSlopesFrom, tProductFrom, tGridFrom, tResidualsFrom, ionosphereFrom, slantsFrom, slantEnd, slopesFrom, productFrom, gridFrom, residualsFrom};
 
+pub mod after;
 mod fields;
+pub mod row;
 
 use codes::Constellation;
 use codes::satellites::satellite_count;

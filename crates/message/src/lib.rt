@@ -1,6 +1,9 @@
 // The twelve payloads of document 01 as one machine: which field is next, and where a code leads.
 ghost use mathlib.Core.Path.{_≡_};
 ghost use Rattle.message.specs.Machine.{fieldOf, stepOf, startOf, constellationFor, ocbStart, hpacStart, gadStart, bpacStart};
+
+pub mod row;
+
 use codes::Constellation;
 use layout::Field;
 

@@ -3,3 +3,4 @@ pub mod Ocb
 pub mod Machine
 pub mod Examples
 pub mod Determined
+pub mod Rows

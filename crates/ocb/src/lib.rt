@@ -4,6 +4,8 @@ ghost use Prim.Native.Nat.{_/_, _%_};
 ghost use Rattle.codes.specs.Fields.{steps, yawField};
 ghost use Rattle.ocb.specs.Machine.{ocbField, ocbStep, satellitesFrom, satelliteEnd, orbitFrom, yawFrom, clockFrom, biasFrom, phasesFrom, codesFrom};
 
+pub mod after;
+pub mod row;
 mod tables;
 
 use answer::Refusal;

@@ -1,2 +1,4 @@
 pub mod Reading
 pub mod Writing
+pub mod ReadingRows
+pub mod WritingRows

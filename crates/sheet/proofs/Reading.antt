@@ -5,9 +5,10 @@ use mathlib.Core.List.{List, [], _∷_, _++_}
 use Prim.Native.Nat.{ℕ, _+_, _-_, _*_, _≤_, _<_}
 use native.Mathlib.Omega.{arith}
 use native.Mathlib.Nat.{zero-add}
+use native.Mathlib.Numerals.{add-one}
 use lib.Dec.{ltb}
-use lib.ListN.{length, take, drop, set, length-drop, length-set}
-use lib.Seq.{sets, sets-eq, drop-drop}
+use lib.ListN.{length, take, drop, set, getD, length-drop, length-set, drop-of-length-le}
+use lib.Seq.{sets, sets-eq, drop-drop, drop-cons, take-at}
 use borrow.Author.Tests.{lt-ltb, le-ltb, eq-eqb, ne-eqb}
 use Rattle.answer.specs.declared.Refusal.{Refusal}
 use Rattle.answer.specs.declared.Refusal.the-variants as refusal
@@ -27,7 +28,7 @@ use Rattle.message.specs.Machine.{fieldOf, stepOf, startOf, Starts, known, unkn
 use Rattle.message.specs.Messages.{Message, layoutFor}
 use Rattle.sheet.specs.Sheet.{entryRoom, byteRoom, badLength, judging, judged, reading, readAnswerBy, sheetBy, readAnswer, sheetAfter}
 use Rattle.sheet.specs.Laws.{judging-with, reading-with}
-use Rattle.sheet.specs.Passes.{ForLayout, endedBy, entriesOf, ReadPass, entriesRead, ReadJudged, ReadWhole}
+use Rattle.sheet.specs.Passes.{ForLayout, endedBy, entriesOf, ReadPass, entriesRead, ReadJudged, Aside, codes, nothing, ReadKept, ReadWhole}
 use Rattle.sheet.specs.declared.ReadAnswer.{ReadAnswer}
 use Rattle.sheet.specs.declared.ReadAnswer.the-variants as reader
 use Rattle.sheet.specs.declared.Pass.{Pass}
@@ -130,39 +131,49 @@ module _ {payload sheet₀ : List ℕ} {total : ℕ} {s₀ : State} {sheet : Lis
 
 -- ---- both passes
 
--- a list of no elements, as the part that the first pass is lent
-pub nothing : (l : List ℕ) → length l ≡ 0 → l ≡ []
-nothing [] h = refl
-nothing (x ∷ l) h = absurd (omega arith)
+-- what a pass says is the answer
+judged-fault : (o : Outcome Message) (why : Refusal) (aside : List ℕ) → stopped why ≡ endedOf o 0 0 aside → reader.Refused why ≡ readAnswerBy o
+judged-fault (accepted v cs n) why aside e = let z : _≡_ {A = ℕ} 0 1 = cc in absurd (omega arith)
+judged-fault (refused why') why aside e = cc
 
--- what a first pass says is the answer
-judged-fault : (o : Outcome Message) (why : Refusal) → stopped why ≡ endedOf o 0 0 [] → reader.Refused why ≡ readAnswerBy o
-judged-fault (accepted v cs n) why e = let z : _≡_ {A = ℕ} 0 1 = cc in absurd (omega arith)
-judged-fault (refused why') why e = cc
-
-judged-whole : (o : Outcome Message) (entries bits : ℕ) (none : List ℕ) → finished entries bits none ≡ endedOf o 0 0 [] → reader.Read bits entries ≡ readAnswerBy o
-judged-whole (accepted v cs n) entries bits none e =
+judged-whole : (o : Outcome Message) (entries bits : ℕ) (aside aside' : List ℕ) → finished entries bits aside' ≡ endedOf o 0 0 aside → reader.Read bits entries ≡ readAnswerBy o
+judged-whole (accepted v cs n) entries bits aside aside' e =
     let a : entries ≡ 0 + length cs = cc in
     let b : bits ≡ 0 + n = cc in
     ap₂ (λ x y. reader.Read x y) (b ∙ zero-add n) (a ∙ zero-add (length cs))
-judged-whole (refused why) entries bits none e = let z : _≡_ {A = ℕ} 0 1 = cc in absurd (omega arith)
+judged-whole (refused why) entries bits aside aside' e = let z : _≡_ {A = ℕ} 0 1 = cc in absurd (omega arith)
 
-module _ {payload : List ℕ} {start : State} (dry : Pass) (none : List ℕ) (p : ReadPass payload [] start dry none) where
-  pub judge-fault : (why : Refusal) → dry ≡ Fault why → ReadJudged payload start (reader.Refused why)
-  judge-fault why e =
+aside-by : (o : Outcome Message) (pass : Pass) (aside aside' : List ℕ) → endedBy pass aside' ≡ endedOf o 0 0 aside → Aside aside aside' o
+aside-by (accepted v cs n) (Whole entries bits) aside aside' e = let c : aside' ≡ sets aside 0 cs = cc in codes c
+aside-by (accepted v cs n) (Fault why) aside aside' e = let z : _≡_ {A = ℕ} 0 1 = cc in absurd (omega arith)
+aside-by (refused why) pass aside aside' e = nothing
+
+module _ {payload aside : List ℕ} {start : State} (dry : Pass) (aside' : List ℕ) (p : ReadPass payload aside start dry aside') where
+  come : (l : Layout Message) → Walks fieldOf stepOf start l → endedBy dry aside' ≡ endedOf (readL l (toBits payload)) 0 0 aside
+  come l w = p .ends l w ∙ run-reads l (toBits payload) 0 0 aside
+
+  pub keep-fault : (why : Refusal) → dry ≡ Fault why → ReadKept payload aside start (reader.Refused why) aside'
+  keep-fault why e =
       record {
-        answers = λ l w. judged-fault (readL l (toBits payload)) why (ap (λ x. endedBy x none) (sym e) ∙ p .ends l w ∙ run-reads l (toBits payload) 0 0 []);
-        few = omega arith;
+        judged = record { answers = λ l w. judged-fault (readL l (toBits payload)) why aside (ap (λ x. endedBy x aside') (sym e) ∙ come l w); few = omega arith };
+        keeps = λ l w. aside-by (readL l (toBits payload)) dry aside aside' (come l w);
       }
 
-  pub judge-whole : (entries bits : ℕ) → dry ≡ Whole entries bits → ReadJudged payload start (reader.Read bits entries)
-  judge-whole entries bits e =
+  pub keep-whole : (entries bits : ℕ) → dry ≡ Whole entries bits → ReadKept payload aside start (reader.Read bits entries) aside'
+  keep-whole entries bits e =
       record {
-        answers = λ l w. judged-whole (readL l (toBits payload)) entries bits none (ap (λ x. endedBy x none) (sym e) ∙ p .ends l w ∙ run-reads l (toBits payload) 0 0 []);
-        few = subst (λ x. entriesOf x ≤ 8 * length payload) e (p .few);
+        judged = record {
+          answers = λ l w. judged-whole (readL l (toBits payload)) entries bits aside aside' (ap (λ x. endedBy x aside') (sym e) ∙ come l w);
+          few = subst (λ x. entriesOf x ≤ 8 * length payload) e (p .few);
+        };
+        keeps = λ l w. aside-by (readL l (toBits payload)) dry aside aside' (come l w);
       }
 
--- a refusal leaves the sheet, and a second pass stores the codes
+pub kept-judged : {payload aside : List ℕ} {start : State} {answer : ReadAnswer} {aside' : List ℕ} → ReadKept payload aside start answer aside'
+    → ReadJudged payload start answer
+kept-judged k = k .judged
+
+-- a refusal leaves the sheet; the codes kept aside are copied, or a second pass stores them
 refused-leaves : (o : Outcome Message) (why : Refusal) (sheet : List ℕ) → reader.Refused why ≡ readAnswerBy o → sheet ≡ sheetBy o sheet
 refused-leaves (accepted v cs n) why sheet e = let z : _≡_ {A = ℕ} 0 1 = cc in absurd (omega arith)
 refused-leaves (refused why') why sheet e = refl
@@ -175,6 +186,15 @@ stored-leaves (accepted v cs n) entries bits (Whole entries' bits') sheet sheet'
     c ∙ sets-eq cs sheet 0 (omega arith) ∙ simp zero-add
 stored-leaves (accepted v cs n) entries bits (Fault why) sheet sheet' h p q = let z : _≡_ {A = ℕ} 0 1 = cc in absurd (omega arith)
 stored-leaves (refused why) entries bits pass sheet sheet' h p q = let z : _≡_ {A = ℕ} 0 1 = cc in absurd (omega arith)
+
+copied-leaves : (o : Outcome Message) (entries bits : ℕ) (aside aside' sheet : List ℕ) → entries ≤ length aside → entries ≤ length sheet
+    → reader.Read bits entries ≡ readAnswerBy o → Aside aside aside' o → sets sheet 0 (take entries aside') ≡ sheetBy o sheet
+copied-leaves (accepted v cs n) entries bits aside aside' sheet h k p (codes c) =
+    let a : entries ≡ length cs = cc in
+    let d : aside' ≡ cs ++ drop (length cs) aside = c ∙ sets-eq cs aside 0 (omega arith) ∙ simp zero-add in
+    let t : take entries aside' ≡ cs = ap (take entries) d ∙ take-at cs (drop (length cs) aside) entries (sym a) in
+    ap (sets sheet 0) t ∙ sets-eq cs sheet 0 (omega arith) ∙ simp zero-add
+copied-leaves (refused why) entries bits aside aside' sheet h k p nothing = let z : _≡_ {A = ℕ} 0 1 = cc in absurd (omega arith)
 
 module _ {payload sheet : List ℕ} {start : State} (judged : ReadAnswer) (p : ReadJudged payload start judged) where
   pub whole-refused : (why : Refusal) → judged ≡ reader.Refused why → ReadWhole payload sheet start (reader.Refused why) sheet
@@ -194,6 +214,41 @@ module _ {payload sheet : List ℕ} {start : State} (judged : ReadAnswer) (p : R
             λ l w. stored-leaves (readL l (toBits payload)) entries bits pass sheet sheet' (omega arith) (sym e ∙ p .answers l w)
             (q .ends l w ∙ run-reads l (toBits payload) 0 0 sheet);
       }
+
+pub whole-copied : {payload aside sheet : List ℕ} {start : State} (answer : ReadAnswer) (aside' sheet' : List ℕ) (bits entries : ℕ)
+    → ReadKept payload aside start answer aside' → length payload ≤ byteRoom → entryRoom ≤ length sheet → answer ≡ reader.Read bits entries
+    → entries ≤ length aside' → length aside' ≡ length aside → sheet' ≡ sets sheet 0 (take entries aside')
+    → ReadWhole payload sheet start (reader.Read bits entries) sheet'
+whole-copied {payload} {aside} {sheet} answer aside' sheet' bits entries p short room e h same c =
+    let m : entries ≤ 8 * length payload = subst (λ x. entriesRead x ≤ 8 * length payload) e (p .judged .few) in
+    record {
+      answers = λ l w. sym e ∙ p .judged .answers l w;
+      leaves = λ l w. c
+          ∙ copied-leaves (readL l (toBits payload)) entries bits aside aside' sheet (omega arith) (omega arith) (sym e ∙ p .judged .answers l w) (p .keeps l w);
+    }
+
+-- ---- codes copied one by one
+
+-- at the loop's head: what is left is stored from here as all was to be from the start
+pub record Copying (from to₀ to : List ℕ) (i : ℕ) : Type 0 where
+  pub inside : i ≤ length from
+  pub same : length to ≡ length to₀
+  pub on : sets to i (drop i from) ≡ sets to₀ 0 from
+
+pub copy-first : (from to : List ℕ) → Copying from to to 0
+copy-first from to = record { inside = omega arith; same = refl; on = refl }
+
+module _ {from to₀ to : List ℕ} {i : ℕ} (t : Copying from to₀ to i) where
+  pub copy-more : (to' : List ℕ) → i < length from → to' ≡ set to i (getD from i 0) → Copying from to₀ to' (i + 1)
+  copy-more to' h e =
+      record {
+        inside = omega arith;
+        same = ap length e ∙ length-set to i (getD from i 0) ∙ t .same;
+        on = rw (e, add-one i) (ap (sets to i) (sym (drop-cons from i 0 h))) ∙ t .on;
+      }
+
+  pub copy-done : length from ≤ i → to ≡ sets to₀ 0 from
+  copy-done h = ap (sets to i) (sym (drop-of-length-le from {i = i} h)) ∙ t .on
 
 -- ---- the calls' tests, in their order
 

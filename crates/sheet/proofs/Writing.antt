@@ -6,13 +6,13 @@ use Prim.Native.Nat.{ℕ, _+_, _-_, _*_, _^_, _≤_, _<_}
 use native.Mathlib.Omega.{arith}
 use native.Mathlib.Nat.{zero-add}
 use lib.Dec.{ltb}
-use lib.ListN.{length, take, drop, getD}
-use lib.Seq.{sets, sets-eq, drop-drop, take-at, drop-append-add}
+use lib.ListN.{length, take, drop, getD, length-append}
+use lib.Seq.{sets, sets-eq, drop-drop, take-at, drop-append-add, length-take-le, take-length}
 use borrow.Author.Tests.{lt-ltb, le-ltb, ltb-true, ltb-false, ne-eqb}
 use Rattle.answer.specs.declared.Refusal.{Refusal}
 use Rattle.answer.specs.declared.Refusal.the-variants as refusal
 use Rattle.bits.specs.Bits.{toBits, bitsOf, leaves}
-use Rattle.bits.specs.Laws.{leaves-there, length-toBits, length-bitsOf}
+use Rattle.bits.specs.Laws.{leaves-there, length-toBits, length-bitsOf, toBits-append, toBits-take, toBits-drop}
 use Rattle.layout.specs.declared.Field.{Field}
 use Rattle.layout.specs.declared.Verdict.{Verdict}
 use Rattle.layout.specs.declared.Verdict.the-variants as verdict
@@ -20,56 +20,28 @@ use Rattle.layout.specs.Layout.{Layout, pick, judge, Written, written, unwritte
 use Rattle.layout.specs.Run.{finished, stopped, On}
 use Rattle.layout.specs.Put.{putL, endedW, put-writes, put-done, put-over, put-short, put-fault, put-on}
 use Rattle.layout.specs.Walks.{Walks}
+use Rattle.rows.specs.Puts.{onward, Counted, Kept, kept-first, kept-on}
 use Rattle.message.specs.declared.State.{State}
 use Rattle.message.specs.declared.Start.{Start}
 use Rattle.message.specs.declared.Start.the-variants.{Known, Unknown}
 use Rattle.message.specs.Machine.{fieldOf, stepOf, startOf}
 use Rattle.message.specs.Messages.{Message}
-use Rattle.sheet.specs.Sheet.{byteRoom, badLength, bytesFor, thenLength, judgingSheet, judgedSheet, writing, writeAnswerBy, outBy, writeAnswer, outAfter}
+use Rattle.sheet.specs.Sheet.{byteRoom, badLength, bytesFor, fillFor, thenLength, judgingSheet, judgedSheet, writing, writeAnswerBy, outBy, writeAnswer, outAfter}
 use Rattle.sheet.specs.Laws.{good-some, judging-sheet-with, writing-with}
-use Rattle.sheet.specs.Passes.{ForLayout, onward, Counted, PutBy, whole, fault, bitsOfPass, WritePass, bitsWritten, bytesWritten, SheetJudged, WriteWhole}
+use Rattle.sheet.specs.Passes.{ForLayout, PutBy, whole, fault, bitsOfPass, WritePass, bitsWritten, bytesWritten, SheetJudged, AsideBits, text, nothing, SheetKept, WriteWhole}
 use Rattle.sheet.specs.declared.WriteAnswer.{WriteAnswer}
 use Rattle.sheet.specs.declared.WriteAnswer.the-variants as writer
 use Rattle.sheet.specs.declared.Pass.{Pass}
 use Rattle.sheet.specs.declared.Pass.the-variants.{Whole, Fault}
-use Rattle.sheet.proofs.Reading.{walks-word, nothing, started, not-started}
-
--- ---- the count of bits
-
-pub onward-over : (count width : ℕ) → 8 * byteRoom < count → (count ≡ onward count width) × (count < 2 ^ 33 → count < 2 ^ 33)
-onward-over count width h = (rw (lt-ltb (8 * byteRoom) count h), λ k. k)
-
-pub onward-more : (count width : ℕ) → count ≤ 8 * byteRoom → width < 2 ^ 32 → (count + width ≡ onward count width) × (count < 2 ^ 33 → count + width < 2 ^ 33)
-onward-more count width h k = (rw (le-ltb (8 * byteRoom) count h), λ _. omega arith)
-
-counted-on : {count bits : ℕ} (width count' : ℕ) → Counted count bits → count' ≡ onward count width → Counted count' (bits + width)
-counted-on {count} {bits} width count' c e = go (ltb (8 * byteRoom) count) (ltb (8 * byteRoom) bits) refl refl e
-  where
-    go : (x y : Bool) → ltb (8 * byteRoom) count ≡ x → ltb (8 * byteRoom) bits ≡ y → count' ≡ pick x count (count + width) → Counted count' (bits + width)
-    go true true p q e =
-        let a = ltb-true (8 * byteRoom) count p in
-        let b = ltb-true (8 * byteRoom) bits q in
-        record { exact = λ h. absurd (omega arith); over = λ h. omega arith }
-    go true false p q e =
-        let a = ltb-true (8 * byteRoom) count p in
-        let b = c .exact (ltb-false (8 * byteRoom) bits q) in
-        absurd (omega (arith, ltb-false (8 * byteRoom) bits q))
-    go false true p q e =
-        let a = ltb-false (8 * byteRoom) count p in
-        let b = c .over (ltb-true (8 * byteRoom) bits q) in
-        absurd (omega arith)
-    go false false p q e =
-        let b = c .exact (ltb-false (8 * byteRoom) bits q) in
-        record { exact = λ h. omega arith; over = λ h. omega arith }
+use Rattle.sheet.proofs.Reading.{walks-word, started, not-started}
 
 -- ---- a pass
 
--- For one layout: the bits written so far and those that stand in `out` by a store that goes on past its end; where all fit, they do stand there.
+-- for one layout: the bits written so far
 pub record Putting (sheet out₀ : List ℕ) (l : Layout Message) (out : List ℕ) (s : State) (pos at : ℕ) : Type 0 where
   pub place : ℕ
   pub bits : List ℕ
-  pub count : Counted pos place
-  pub stored : place ≤ 8 * byteRoom → place ≤ 8 * length out₀ → toBits out ≡ bits
+  pub kept : Kept place bits pos out
   pub on : On fieldOf stepOf s (putL l sheet 0 0 (toBits out₀)) (λ (next : Layout Message). putL next (drop at sheet) place at bits)
 
 -- at the loop's head: the rest of the sheet is written from here as the whole was to be from the start
@@ -88,13 +60,12 @@ turn-first sheet out s =
       on = λ l w. record {
         place = 0;
         bits = toBits out;
-        count = record { exact = λ h. refl; over = λ h. h };
-        stored = λ h k. refl;
+        kept = kept-first out;
         on = record { left = l; walks = w; same = refl };
       };
     }
 
-ended-fault : (o : Written) (n : ℕ) (why : Refusal) (out out' : List ℕ) → endedW o n 0 0 (toBits out) ≡ stopped why → PutBy out out' o (Fault why)
+pub ended-fault : (o : Written) (n : ℕ) (why : Refusal) (out out' : List ℕ) → endedW o n 0 0 (toBits out) ≡ stopped why → PutBy out out' o (Fault why)
 ended-fault (written bs) n why out out' e = let z : _≡_ {A = ℕ} 0 1 = cc in absurd (omega arith)
 ended-fault (unwritten why') n why out out' e = let q : why' ≡ why = cc in subst (λ x. PutBy out out' (unwritten x) (Fault why)) (sym q) fault
 
@@ -133,7 +104,7 @@ module _ {sheet out₀ : List ℕ} {s₀ : State} {out : List ℕ} {s : State} {
             ended-whole (writeL l sheet) (length sheet) at pos (o .place) (o .bits) out₀ out
             (sym (put-writes l sheet 0 0 (toBits out₀)) ∙ o .on .same
             ∙ put-done sheet (o .place) at (o .bits) (o .on .walks) (width-is ∙ z) (omega (arith, t .inside)))
-            (o .count) (o .stored);
+            (o .kept .count) (λ a b. o .kept .stored a (omega (arith, t .same)));
         small = t .small;
       }
 
@@ -154,17 +125,6 @@ module _ {sheet out₀ : List ℕ} {s₀ : State} {out : List ℕ} {s : State} {
         let d : fieldOf s .width ≡ f .width = width-is in
         stops why (λ place bits l w. put-fault sheet place at bits code why w (omega arith) h refl (verdict-is ∙ q))
 
-    store-on : (out' : List ℕ) (place : ℕ) (bits : List ℕ) → f .width ≤ 64 → toBits out' ≡ leaves out pos (f .width) code → pos ≡ place → toBits out ≡ bits
-        → place + f .width ≤ 8 * length out → toBits out' ≡ sets bits place (bitsOf (f .width) code)
-    store-on out' place bits m put p b k =
-        let n : length (toBits out) ≡ 8 * length out = length-toBits out in
-        let i : length (bitsOf (f .width) code) ≡ f .width = length-bitsOf (f .width) code in
-        put ∙ leaves-there out pos (f .width) code m (omega arith)
-        ∙ ap₂ (λ (x : ℕ) y. take x y ++ (bitsOf (f .width) code ++ drop (x + f .width) y)) p b
-        ∙ ap (λ (x : ℕ). take place bits ++ (bitsOf (f .width) code ++ drop (place + x) bits)) (sym i)
-        ∙ sym (append-assoc (take place bits) (bitsOf (f .width) code) (drop (place + length (bitsOf (f .width) code)) bits))
-        ∙ sym (sets-eq (bitsOf (f .width) code) bits place (omega (arith, ap length b)))
-
     pub turn-again : (out' : List ℕ) (pos' : ℕ) (s' : State) → v ≡ verdict.Taken → length out' ≡ length out → toBits out' ≡ leaves out pos (f .width) code
         → (pos' ≡ onward pos (f .width)) × (pos < 2 ^ 33 → pos' < 2 ^ 33) → s' ≡ stepOf s code → Turn sheet out₀ s₀ out' s' pos' (at + 1)
     turn-again out' pos' s' q kept put moved stepped =
@@ -180,9 +140,7 @@ module _ {sheet out₀ : List ℕ} {s₀ : State} {out : List ℕ} {s : State} {
               record {
                 place = o .place + f .width;
                 bits = sets (o .bits) (o .place) (bitsOf (f .width) code);
-                count = counted-on (f .width) pos' (o .count) (moved .0);
-                stored = λ a b.
-                    store-on out' (o .place) (o .bits) m put (o .count .exact (omega arith)) (o .stored (omega arith) (omega arith)) (omega (arith, t .same));
+                kept = kept-on (f .width) code pos' out' m kept put (moved .0) (o .kept);
                 on = record {
                   left = r .left;
                   walks = subst (λ x. Walks fieldOf stepOf x (r .left)) (sym stepped) (r .walks);
@@ -216,7 +174,7 @@ exact-by count bits c h = go (ltb (8 * byteRoom) bits) refl
         absurd (omega arith)
     go false p = let a : bits ≤ 8 * byteRoom = ltb-false (8 * byteRoom) bits p in (c .exact a, a)
 
--- what a first pass says is the answer
+-- what a pass says is the answer
 judged-fault : (o : Written) (pass : Pass) (none none' : List ℕ) (why : Refusal) → PutBy none' none o pass → pass ≡ Fault why
     → writer.Refused why ≡ writeAnswerBy (thenLength o)
 judged-fault (unwritten w) (Fault v) none none' why fault e = let q : w ≡ why = cc in ap (λ x. writer.Refused x) (sym q)
@@ -238,33 +196,46 @@ judged-whole (written bs) (Whole n m) none none' entries count (whole c h) e b =
     let k : badLength (bytesFor (length bs)) ≡ false = ap (λ (y : ℕ). badLength (bytesFor y)) (sym (x .0)) ∙ b in
     rw k (ap (λ (y : ℕ). writer.Written y (bytesFor y)) (x .0))
 
-module _ {sheet : List ℕ} {start : State} (dry : Pass) (none : List ℕ) (p : WritePass sheet [] start dry none) where
-  pub judge-fault : (why : Refusal) → dry ≡ Fault why → SheetJudged sheet start (writer.Refused why)
-  judge-fault why e =
+aside-by : (o : Written) (pass : Pass) (aside aside' : List ℕ) → PutBy aside aside' o pass → AsideBits aside aside' o
+aside-by (written bs) (Whole n m) aside aside' (whole c h) = text h
+aside-by (unwritten w) (Fault v) aside aside' fault = nothing
+
+module _ {sheet aside : List ℕ} {start : State} (dry : Pass) (aside' : List ℕ) (p : WritePass sheet aside start dry aside') where
+  pub keep-fault : (why : Refusal) → dry ≡ Fault why → SheetKept sheet aside start (writer.Refused why) aside'
+  keep-fault why e =
       record {
-        answers = λ l w. judged-fault (writeL l sheet) dry none [] why (p .puts l w) e;
-        round = refl;
-        good = omega arith;
+        judged = record { answers = λ l w. judged-fault (writeL l sheet) dry aside' aside why (p .puts l w) e; round = refl; good = omega arith };
+        keeps = λ l w. aside-by (writeL l sheet) dry aside aside' (p .puts l w);
       }
 
   module _ (entries count : ℕ) (e : dry ≡ Whole entries count) (b : Bool) (m : b ≡ badLength (bytesFor count)) where
-    pub judge-length : b ≡ true → SheetJudged sheet start (writer.Refused refusal.Length)
-    judge-length n =
+    pub keep-length : b ≡ true → SheetKept sheet aside start (writer.Refused refusal.Length) aside'
+    keep-length n =
         record {
-          answers = λ l w. judged-length (writeL l sheet) dry none [] entries count (p .puts l w) e (sym m ∙ n);
-          round = refl;
-          good = omega arith;
+          judged = record {
+            answers = λ l w. judged-length (writeL l sheet) dry aside' aside entries count (p .puts l w) e (sym m ∙ n);
+            round = refl;
+            good = omega arith;
+          };
+          keeps = λ l w. aside-by (writeL l sheet) dry aside aside' (p .puts l w);
         }
 
-    pub judge-whole : b ≡ false → SheetJudged sheet start (writer.Written count (bytesFor count))
-    judge-whole n =
+    pub keep-whole : b ≡ false → SheetKept sheet aside start (writer.Written count (bytesFor count)) aside'
+    keep-whole n =
         record {
-          answers = λ l w. judged-whole (writeL l sheet) dry none [] entries count (p .puts l w) e (sym m ∙ n);
-          round = refl;
-          good = good-some (bytesFor count) (sym m ∙ n) .1;
+          judged = record {
+            answers = λ l w. judged-whole (writeL l sheet) dry aside' aside entries count (p .puts l w) e (sym m ∙ n);
+            round = refl;
+            good = good-some (bytesFor count) (sym m ∙ n) .1;
+          };
+          keeps = λ l w. aside-by (writeL l sheet) dry aside aside' (p .puts l w);
         }
 
--- a refusal leaves the bytes, and a second pass stores the bits
+pub kept-judged : {sheet aside : List ℕ} {start : State} {answer : WriteAnswer} {aside' : List ℕ} → SheetKept sheet aside start answer aside'
+    → SheetJudged sheet start answer
+kept-judged k = k .judged
+
+-- a refusal leaves the bytes; the bits kept aside are copied, with the fill behind them
 module _ (out : List ℕ) where
   refused-leaves : (o : Written) (why : Refusal) → writer.Refused why ≡ writeAnswerBy o → toBits out ≡ outBy o out
   refused-leaves (unwritten w) why e = refl
@@ -283,11 +254,11 @@ module _ (out : List ℕ) where
       = ap (drop (n + w)) e ∙ drop-append-add bs (drop n (toBits out)) w ∙ drop-drop w n (toBits out) ∙ ap (λ (x : ℕ). drop x (toBits out)) last in
       p ∙ leaves-there out₁ n w 0 (omega arith) (omega arith) ∙ ap₂ (λ x y. x ++ (bitsOf w 0 ++ y)) front back
 
-  stored-leaves : (o : Written) (pass : Pass) (out₁ out₂ : List ℕ) (bits bytes : ℕ) → writer.Written bits bytes ≡ writeAnswerBy (thenLength o)
-      → byteRoom ≤ length out → length out₁ ≡ length out → PutBy out out₁ o pass → toBits out₂ ≡ leaves out₁ bits (8 * bytes - bits) 0
+  stored-leaves : (o : Written) (out₁ out₂ : List ℕ) (bits bytes : ℕ) → writer.Written bits bytes ≡ writeAnswerBy (thenLength o)
+      → byteRoom ≤ length out → length out₁ ≡ length out → AsideBits out out₁ o → toBits out₂ ≡ leaves out₁ bits (8 * bytes - bits) 0
       → toBits out₂ ≡ outBy (thenLength o) out
-  stored-leaves (unwritten w) pass out₁ out₂ bits bytes e room same d p = let z : _≡_ {A = ℕ} 0 1 = cc in absurd (omega arith)
-  stored-leaves (written bs) (Whole n m) out₁ out₂ bits bytes e room same (whole c h) p = go (badLength (bytesFor (length bs))) refl
+  stored-leaves (unwritten w) out₁ out₂ bits bytes e room same d p = let z : _≡_ {A = ℕ} 0 1 = cc in absurd (omega arith)
+  stored-leaves (written bs) out₁ out₂ bits bytes e room same (text h) p = go (badLength (bytesFor (length bs))) refl
     where
       go : (x : Bool) → badLength (bytesFor (length bs)) ≡ x → toBits out₂ ≡ outBy (thenLength (written bs)) out
       go true k = let z : writer.Written bits bytes ≡ writer.Refused refusal.Length = rw k at e in let y : _≡_ {A = ℕ} 0 1 = cc in absurd (omega arith)
@@ -298,33 +269,65 @@ module _ (out : List ℕ) where
           let few : bytesFor (length bs) ≤ byteRoom = good-some (bytesFor (length bs)) k .1 in
           rw k (filled bs out₁ out₂ (omega arith) room same (h (omega arith) (omega arith)) (p ∙ ap₂ (λ (x y : ℕ). leaves out₁ x (8 * y - x) 0) i j))
 
--- the count of bits is small enough to be taken from that of the bytes
-module _ {sheet : List ℕ} {start : State} (judged : WriteAnswer) (p : SheetJudged sheet start judged) (bits bytes : ℕ) (e : judged ≡ writer.Written bits bytes) where
-  pub whole-bytes : bytes ≡ bytesFor bits
-  whole-bytes = let r : bytesWritten judged ≡ bytesFor (bitsWritten judged) = p .round in rw e at r
+-- the bytes kept aside, in place of the first ones of `out`
+copied-leaves : (o : Written) (aside aside' out : List ℕ) (bits bytes : ℕ) → writer.Written bits bytes ≡ writeAnswerBy o → bytes ≤ byteRoom → byteRoom ≤ length out
+    → byteRoom ≤ length aside' → toBits aside' ≡ outBy o aside → toBits (take bytes aside' ++ drop bytes out) ≡ outBy o out
+copied-leaves (unwritten w) aside aside' out bits bytes e few room k p = let z : _≡_ {A = ℕ} 0 1 = cc in absurd (omega arith)
+copied-leaves (written bs) aside aside' out bits bytes e few room k p =
+    let n : ℕ = length bs in
+    let fill : List ℕ = fillFor n in
+    let i : bytes ≡ bytesFor n = cc in
+    let f : length fill ≡ 8 * bytesFor n - n = length-bitsOf (8 * bytesFor n - n) 0 in
+    let whole : length (bs ++ fill) ≡ 8 * bytes = omega (arith, length-append bs fill) in
+    let front : take (8 * bytes) (toBits aside') ≡ bs ++ fill
+    = ap (take (8 * bytes)) (p ∙ sym (append-assoc bs fill (drop (8 * bytesFor n) (toBits aside)))) ∙ take-at (bs ++ fill) (drop (8 * bytesFor n) (toBits aside)) (8 * bytes) whole in
+    toBits-append (take bytes aside') (drop bytes out)
+    ∙ ap₂ (λ x y. x ++ y) (toBits-take bytes aside' (omega arith) ∙ front) (toBits-drop bytes out (omega arith) ∙ ap (λ (x : ℕ). drop (8 * x) (toBits out)) i)
+    ∙ append-assoc bs fill (drop (8 * bytesFor n) (toBits out))
 
-  pub whole-short : bytes ≤ byteRoom
-  whole-short = let r : bytesWritten judged ≤ byteRoom = p .good in rw e at r
-
-module _ {sheet out : List ℕ} {start : State} (judged : WriteAnswer) (p : SheetJudged sheet start judged) where
-  pub whole-refused : (why : Refusal) → judged ≡ writer.Refused why → WriteWhole sheet out start (writer.Refused why) out
-  whole-refused why e =
+module _ {sheet aside : List ℕ} {start : State} (judged : WriteAnswer) (aside' : List ℕ) (p : SheetKept sheet aside start judged aside') where
+  pub whole-refused : {out : List ℕ} (why : Refusal) → judged ≡ writer.Refused why → WriteWhole sheet out start (writer.Refused why) out
+  whole-refused {out} why e =
       record {
-        answers = λ l w. sym e ∙ p .answers l w;
-        leaves = λ l w. refused-leaves out (thenLength (writeL l sheet)) why (sym e ∙ p .answers l w);
+        answers = λ l w. sym e ∙ p .judged .answers l w;
+        leaves = λ l w. refused-leaves out (thenLength (writeL l sheet)) why (sym e ∙ p .judged .answers l w);
       }
 
   module _ (bits bytes : ℕ) (e : judged ≡ writer.Written bits bytes) where
-    pub whole-written : (pass : Pass) (out₁ out₂ : List ℕ) → byteRoom ≤ length out → length out₁ ≡ length out → WritePass sheet out start pass out₁
-        → toBits out₂ ≡ leaves out₁ bits (8 * bytes - bits) 0 → WriteWhole sheet out start (writer.Written bits bytes) out₂
-    whole-written pass out₁ out₂ room same q put =
+    -- the count of bits is small enough to be taken from that of the bytes
+    pub whole-bytes : bytes ≡ bytesFor bits
+    whole-bytes = let r : bytesWritten judged ≡ bytesFor (bitsWritten judged) = p .judged .round in rw e at r
+
+    pub whole-short : bytes ≤ byteRoom
+    whole-short = let r : bytesWritten judged ≤ byteRoom = p .judged .good in rw e at r
+
+    pub whole-fits : (aside₂ : List ℕ) → byteRoom ≤ length aside → length aside' ≡ length aside → length aside₂ ≡ length aside' → bytes ≤ length aside₂
+    whole-fits aside₂ k same same₂ = let s : bytes ≤ byteRoom = whole-short in omega arith
+
+    pub whole-count : (aside₂ : List ℕ) → byteRoom ≤ length aside → length aside' ≡ length aside → length aside₂ ≡ length aside' → length (take bytes aside₂) ≡ bytes
+    whole-count aside₂ k same same₂ = length-take-le bytes aside₂ (whole-fits aside₂ k same same₂)
+
+    pub whole-room : (aside₂ out : List ℕ) → byteRoom ≤ length out → byteRoom ≤ length aside → length aside' ≡ length aside → length aside₂ ≡ length aside'
+        → length (take bytes aside₂) ≤ length out
+    whole-room aside₂ out room k same same₂ = let s : bytes ≤ byteRoom = whole-short in omega (arith, whole-count aside₂ k same same₂)
+
+    pub whole-written : {out : List ℕ} (aside₂ out' : List ℕ) → byteRoom ≤ length out → byteRoom ≤ length aside → length aside' ≡ length aside
+        → length aside₂ ≡ length aside' → toBits aside₂ ≡ leaves aside' bits (8 * bytes - bits) 0
+        → out' ≡ take (length (take bytes aside₂)) (take bytes aside₂) ++ drop (length (take bytes aside₂)) out
+        → WriteWhole sheet out start (writer.Written bits bytes) out'
+    whole-written {out} aside₂ out' room k same same₂ put c =
+        let s : bytes ≤ byteRoom = whole-short in
+        let n : length (take bytes aside₂) ≡ bytes = length-take-le bytes aside₂ (omega arith) in
+        let d : out' ≡ take bytes aside₂ ++ drop bytes out
+        = c ∙ ap₂ (λ x y. x ++ y) (take-length (take bytes aside₂)) (ap (λ (x : ℕ). drop x out) n) in
         record {
-          answers = λ l w. sym e ∙ p .answers l w;
-          leaves = λ l w. stored-leaves out (writeL l sheet) pass out₁ out₂ bits bytes (sym e ∙ p .answers l w) room same (q .puts l w) put;
+          answers = λ l w. sym e ∙ p .judged .answers l w;
+          leaves = λ l w. ap toBits d ∙ copied-leaves (thenLength (writeL l sheet)) aside aside₂ out bits bytes (sym e ∙ p .judged .answers l w) s room (omega arith)
+              (stored-leaves aside (writeL l sheet) aside' aside₂ bits bytes (sym e ∙ p .judged .answers l w) k same (p .keeps l w) put);
         }
 
--- the count of a first pass is small enough to be rounded up to bytes
-pub count-small : {sheet : List ℕ} {start : State} {dry : Pass} {none : List ℕ} {entries count : ℕ} → WritePass sheet [] start dry none → dry ≡ Whole entries count → count < 2 ^ 33
+-- the count of a pass is small enough to be rounded up to bytes
+pub count-small : {sheet aside : List ℕ} {start : State} {dry : Pass} {aside' : List ℕ} {entries count : ℕ} → WritePass sheet aside start dry aside' → dry ≡ Whole entries count → count < 2 ^ 33
 count-small p e = subst (λ x. bitsOfPass x < 2 ^ 33) e (p .small)
 
 -- ---- `judge_sheet`

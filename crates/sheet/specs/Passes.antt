@@ -4,11 +4,13 @@ use mathlib.Core.List.{List, _++_}
 use Prim.Native.Nat.{ℕ, _+_, _*_, _^_, _≤_, _<_}
 use lib.Dec.{ltb}
 use lib.ListN.{length, drop}
+use lib.Seq.{sets}
 use Rattle.answer.specs.declared.Refusal.{Refusal}
 use Rattle.bits.specs.Bits.{toBits}
-use Rattle.layout.specs.Layout.{Layout, pick, readL, Written, written, unwritten, writeL}
+use Rattle.layout.specs.Layout.{Layout, Outcome, accepted, refused, readL, Written, written, unwritten, writeL}
 use Rattle.layout.specs.Run.{Ended, finished, stopped, runL}
 use Rattle.layout.specs.Walks.{Walks}
+use Rattle.rows.specs.Puts.{Counted}
 use Rattle.message.specs.declared.State.{State}
 use Rattle.message.specs.Machine.{fieldOf, stepOf}
 use Rattle.message.specs.Messages.{Message}
@@ -45,10 +47,20 @@ abbrev pub entriesRead : ReadAnswer → ℕ
 entriesRead (reader.Read bits entries) = entries
 entriesRead (reader.Refused why) = 0
 
--- a payload judged by the layout: the first pass, which is lent no sheet
+-- a payload judged by the layout
 pub record ReadJudged (payload : List ℕ) (start : State) (answer : ReadAnswer) : Type 0 where
   pub answers : ForLayout start (λ l. answer ≡ readAnswerBy (readL l (toBits payload)))
   pub few : entriesRead answer ≤ 8 * length payload
+
+-- what is kept aside of an accepted message: its codes, as far as there is room
+pub data Aside (aside aside' : List ℕ) : Outcome Message → Type 0 where
+  codes : {message : Message} {cs : List ℕ} {n : ℕ} → aside' ≡ sets aside 0 cs → Aside aside aside' (accepted message cs n)
+  nothing : {why : Refusal} → Aside aside aside' (refused why)
+
+-- a payload judged, and its codes kept aside
+pub record ReadKept (payload aside : List ℕ) (start : State) (answer : ReadAnswer) (aside' : List ℕ) : Type 0 where
+  pub judged : ReadJudged payload start answer
+  pub keeps : ForLayout start (λ l. Aside aside aside' (readL l (toBits payload)))
 
 -- the whole reading by the layout, in one answer
 pub record ReadWhole (payload sheet : List ℕ) (start : State) (answer : ReadAnswer) (sheet' : List ℕ) : Type 0 where
@@ -56,14 +68,6 @@ pub record ReadWhole (payload sheet : List ℕ) (start : State) (answer : ReadAn
   pub leaves : ForLayout start (λ l. sheet' ≡ sheetBy (readL l (toBits payload)) sheet)
 
 -- ---- writing
-
--- A pass over a sheet counts bits exactly up to what the longest payload holds; over that, its count is over it too.
-abbrev pub onward : ℕ → ℕ → ℕ
-onward count width = pick (ltb (8 * byteRoom) count) count (count + width)
-
-pub record Counted (count bits : ℕ) : Type 0 where
-  pub exact : bits ≤ 8 * byteRoom → count ≡ bits
-  pub over : 8 * byteRoom < bits → 8 * byteRoom < count
 
 -- what a pass comes to by what the writing gives; bits that do not all have room may be stored in part or not at all
 pub data PutBy (out out' : List ℕ) : Written → Pass → Type 0 where
@@ -84,11 +88,22 @@ abbrev pub bytesWritten : WriteAnswer → ℕ
 bytesWritten (writer.Written bits bytes) = bytes
 bytesWritten (writer.Refused why) = 0
 
--- a sheet judged by the layout: the first pass, which is lent no room
+-- a sheet judged by the layout
 pub record SheetJudged (sheet : List ℕ) (start : State) (answer : WriteAnswer) : Type 0 where
   pub answers : ForLayout start (λ l. answer ≡ writeAnswerBy (thenLength (writeL l sheet)))
   pub round : bytesWritten answer ≡ bytesFor (bitsWritten answer)
   pub good : bytesWritten answer ≤ byteRoom
+
+-- what is kept aside of an accepted sheet: its bits, where all of them have room
+pub data AsideBits (aside aside' : List ℕ) : Written → Type 0 where
+  text : {bits : List ℕ} → (length bits ≤ 8 * byteRoom → length bits ≤ 8 * length aside → toBits aside' ≡ bits ++ drop (length bits) (toBits aside))
+      → AsideBits aside aside' (written bits)
+  nothing : {why : Refusal} → AsideBits aside aside' (unwritten why)
+
+-- a sheet judged, and its bits kept aside
+pub record SheetKept (sheet aside : List ℕ) (start : State) (answer : WriteAnswer) (aside' : List ℕ) : Type 0 where
+  pub judged : SheetJudged sheet start answer
+  pub keeps : ForLayout start (λ l. AsideBits aside aside' (writeL l sheet))
 
 -- the whole writing by the layout, in one answer
 pub record WriteWhole (sheet out : List ℕ) (start : State) (answer : WriteAnswer) (out' : List ℕ) : Type 0 where

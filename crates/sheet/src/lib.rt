@@ -1,14 +1,16 @@
 // Payloads read into a sheet and written from one (document 01, "Payloads").
 ghost use mathlib.Core.Path.{_≡_};
 ghost use Prim.Native.Nat.{_+_, _*_, _^_, _≤_, _<_};
-ghost use lib.ListN.{length, set};
+ghost use lib.ListN.{length};
+ghost use lib.Seq.{sets};
 ghost use Rattle.bits.specs.Bits.{toBits};
 ghost use Rattle.sheet.specs.Sheet.{entryRoom, byteRoom, badLength, judged, readAnswer, sheetAfter, judgedSheet, writeAnswer, outAfter, numberOfRead, numberOfWritten};
-ghost use Rattle.sheet.specs.Passes.{ReadPass, ReadJudged, ReadWhole, onward, WritePass, SheetJudged, WriteWhole};
+ghost use Rattle.sheet.specs.Passes.{ReadPass, ReadJudged, ReadKept, ReadWhole, WritePass, SheetJudged, SheetKept, WriteWhole};
 use answer::Refusal;
 use layout::Verdict;
 use message::Start;
 use message::State;
+use rows::Ran;
 
 // "Reading wants 8,184 entries, writing 1,023 bytes of room."
 const ENTRY_ROOM: usize = 8184;
@@ -43,15 +45,6 @@ fn bad_length(bytes: usize) -> bool
     BYTE_ROOM < bytes
 }
 
-// The entry at `at` is made the code, where there is one.
-fn store(sheet: &mut [u64], at: usize, code: u64)
-    ensures { λ _. ⌜ now (sheet .exit) ≡ set (now (sheet .entry)) at code ⌝ }
-{
-    if at < sheet.len() {
-        sheet[at] = code;
-    }
-}
-
 // One pass over a payload: what it comes to, and the codes in the sheet as far as that has room.
 fn read_pass(payload: &[u8], sheet: &mut [u64], start: State) -> Pass
     requires { ⌜ length (now payload) ≤ byteRoom ⌝ }
@@ -62,59 +55,118 @@ fn read_pass(payload: &[u8], sheet: &mut [u64], start: State) -> Pass
     let mut pos: usize = 0;
     let mut at: usize = 0;
     loop {
-        let field = message::field_of(s);
-        let width = field.width;
-        if width == 0 {
-            return Pass::Whole {
-                entries: at,
-                bits: pos,
-            };
-        }
-        let bits = width as usize;
-        if total - pos < bits {
-            return Pass::Fault(Refusal::Short);
-        }
-        let code = bits::get(payload, pos, width);
-        match layout::judge(field, code) {
-            Verdict::Fault(why) => {
-                return Pass::Fault(why);
+        let row = message::row::row_of(s);
+        if row.group != 0 {
+            match rows::read_row(payload, sheet, row, pos, at) {
+                Ran::Stopped(why) => {
+                    return Pass::Fault(why);
+                }
+                Ran::To {
+                    pos: p,
+                    at: a,
+                    last,
+                } => {
+                    pos = p;
+                    at = a;
+                    s = message::row::after(s, last);
+                }
             }
-            Verdict::Taken => {
-                store(sheet, at, code);
-                at += 1;
-                pos += bits;
-                s = message::advance(s, code);
+        } else {
+            let field = message::field_of(s);
+            let width = field.width;
+            if width == 0 {
+                return Pass::Whole {
+                    entries: at,
+                    bits: pos,
+                };
+            }
+            let bits = width as usize;
+            if total - pos < bits {
+                return Pass::Fault(Refusal::Short);
+            }
+            let code = bits::get(payload, pos, width);
+            match layout::judge(field, code) {
+                Verdict::Fault(why) => {
+                    return Pass::Fault(why);
+                }
+                Verdict::Taken => {
+                    rows::store(sheet, at, code);
+                    at += 1;
+                    pos += bits;
+                    s = message::advance(s, code);
+                }
             }
         }
     }
 }
 
-// A pass with no sheet says whether the message is accepted.
-fn judge_from(payload: &[u8], start: State) -> ReadAnswer
+// A pass says whether the message is accepted, and keeps its codes aside as far as there is room.
+fn keep_from(payload: &[u8], aside: &mut [u64], start: State) -> ReadAnswer
     requires { ⌜ length (now payload) ≤ byteRoom ⌝ }
-    ensures { λ r. ⌜ ReadJudged (now (payload .entry)) start r ⌝ }
+    ensures { λ r. ⌜ ReadKept (now (payload .entry)) (now (aside .entry)) start r (now (aside .exit)) ⌝ }
 {
-    let mut none = [0u64; 1];
-    let dry = read_pass(payload, &mut none[..0], start);
-    match dry {
+    match read_pass(payload, aside, start) {
         Pass::Fault(why) => ReadAnswer::Refused(why),
         Pass::Whole { entries, bits } => ReadAnswer::Read { bits, entries },
     }
 }
 
-// The message is judged before a second pass stores its codes: a refusal alters nothing.
-fn read_whole(payload: &[u8], sheet: &mut [u64], start: State) -> ReadAnswer
+fn judge_from(payload: &[u8], start: State) -> ReadAnswer
+    requires { ⌜ length (now payload) ≤ byteRoom ⌝ }
+    ensures { λ r. ⌜ ReadJudged (now (payload .entry)) start r ⌝ }
+{
+    let mut none = [0u64; 1];
+    keep_from(payload, &mut none[..0], start)
+}
+
+// The codes come onto the sheet from its first entry on.
+fn copy_codes(codes: &[u64], sheet: &mut [u64])
+    ensures { λ _. ⌜ now (sheet .exit) ≡ sets (now (sheet .entry)) 0 (now (codes .entry)) ⌝ }
+{
+    let mut i: usize = 0;
+    while i < codes.len() {
+        rows::store(sheet, i, codes[i]);
+        i += 1;
+    }
+}
+
+// The message is judged before its codes come onto the sheet: a refusal alters nothing. Where they did not all have room aside, it is read a second time.
+fn read_by(payload: &[u8], sheet: &mut [u64], aside: &mut [u64], start: State) -> ReadAnswer
     requires { ⌜ (length (now payload) ≤ byteRoom) × (entryRoom ≤ length (now sheet)) ⌝ }
     ensures { λ r. ⌜ ReadWhole (now (payload .entry)) (now (sheet .entry)) start r (now (sheet .exit)) ⌝ }
 {
-    let judged = judge_from(payload, start);
+    let judged = keep_from(payload, aside, start);
     match judged {
         ReadAnswer::Refused(why) => ReadAnswer::Refused(why),
         ReadAnswer::Read { bits, entries } => {
+            if entries <= aside.len() {
+                copy_codes(&aside[..entries], sheet);
+                return ReadAnswer::Read { bits, entries };
+            }
             read_pass(payload, sheet, start);
             ReadAnswer::Read { bits, entries }
         }
     }
+}
+
+// A payload of 64 bytes has no more than 512 entries.
+fn read_small(payload: &[u8], sheet: &mut [u64], start: State) -> ReadAnswer
+    requires { ⌜ (length (now payload) ≤ byteRoom) × (entryRoom ≤ length (now sheet)) ⌝ }
+    ensures { λ r. ⌜ ReadWhole (now (payload .entry)) (now (sheet .entry)) start r (now (sheet .exit)) ⌝ }
+{
+    let mut aside = [0u64; 512];
+    read_by(payload, sheet, &mut aside[..], start)
+}
+
+fn read_whole(payload: &[u8], sheet: &mut [u64], start: State) -> ReadAnswer
+    requires { ⌜ (length (now payload) ≤ byteRoom) × (entryRoom ≤ length (now sheet)) ⌝ }
+    ensures { λ r. ⌜ ReadWhole (now (payload .entry)) (now (sheet .entry)) start r (now (sheet .exit)) ⌝ }
+{
+    if payload.len() <= 64 {
+        return read_small(payload, sheet, start);
+    }
+    let mut aside = [0u64; 2048];
+    read_by(payload, sheet, &mut aside[..], start)
 }
 
 // What a payload of a type (TF002) and subtype (TF007) says, with no sheet to store it on. "UNKNOWN_TYPE, LENGTH, then the first fault in reading order".
@@ -151,16 +203,6 @@ pub fn read(kind: u8, subtype: u8, payload: &[u8], sheet: &mut [u64]) -> ReadAns
     }
 }
 
-// A count of bits after `width` more. Once over what the longest payload holds it stays: no sheet is too long to be counted.
-fn counted(pos: usize, width: u32) -> usize
-    ensures { λ r. ⌜ (r ≡ onward pos width) × (pos < 2 ^ 33 → r < 2 ^ 33) ⌝ }
-{
-    if 8 * BYTE_ROOM < pos {
-        return pos;
-    }
-    pos + width as usize
-}
-
 // One pass over a sheet: what it comes to, and the bits in `out` where all of them have room.
 fn write_pass(sheet: &[u64], out: &mut [u8], start: State) -> Pass
     ensures { λ r. ⌜ WritePass (now (sheet .entry)) (now (out .entry)) start r (now (out .exit)) ⌝ }
@@ -169,42 +211,58 @@ fn write_pass(sheet: &[u64], out: &mut [u8], start: State) -> Pass
     let mut pos: usize = 0;
     let mut at: usize = 0;
     loop {
-        let field = message::field_of(s);
-        let width = field.width;
-        if width == 0 {
-            if at < sheet.len() {
-                return Pass::Fault(Refusal::Leftover);
+        let row = message::row::row_of(s);
+        if row.group != 0 {
+            match rows::write_row(sheet, out, row, pos, at) {
+                Ran::Stopped(why) => {
+                    return Pass::Fault(why);
+                }
+                Ran::To {
+                    pos: p,
+                    at: a,
+                    last,
+                } => {
+                    pos = p;
+                    at = a;
+                    s = message::row::after(s, last);
+                }
             }
-            return Pass::Whole {
-                entries: at,
-                bits: pos,
-            };
-        }
-        if sheet.len() <= at {
-            return Pass::Fault(Refusal::Short);
-        }
-        let code = sheet[at];
-        match layout::judge(field, code) {
-            Verdict::Fault(why) => {
-                return Pass::Fault(why);
+        } else {
+            let field = message::field_of(s);
+            let width = field.width;
+            if width == 0 {
+                if at < sheet.len() {
+                    return Pass::Fault(Refusal::Leftover);
+                }
+                return Pass::Whole {
+                    entries: at,
+                    bits: pos,
+                };
             }
-            Verdict::Taken => {
-                bits::put(out, pos, width, code);
-                at += 1;
-                pos = counted(pos, width);
-                s = message::advance(s, code);
+            if sheet.len() <= at {
+                return Pass::Fault(Refusal::Short);
+            }
+            let code = sheet[at];
+            match layout::judge(field, code) {
+                Verdict::Fault(why) => {
+                    return Pass::Fault(why);
+                }
+                Verdict::Taken => {
+                    bits::put(out, pos, width, code);
+                    at += 1;
+                    pos = rows::counted(pos, width);
+                    s = message::advance(s, code);
+                }
             }
         }
     }
 }
 
-// A pass with no room says whether the sheet is accepted.
-fn judge_sheet_from(sheet: &[u64], start: State) -> WriteAnswer
-    ensures { λ r. ⌜ SheetJudged (now (sheet .entry)) start r ⌝ }
+// A pass says whether the sheet is accepted, and keeps its bits aside where all of them have room.
+fn keep_sheet_from(sheet: &[u64], aside: &mut [u8], start: State) -> WriteAnswer
+    ensures { λ r. ⌜ SheetKept (now (sheet .entry)) (now (aside .entry)) start r (now (aside .exit)) ⌝ }
 {
-    let mut none = [0u8; 1];
-    let dry = write_pass(sheet, &mut none[..0], start);
-    match dry {
+    match write_pass(sheet, aside, start) {
         Pass::Fault(why) => WriteAnswer::Refused(why),
         Pass::Whole { entries: _, bits } => {
             let bytes = (bits + 7) / 8;
@@ -216,21 +274,36 @@ fn judge_sheet_from(sheet: &[u64], start: State) -> WriteAnswer
     }
 }
 
-// The sheet is judged before a second pass stores its bits: a refusal alters nothing.
+fn judge_sheet_from(sheet: &[u64], start: State) -> WriteAnswer
+    ensures { λ r. ⌜ SheetJudged (now (sheet .entry)) start r ⌝ }
+{
+    let mut none = [0u8; 1];
+    keep_sheet_from(sheet, &mut none[..0], start)
+}
+
+// The sheet is judged before its bits and the fill behind them come into `out`: a refusal alters nothing.
+fn write_by(sheet: &[u64], out: &mut [u8], aside: &mut [u8], start: State) -> WriteAnswer
+    requires { ⌜ (byteRoom ≤ length (now out)) × (byteRoom ≤ length (now aside)) ⌝ }
+    ensures { λ r. ⌜ WriteWhole (now (sheet .entry)) (now (out .entry)) start r (now (out .exit)) ⌝ }
+{
+    let judged = keep_sheet_from(sheet, aside, start);
+    match judged {
+        WriteAnswer::Refused(why) => WriteAnswer::Refused(why),
+        WriteAnswer::Written { bits, bytes } => {
+            let fill = (8 * bytes - bits) as u32;
+            bits::put(aside, bits, fill, 0);
+            bytes::copy(&aside[..bytes], out);
+            WriteAnswer::Written { bits, bytes }
+        }
+    }
+}
+
 fn write_whole(sheet: &[u64], out: &mut [u8], start: State) -> WriteAnswer
     requires { ⌜ byteRoom ≤ length (now out) ⌝ }
     ensures { λ r. ⌜ WriteWhole (now (sheet .entry)) (now (out .entry)) start r (now (out .exit)) ⌝ }
 {
-    let judged = judge_sheet_from(sheet, start);
-    match judged {
-        WriteAnswer::Refused(why) => WriteAnswer::Refused(why),
-        WriteAnswer::Written { bits, bytes } => {
-            write_pass(sheet, out, start);
-            let fill = (8 * bytes - bits) as u32;
-            bits::put(out, bits, fill, 0);
-            WriteAnswer::Written { bits, bytes }
-        }
-    }
+    let mut aside = [0u8; BYTE_ROOM];
+    write_by(sheet, out, &mut aside[..], start)
 }
 
 // What a sheet of a type (TF002) and subtype (TF007) says, with no room to write it. "UNKNOWN_TYPE, first fault, LEFTOVER, LENGTH."

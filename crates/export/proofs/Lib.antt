@@ -1,0 +1,4 @@
+pub mod Laws
+pub mod Telling
+pub mod States
+pub mod Floats

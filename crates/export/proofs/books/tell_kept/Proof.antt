@@ -1,0 +1,46 @@
+-- A case for each answer.
+use Rattle.export.proofs.Telling.{kept-number, kept-numbers, kept-refused-number, kept-refused-numbers}
+use borrow.Author.Needs.{needs}
+use Rattle.export.proofs.books.tell_kept.Statement.{statement}
+use Rattle.export.proofs.books.tell_kept.Tie as tie
+
+enum-known-answer : tie.Need-enum-known-answer
+enum-known-answer c = search needs
+
+count-requires : tie.Need-count-requires
+count-requires c κs = search needs
+
+slice-aggregate-put : tie.Need-slice-aggregate-put
+slice-aggregate-put c = search needs
+
+put-requires : tie.Need-put-requires
+put-requires c κs = search needs
+
+enum-known-answer-2 : tie.Need-enum-known-answer-2
+enum-known-answer-2 c = search needs
+
+number-requires : tie.Need-number-requires
+number-requires c κs = search needs
+
+same-length : tie.Need-same-length
+same-length c = search needs
+
+returns : tie.Need-returns
+returns c = search (kept-number, kept-numbers, needs)
+
+returns-2 : tie.Need-returns-2
+returns-2 c = search (kept-refused-number, kept-refused-numbers, needs)
+
+pub tell-kept-spec : {M : Type 1} → statement M
+tell-kept-spec =
+    tie.close
+    (tie.spec
+    enum-known-answer
+    count-requires
+    slice-aggregate-put
+    put-requires
+    enum-known-answer-2
+    number-requires
+    same-length
+    returns
+    returns-2)

@@ -1,0 +1,50 @@
+-- A case for each answer.
+use Rattle.export.proofs.Telling.{read-number, read-numbers, read-refused-number, read-refused-numbers}
+use borrow.Author.Needs.{needs}
+use Rattle.export.proofs.payloads.tell_read.Statement.{statement}
+use Rattle.export.proofs.payloads.tell_read.Tie as tie
+
+enum-known-answer : tie.Need-enum-known-answer
+enum-known-answer c = search needs
+
+count-requires : tie.Need-count-requires
+count-requires c κs = search needs
+
+count-requires-2 : tie.Need-count-requires-2
+count-requires-2 c κs = search needs
+
+slice-aggregate-put : tie.Need-slice-aggregate-put
+slice-aggregate-put c = search needs
+
+put-requires : tie.Need-put-requires
+put-requires c κs = search needs
+
+enum-known-answer-2 : tie.Need-enum-known-answer-2
+enum-known-answer-2 c = search needs
+
+number-requires : tie.Need-number-requires
+number-requires c κs = search needs
+
+same-length : tie.Need-same-length
+same-length c = search needs
+
+returns : tie.Need-returns
+returns c = search (read-number, read-numbers, needs)
+
+returns-2 : tie.Need-returns-2
+returns-2 c = search (read-refused-number, read-refused-numbers, needs)
+
+pub tell-read-spec : {M : Type 1} → statement M
+tell-read-spec =
+    tie.close
+    (tie.spec
+    enum-known-answer
+    count-requires
+    count-requires-2
+    slice-aggregate-put
+    put-requires
+    enum-known-answer-2
+    number-requires
+    same-length
+    returns
+    returns-2)

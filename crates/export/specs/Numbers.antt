@@ -1,0 +1,40 @@
+-- Definitions to believe: how a call for C says in numbers and lent slices what the call below it answers.
+use mathlib.Core.Bool.{cond}
+use mathlib.Core.List.{List, [], _++_}
+use Prim.Native.Nat.{ℕ}
+use lib.Dec.{ltb}
+use lib.ListN.{length, drop}
+use Rattle.answer.specs.Number.{numberOf}
+use Rattle.answer.specs.declared.Refusal.{Refusal}
+
+-- what a caller is told: document 01's number, and further numbers
+pub record Told : Type 0 where
+  pub number : ℕ
+  pub numbers : List ℕ
+
+-- "All counts beside a refusal are 0": none is told
+abbrev pub refused : Refusal → Told
+refused refusal = record { number = numberOf refusal; numbers = [] }
+
+-- document 01's number of ROOM
+abbrev pub room : ℕ
+room = 9
+
+-- "lent buffer under its stated size", before anything else: one answer if the slice has fewer places than it wants, else the other
+unfoldable pub roomFor : {A B : Type 0} → ℕ → List B → A → A → A
+roomFor size lent short rest = cond (ltb (length lent) size) short rest
+
+-- numbers are written from the slice's start on; "parts of outputs beyond what is written stay as lent"
+unfoldable pub laid : List ℕ → List ℕ → List ℕ
+laid numbers lent = numbers ++ drop (length numbers) lent
+
+-- the number of a call that is lent a slice for the further numbers, and that slice afterwards
+unfoldable pub answered : ℕ → List ℕ → Told → ℕ
+answered size lent told = roomFor size lent room (told .number)
+
+unfoldable pub lentAfter : ℕ → List ℕ → Told → List ℕ
+lentAfter size lent told = roomFor size lent lent (laid (told .numbers) lent)
+
+-- a number, or the highest that counts
+unfoldable pub atMost : ℕ → ℕ → ℕ
+atMost most x = cond (ltb x most) x most

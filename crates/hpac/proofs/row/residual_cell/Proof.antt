@@ -1,0 +1,14 @@
+-- Each side of the test gives what the definition picks.
+use Rattle.layout.specs.Tests.{if-same, if-other}
+use borrow.Author.Needs.{needs}
+use Rattle.hpac.proofs.row.residual_cell.Statement.{statement}
+use Rattle.hpac.proofs.row.residual_cell.Tie as tie
+
+pub residual-cell-spec : {M : Type 1} → statement M
+residual-cell-spec =
+    tie.close (
+    tie.spec
+    (λ c. search (if-same, if-other, needs))
+    (λ c. search (if-same, if-other, needs))
+    (λ c. search (if-same, if-other, needs))
+    (λ c. search (if-same, if-other, needs)))

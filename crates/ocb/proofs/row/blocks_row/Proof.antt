@@ -1,0 +1,12 @@
+-- The struct is the definition, its words what the calls gave.
+use borrow.Author.Needs.{needs}
+use Rattle.ocb.proofs.row.blocks_row.Statement.{statement}
+use Rattle.ocb.proofs.row.blocks_row.Tie as tie
+
+pub blocks-row-spec : {M : Type 1} → statement M
+blocks-row-spec =
+    tie.close (
+    tie.spec
+    (λ c κs. search needs)
+    (λ c κs. search needs)
+    (λ c. cc))

@@ -1,0 +1,11 @@
+-- The struct is the definition, its words what the calls gave.
+use borrow.Author.Needs.{needs}
+use Rattle.ocb.proofs.row.codes_row.Statement.{statement}
+use Rattle.ocb.proofs.row.codes_row.Tie as tie
+
+pub codes-row-spec : {M : Type 1} → statement M
+codes-row-spec =
+    tie.close (
+    tie.spec
+    (λ c κs. search needs)
+    (λ c. cc))

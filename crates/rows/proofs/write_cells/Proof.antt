@@ -1,0 +1,91 @@
+-- One law for each way out of the loop, and one for a turn (Writing.antt).
+use Rattle.rows.proofs.Writing.{Turn, turn-first, turn-done, turn-short, turn-fault, turn-again}
+use native.Mathlib.Omega.{arith}
+use borrow.Author.Needs.{needs}
+use Rattle.rows.proofs.write_cells.Statement.{statement}
+use Rattle.rows.proofs.write_cells.Tie as tie
+
+abbrev Inv-loop : tie.InvT-loop
+Inv-loop sheet out₀ word₀ pos₀ at₀ last₀ word₁ pos₁ at₁ last₁ out word pos at last = Turn sheet out₀ word₀ pos₀ at₀ last₀ out word pos at last
+
+abbrev μ-loop : tie.MeasureT-loop
+μ-loop sheet out₀ word₀ pos₀ at₀ last₀ word₁ pos₁ at₁ last₁ out word pos at last = word
+
+loop-holds : tie.Need-loop-holds Inv-loop μ-loop
+loop-holds c = search (turn-first, needs)
+
+same-length : tie.Need-same-length Inv-loop μ-loop
+same-length c = search needs
+
+returns : tie.Need-returns Inv-loop μ-loop
+returns c = search (turn-short, needs)
+
+field-in-requires : tie.Need-field-in-requires Inv-loop μ-loop
+field-in-requires c κs = search needs
+
+mul-code : tie.Need-mul-code Inv-loop μ-loop
+mul-code c = search needs
+
+shared-slice-read-code : tie.Need-shared-slice-read-code Inv-loop μ-loop
+shared-slice-read-code c = search needs
+
+judge-requires : tie.Need-judge-requires Inv-loop μ-loop
+judge-requires c κs = search needs
+
+enum-known-why : tie.Need-enum-known-why Inv-loop μ-loop
+enum-known-why c = search needs
+
+same-length-2 : tie.Need-same-length-2 Inv-loop μ-loop
+same-length-2 c = search needs
+
+returns-2 : tie.Need-returns-2 Inv-loop μ-loop
+returns-2 c = search (turn-fault, needs)
+
+enum-told : tie.Need-enum-told Inv-loop μ-loop
+enum-told c = search needs
+
+put-requires : tie.Need-put-requires Inv-loop μ-loop
+put-requires c κs = search needs
+
+add-at : tie.Need-add-at Inv-loop μ-loop
+add-at c = search needs
+
+counted-requires : tie.Need-counted-requires Inv-loop μ-loop
+counted-requires c κs = search needs
+
+loop-less : tie.Need-loop-less Inv-loop μ-loop
+loop-less c = omega arith
+
+loop-again : tie.Need-loop-again Inv-loop μ-loop
+loop-again c = search (turn-again, needs)
+
+same-length-3 : tie.Need-same-length-3 Inv-loop μ-loop
+same-length-3 c = search needs
+
+returns-3 : tie.Need-returns-3 Inv-loop μ-loop
+returns-3 c = search (turn-done, needs)
+
+pub write-cells-spec : {M : Type 1} → statement M
+write-cells-spec =
+    tie.close
+    (tie.spec
+    Inv-loop
+    μ-loop
+    loop-holds
+    same-length
+    returns
+    field-in-requires
+    mul-code
+    shared-slice-read-code
+    judge-requires
+    enum-known-why
+    same-length-2
+    returns-2
+    enum-told
+    put-requires
+    add-at
+    counted-requires
+    loop-less
+    loop-again
+    same-length-3
+    returns-3)

@@ -1,0 +1,55 @@
+-- What the pass comes to is what the layout's writing gives.
+use Rattle.sheet.proofs.Writing.{keep-fault, keep-length, keep-whole, count-small}
+use native.Mathlib.Omega.{arith}
+use borrow.Author.Needs.{needs}
+use Rattle.sheet.proofs.keep_sheet_from.Statement.{statement}
+use Rattle.sheet.proofs.keep_sheet_from.Tie as tie
+
+write-pass-requires : tie.Need-write-pass-requires
+write-pass-requires c κs = search needs
+
+enum-known-why : tie.Need-enum-known-why
+enum-known-why c = search needs
+
+enum-known-bits : tie.Need-enum-known-bits
+enum-known-bits c = search needs
+
+add-bytes : tie.Need-add-bytes
+add-bytes c = omega (arith, count-small (c .before .before .before .before .before .write-pass .ensures) (c .before .bits .given .1))
+
+bad-length-requires : tie.Need-bad-length-requires
+bad-length-requires c κs = search needs
+
+same-length : tie.Need-same-length
+same-length c = search needs
+
+returns : tie.Need-returns
+returns c = search (keep-length, needs)
+
+same-length-2 : tie.Need-same-length-2
+same-length-2 c = search needs
+
+returns-2 : tie.Need-returns-2
+returns-2 c = search (keep-fault, needs)
+
+same-length-3 : tie.Need-same-length-3
+same-length-3 c = search needs
+
+returns-3 : tie.Need-returns-3
+returns-3 c = search (keep-whole, needs)
+
+pub keep-sheet-from-spec : {M : Type 1} → statement M
+keep-sheet-from-spec =
+    tie.close
+    (tie.spec
+    write-pass-requires
+    enum-known-why
+    enum-known-bits
+    add-bytes
+    bad-length-requires
+    same-length
+    returns
+    same-length-2
+    returns-2
+    same-length-3
+    returns-3)

@@ -1,0 +1,681 @@
+//! Round trips and agreements over made-up inputs, and that the generator reaches every answer and
+//! option that it promises.
+
+use second::answer::{number, Refusal};
+use second::book::{self, Book};
+use second::desk::{self, Of};
+use second::frame::{self, check, Plain};
+use second::generate::*;
+use second::payload::{self, Message, Takes, CONSTELLATIONS};
+use second::prepare::{self, Lent};
+use second::stream::{self, Event};
+use second::views::AreaId;
+use second::{groups, kept, sheet, values, views};
+use std::collections::{BTreeMap, BTreeSet};
+
+/// The numbers of a test. With SEED set to a number in the environment, other ones.
+fn made_from(test: u64) -> Rng {
+    let seed = std::env::var("SEED").ok().and_then(|seed| seed.parse().ok()).unwrap_or(0u64);
+    Rng::new(seed.wrapping_mul(1000).wrapping_add(test))
+}
+
+#[test]
+fn a_sheet_written_is_the_sheet_read_and_all_edges_come() {
+    let mut rng = made_from(1);
+    // (type, subtype, SF number): the codes seen
+    let mut seen: BTreeMap<(u64, u64, u16), BTreeSet<u64>> = BTreeMap::new();
+    let mut fields = BTreeMap::new();
+    for round in 0..6000usize {
+        let (type_, subtype) = TWELVE[round % 12];
+        let made = second::generate::sheet(&mut rng, type_, subtype);
+        for (code, field) in made.codes.iter().zip(&made.fields) {
+            if !matches!(field.takes, Takes::SatelliteMask | Takes::BiasMask | Takes::NodeMask) {
+                seen.entry((type_, subtype, field.sf)).or_default().insert(*code);
+                fields.insert((type_, subtype, field.sf), *field);
+            }
+        }
+        let mut out = lent_bytes(&mut rng, 1025);
+        let as_lent = out.clone();
+        let written = sheet::write(type_, subtype, &made.codes, &mut out).unwrap();
+        assert_eq!(written.bits, made.bits());
+        assert_eq!(written.bytes, written.bits.div_ceil(8));
+        assert_eq!(out[written.bytes..], as_lent[written.bytes..]);
+        assert_eq!(out[..written.bytes], made.payload());
+        let mut back = lent_entries(&mut rng, 8185);
+        let as_lent = back.clone();
+        let read = sheet::read(type_, subtype, &out[..written.bytes], &mut back).unwrap();
+        assert_eq!((read.entries, read.bits), (made.codes.len(), written.bits));
+        assert_eq!(back[..read.entries], made.codes);
+        assert_eq!(back[read.entries..], as_lent[read.entries..]);
+    }
+    for (key, field) in fields {
+        let codes = &seen[&key];
+        let top = field.top();
+        let edges = match field.takes {
+            Takes::Symmetric => vec![0, top / 2, top - 1],
+            Takes::Residual => vec![0, top / 2, top - 1, top],
+            Takes::Yaw => vec![0, 59, 63],
+            Takes::UpTo(most) => vec![0, most],
+            _ => vec![0, top],
+        };
+        for edge in edges {
+            assert!(codes.contains(&edge), "{key:?} {edge}");
+        }
+    }
+}
+
+/// The size of a message by table 8.2, but for a satellite out of use, which has one bit.
+fn size_of(message: &Message, subtype: u64) -> u64 {
+    let c = &CONSTELLATIONS[subtype as usize];
+    let polynomial = |small: [u64; 3], large: [u64; 3], size, equation| {
+        (if size == 0 { small } else { large })[equation as usize]
+    };
+    match message {
+        Message::Ocb(ocb) => {
+            let header = 13 + c.ephemeris.1 as u64 + 2 + ocb.mask.width as u64;
+            let satellite = |s: &payload::OcbSatellite| match &s.in_use {
+                None => 1,
+                Some(b) => {
+                    let orbit = b.orbit.is_some() as u64 * (c.iode.1 as u64 + 42 + ocb.yaw_present * 6);
+                    let clock = b.clock.is_some() as u64 * 20;
+                    let bias = b.bias.as_ref().map_or(0, |bias| {
+                        let masks = 2 + bias.phase_mask.width as u64 + bias.code_mask.width as u64;
+                        masks + bias.phases.len() as u64 * 18 + bias.codes.len() as u64 * 11
+                    });
+                    7 + orbit + clock + bias
+                }
+            };
+            header + ocb.satellites.iter().map(satellite).sum::<u64>()
+        }
+        Message::Hpac(hpac) => {
+            let area = |area: &payload::HpacArea| {
+                let troposphere = area.troposphere.as_ref().map_or(0, |t| {
+                    let coefficients = polynomial([7, 21, 30], [9, 27, 38], t.large, t.equation);
+                    let residual = |size: u64| [6, 8][size as usize];
+                    15 + coefficients + t.grid.as_ref().map_or(0, |g| 1 + residual(g.size_code) * area.nodes)
+                });
+                let ionosphere = area.ionosphere.as_ref().map_or(0, |i| {
+                    let satellite = |s: &payload::IonosphereSatellite| {
+                        let coefficients = polynomial([12, 36, 49], [14, 42, 57], s.large, i.equation);
+                        let residual = |size: u64| [4, 7, 10, 14][size as usize];
+                        5 + coefficients
+                            + s.grid.as_ref().map_or(0, |g| 2 + residual(g.size_code) * area.nodes)
+                    };
+                    3 + 2 + i.mask.width as u64 + i.satellites.iter().map(satellite).sum::<u64>()
+                });
+                19 + troposphere + ionosphere
+            };
+            19 + hpac.areas.iter().map(area).sum::<u64>()
+        }
+        Message::Gad(gad) => 19 + 47 * gad.areas.len() as u64,
+        Message::Bpac(bpac) => {
+            let area = |area: &payload::BpacArea| {
+                let nodes = (area.latitude_count + 1) * (area.longitude_count + 1);
+                43 + nodes + area.vtecs.iter().map(|v| 5 + [7, 11][v.large as usize]).sum::<u64>()
+            };
+            14 + bpac.areas.iter().map(area).sum::<u64>()
+        }
+    }
+}
+
+#[test]
+fn sizes_are_those_of_table_8_2() {
+    let mut rng = made_from(13);
+    for round in 0..3000usize {
+        let (type_, subtype) = TWELVE[round % 12];
+        let made = second::generate::sheet(&mut rng, type_, subtype);
+        let (message, bits) = sheet::close(type_, subtype, &made.codes).unwrap();
+        assert_eq!(bits.bits.len() as u64, size_of(&message, subtype));
+    }
+}
+
+/// 0, small, next to bounds, or any number at all
+fn wild(rng: &mut Rng) -> u64 {
+    let any = rng.draw();
+    rng.pick(&[0, 1, 2, 6, 16, 32, 192, 1103, 65535, u64::MAX, any, any >> 32, any >> 52, any >> 60])
+}
+
+#[test]
+fn any_numbers_at_all_are_answered() {
+    let mut rng = made_from(14);
+    for _ in 0..20000 {
+        let n: Vec<u64> = (0..9).map(|_| wild(&mut rng)).collect();
+        let numbers: desk::Numbers = std::array::from_fn(|i| n[i]);
+        let mut buffer = |stated| {
+            let size = buffer_size(&mut rng, stated);
+            if rng.one_in(2) {
+                vec![0; size]
+            } else {
+                lent_bytes(&mut rng, size)
+            }
+        };
+        let (mut tray, mut live, mut run, mut log) = (buffer(1103), buffer(192), buffer(192), buffer(4096));
+        let bytes = if rng.one_in(2) { odd_frame(&mut rng) } else { second::generate::frame(&mut rng) };
+        let state = stream::Tray { held: n[0], shown: n[1], noise: n[2] };
+        let _ = stream::call(&state, &mut tray, &bytes);
+        let _ = stream::finish(&state, &mut tray);
+        let desk = desk::Desk::of_numbers(&numbers);
+        let _ = desk::new(n[0], n[1], n[2]);
+        let _ = desk::take(&desk, &bytes, &mut live, &mut run, &mut log);
+        let _ = desk::look_up(&desk, &live, &run, AreaId(n[8]));
+        let _ = desk::take_kept(&desk, &bytes, &mut live, &run);
+        let book = Book { aiou: (n[3] != 1).then_some(n[4]), count: n[5] };
+        let _ = book::take(&book, &mut live, &n);
+        let _ = kept::write(&book, &live, &mut run);
+        let _ = kept::read(&bytes, &mut live);
+        let _ = groups::read(&bytes);
+        let _ = sheet::write(n[0] & 3, n[1] % 6, &n, &mut tray);
+        let _ = sheet::read(n[0] & 3, n[1] % 6, &bytes, &mut [0; 8184]);
+        let _ = values::value(n[0] as u16, n[1]);
+        let _ = values::orbit(n[0], n[1], n[2]);
+        let _ = views::satellite(n[0], &n, n[1]);
+        let parts = Plain {
+            type_: n[0],
+            check_type: n[1],
+            subtype: n[2],
+            tag_kind: n[3],
+            tag: n[4],
+            solution: n[5],
+            processor: n[6],
+        };
+        let _ = frame::write_plain(&parts, &bytes, &mut tray);
+    }
+}
+
+#[test]
+fn odd_sheets_reach_every_refusal_and_alter_nothing() {
+    let mut rng = made_from(2);
+    let mut reached = BTreeSet::new();
+    for round in 0..8000usize {
+        let (mut type_, mut subtype) = TWELVE[round % 12];
+        let odd = odd_sheet(&mut rng, type_, subtype);
+        if rng.one_in(20) {
+            (type_, subtype) = (rng.below(6), rng.below(17));
+        }
+        let size = buffer_size(&mut rng, 1023);
+        let mut out = lent_bytes(&mut rng, size);
+        let as_lent = out.clone();
+        let result = sheet::write(type_, subtype, &odd, &mut out);
+        let upto = result.map_or(0, |written| written.bytes);
+        assert_eq!(out[upto..], as_lent[upto..]);
+        reached.insert(number(&result));
+    }
+    assert_eq!(reached, BTreeSet::from([0, 1, 4, 6, 7, 8, 9, 16]));
+}
+
+#[test]
+fn odd_payloads_reach_every_refusal_and_what_is_read_is_written_back() {
+    let mut rng = made_from(3);
+    let mut reached = BTreeSet::new();
+    for round in 0..8000usize {
+        let (mut type_, mut subtype) = TWELVE[round % 12];
+        let odd = if rng.one_in(4) {
+            second::generate::payload(&mut rng, type_, subtype)
+        } else {
+            odd_payload(&mut rng, type_, subtype)
+        };
+        if rng.one_in(20) {
+            (type_, subtype) = (rng.below(6), rng.below(17));
+        }
+        let size = buffer_size(&mut rng, 8184);
+        let mut entries = vec![0xA5; size];
+        let result = sheet::read(type_, subtype, &odd, &mut entries);
+        let upto = result.map_or(0, |read| read.entries);
+        assert!(entries[upto..].iter().all(|&entry| entry == 0xA5));
+        reached.insert(number(&result));
+        if let Ok(read) = result {
+            let mut out = [0; 1023];
+            let written = sheet::write(type_, subtype, &entries[..upto], &mut out).unwrap();
+            assert_eq!(written.bits, read.bits);
+            for bit in 0..8 * written.bytes {
+                let of = |bytes: &[u8]| bytes[bit / 8] >> (7 - bit % 8) & 1;
+                assert_eq!(of(&out), if bit < read.bits { of(&odd) } else { 0 });
+            }
+        }
+    }
+    assert_eq!(reached, BTreeSet::from([0, 1, 4, 6, 7, 8, 9]));
+}
+
+#[test]
+fn every_code_of_every_valued_field_is_judged() {
+    for sf in values::valued() {
+        let mut taken = 0;
+        for code in 0..40000 {
+            match values::value(sf, code) {
+                Ok(values::Value::Float(value)) => assert!(value.is_finite()),
+                Ok(_) => {}
+                Err(refusal) => assert_eq!(refusal, Refusal::Field),
+            }
+            taken += values::value(sf, code).is_ok() as u64;
+        }
+        assert!((4..=32767).contains(&taken), "SF{sf}");
+    }
+}
+
+#[test]
+fn views_agree_with_the_sheet() {
+    let mut rng = made_from(4);
+    for round in 0..1500usize {
+        let (type_, subtype) = TWELVE[round % 12];
+        let made = second::generate::sheet(&mut rng, type_, subtype);
+        let codes = &made.codes;
+        match type_ {
+            0 => {
+                let all = views::satellites(subtype, codes).unwrap();
+                assert_eq!(all.len() as u64, codes[7].count_ones() as u64);
+                for (place, view) in all.iter().enumerate() {
+                    assert_eq!(views::satellite(subtype, codes, place as u64).as_ref(), Ok(view));
+                    let found = views::satellite_of(subtype, codes, view.number).unwrap();
+                    assert_eq!(found.as_ref(), Some(view));
+                    let out_of_use = view.satellite == views::Satellite::OutOfUse;
+                    assert_eq!(out_of_use, codes[view.entry] == 1);
+                }
+            }
+            1 => {
+                let all = views::hpac_areas(subtype, codes).unwrap();
+                assert_eq!(all.len() as u64, codes[3] + 1);
+                for view in &all {
+                    let first = all.iter().find(|other| other.id == view.id);
+                    assert_eq!(views::hpac_area(subtype, codes, view.id).unwrap().as_ref(), first);
+                }
+            }
+            2 => assert_eq!(views::gad_areas(codes).unwrap().len() as u64, codes[3] + 1),
+            _ => assert_eq!(views::bpac_areas(codes).unwrap().len() as u64, codes[3] + 1),
+        }
+        let odd = odd_sheet(&mut rng, type_, subtype);
+        let place = rng.below(70);
+        let _ = views::satellite(subtype, &odd, place);
+        let _ = views::hpac_area(subtype, &odd, AreaId(place));
+        let _ = views::gad_area(&odd, AreaId(place));
+        let _ = views::bpac_area(&odd, views::BpacAreaId(place));
+    }
+}
+
+#[test]
+fn frames_are_accepted_and_odd_ones_reach_every_refusal() {
+    let mut rng = made_from(5);
+    let mut reached = BTreeSet::new();
+    let mut kinds = BTreeSet::new();
+    for _ in 0..4000 {
+        let bytes = second::generate::frame(&mut rng);
+        let accepted = check(&bytes).unwrap();
+        assert_eq!(accepted.length, bytes.len());
+        kinds.insert((accepted.check_type, accepted.tag_kind, accepted.seal.map(|s| s.authentication > 1)));
+        if accepted.seal.is_none() {
+            let parts = Plain {
+                type_: accepted.type_,
+                check_type: accepted.check_type,
+                subtype: accepted.subtype,
+                tag_kind: accepted.tag_kind,
+                tag: accepted.tag,
+                solution: accepted.solution,
+                processor: accepted.processor,
+            };
+            let mut out = [0; 1103];
+            let length = frame::write_plain(&parts, &bytes[accepted.payload.clone()], &mut out).unwrap();
+            assert_eq!(out[..length], bytes);
+        }
+        let odd = odd_frame(&mut rng);
+        let checked = check(&odd);
+        reached.insert(number(&checked));
+        if let Ok(accepted) = checked {
+            assert!(accepted.length <= odd.len());
+        }
+    }
+    assert_eq!(reached, BTreeSet::from([0, 1, 2, 3, 4, 5]));
+    assert_eq!(kinds.len(), 4 * 2 * 3);
+}
+
+#[test]
+fn odd_parts_reach_every_refusal_of_the_plain_writer() {
+    let mut rng = made_from(6);
+    let mut reached = BTreeSet::new();
+    for _ in 0..2000 {
+        let parts = odd_parts(&mut rng);
+        let payload = vec![7; rng.pick(&[0, 1, 50, 1023, 1024])];
+        let size = buffer_size(&mut rng, 1103);
+        let mut out = lent_bytes(&mut rng, size);
+        let as_lent = out.clone();
+        let result = frame::write_plain(&parts, &payload, &mut out);
+        let upto = result.unwrap_or(0);
+        assert_eq!(out[upto..], as_lent[upto..]);
+        if result.is_ok() {
+            assert_eq!(check(&out[..upto]).unwrap().length, upto);
+        }
+        reached.insert(number(&result));
+    }
+    assert_eq!(reached, BTreeSet::from([0, 4, 8, 9]));
+}
+
+fn uncut(input: &[u8]) -> Vec<Event> {
+    stream::scan(input).into_iter().map(|(event, _)| event).collect()
+}
+
+#[test]
+fn a_stream_says_the_same_however_it_is_cut() {
+    let mut rng = made_from(7);
+    let mut frames = 0;
+    for round in 0..400 {
+        let input = if round % 40 == 0 { noisy_stream(&mut rng) } else { second::generate::stream(&mut rng) };
+        let expected = uncut(&input);
+        frames += expected.iter().filter(|event| matches!(event, Event::Frame { .. })).count();
+        let told: u64 = expected
+            .iter()
+            .map(|event| match event {
+                Event::Frame { length, .. } => *length,
+                Event::Noise { count } => *count,
+                _ => 0,
+            })
+            .sum();
+        assert_eq!(told, input.len() as u64);
+        let cuts = cutting(&mut rng, input.len());
+        assert_eq!(cuts.iter().sum::<usize>(), input.len());
+        assert_eq!(stream::run(&input, &cuts), expected);
+    }
+    assert!(frames > 2000);
+}
+
+#[test]
+fn a_call_from_any_sound_tray_leaves_a_sound_one_and_an_unsound_one_is_state() {
+    let mut rng = made_from(8);
+    for _ in 0..3000 {
+        let (tray, mut bytes) = tray(&mut rng);
+        assert!(stream::sound(&tray, &bytes));
+        let portion = if rng.one_in(3) { vec![] } else { second::generate::stream(&mut rng) };
+        let before = bytes.clone();
+        let step = if rng.one_in(3) {
+            stream::finish(&tray, &mut bytes)
+        } else {
+            stream::call(&tray, &mut bytes, &portion)
+        };
+        let step = step.unwrap();
+        assert!(stream::sound(&step.tray, &bytes));
+        assert_eq!(bytes[1103..], before[1103..]);
+        let (tray, mut bytes) = unsound_tray(&mut rng);
+        let before = bytes.clone();
+        assert_eq!(stream::call(&tray, &mut bytes, &portion), Err(Refusal::State));
+        assert_eq!(stream::finish(&tray, &mut bytes), Err(Refusal::State));
+        assert_eq!(bytes, before);
+    }
+}
+
+#[test]
+fn kept_books_come_back_and_broken_ones_reach_every_refusal() {
+    let mut rng = made_from(9);
+    let mut reached = BTreeSet::new();
+    for _ in 0..4000 {
+        let (book, bytes) = second::generate::book(&mut rng);
+        assert!(book::sound(&book, &bytes));
+        let mut out = lent_bytes(&mut rng, 228);
+        let length = kept::write(&book, &bytes, &mut out).unwrap();
+        let mut back = lent_bytes(&mut rng, 192);
+        assert_eq!(kept::read(&out[..length], &mut back), Ok(book));
+        assert_eq!(back[..6 * book.count as usize], bytes[..6 * book.count as usize]);
+        let whole = second::generate::kept(&mut rng);
+        let read = kept::read(&whole, &mut back).unwrap();
+        assert!(book::sound(&read, &back));
+        assert_eq!(kept::write(&read, &back, &mut out), Ok(whole.len()));
+        assert_eq!(out[..whole.len()], whole);
+        let broken = broken_kept(&mut rng);
+        let size = buffer_size(&mut rng, 192);
+        let mut lent = lent_bytes(&mut rng, size);
+        let as_lent = lent.clone();
+        let result = kept::read(&broken, &mut lent);
+        let upto = result.map_or(0, |book| 6 * book.count as usize);
+        assert_eq!(lent[upto..], as_lent[upto..]);
+        reached.insert(number(&result));
+        let (book, bytes) = unsound_book(&mut rng);
+        assert_eq!(kept::write(&book, &bytes, &mut out), Err(Refusal::State));
+    }
+    assert_eq!(reached, BTreeSet::from([0, 1, 9, 16, 18]));
+}
+
+/// The numbers of a log, entry by entry: what kind it is and, for an area left out, why.
+fn entries(log: &[u8]) -> Vec<(u64, u64)> {
+    let mut rest = log;
+    let mut all = Vec::new();
+    let next = |rest: &mut &[u8]| {
+        let (number, used) = groups::read(rest).unwrap();
+        *rest = &rest[used..];
+        number
+    };
+    while !rest.is_empty() {
+        let kind = next(&mut rest);
+        match kind {
+            1 => {
+                let (tag, aiou, count) = (next(&mut rest), next(&mut rest), next(&mut rest));
+                assert!(tag < 43200 && aiou <= 16 && count <= 32 && (aiou == 0) == (count == 0));
+                all.push((1, 0));
+            }
+            2 => {
+                let id = next(&mut rest);
+                let area = book::area_of(next(&mut rest)).unwrap();
+                assert_eq!(area.id, id);
+                let nodes = book::nodes(&area);
+                let t = next(&mut rest);
+                if t != 0 {
+                    assert_eq!(t, nodes);
+                    let width = if next(&mut rest) == 0 { 6 } else { 8 };
+                    (0..t).for_each(|_| assert!(next(&mut rest) < 1 << width));
+                }
+                for _ in 0..next(&mut rest) {
+                    let number = next(&mut rest);
+                    assert!((1..=64).contains(&number) || (193..=256).contains(&number));
+                    let width = [4, 7, 10, 14][next(&mut rest) as usize];
+                    (0..nodes).for_each(|_| assert!(next(&mut rest) < 1 << width));
+                }
+                all.push((2, 0));
+            }
+            _ => {
+                assert_eq!(kind, 3);
+                let (id, reason) = (next(&mut rest), next(&mut rest));
+                assert!(id <= 255 && (1..=4).contains(&reason));
+                all.push((3, reason));
+            }
+        }
+    }
+    all
+}
+
+#[test]
+fn scenes_reach_every_answer_and_entry_and_the_joined_call_agrees() {
+    let mut rng = made_from(10);
+    let mut reached = BTreeSet::new();
+    let mut logged = BTreeSet::new();
+    let mut longest = 0;
+    for _ in 0..250 {
+        let scene = scene(&mut rng);
+        let mut desk = desk::new(scene.solution, scene.processor, scene.constellation).unwrap();
+        let mut live = lent_bytes(&mut rng, 192);
+        let mut run = lent_bytes(&mut rng, 192);
+        let (first_live, first_run) = (live.clone(), run.clone());
+        let mut log = lent_bytes(&mut rng, 4096);
+        // desk alone, frame by frame
+        for frame in &scene.frames {
+            let (before_live, before_run, as_lent) = (live.clone(), run.clone(), log.clone());
+            let result = desk::take(&desk, frame, &mut live, &mut run, &mut log);
+            reached.insert(number(&result));
+            match result {
+                Err(_) => {
+                    assert_eq!((&live, &run, &log), (&before_live, &before_run, &as_lent));
+                }
+                Ok(taken) => {
+                    desk = taken.desk;
+                    assert!(desk::sound(&desk, &live, &run));
+                    assert_eq!(log[taken.logged..], as_lent[taken.logged..]);
+                    logged.extend(entries(&log[..taken.logged]));
+                    longest = longest.max(taken.logged);
+                    let held = 6 * desk.live.count as usize;
+                    assert_eq!(live[held..], before_live[held..]);
+                    if let Some(open) = desk.run {
+                        let held = 6 * open.book.count as usize;
+                        assert_eq!(run[held..], before_run[held..]);
+                    }
+                }
+            }
+            let id = rng.below(256);
+            let (of, part) = desk::look_up(&desk, &live, &run, AreaId(id));
+            let bytes = if of == Of::Live { &live } else { &run };
+            assert!(part.is_empty() || bytes[part.start] as u64 == id);
+        }
+        // stream and desk apart, over the uncut scan
+        let input = joined(&mut rng, &scene.frames);
+        let mut apart = desk::new(scene.solution, scene.processor, scene.constellation).unwrap();
+        let (mut live, mut run) = (first_live.clone(), first_run.clone());
+        let mut apart_log = Vec::new();
+        let mut apart_answers = Vec::new();
+        for (event, at) in stream::scan(&input) {
+            if let Event::Frame { .. } = event {
+                let result = desk::take(&apart, &input[at..], &mut live, &mut run, &mut log);
+                apart_answers.push(number(&result));
+                if let Ok(taken) = result {
+                    apart = taken.desk;
+                    apart_log.extend_from_slice(&log[..taken.logged]);
+                }
+            }
+        }
+        // and together, cut
+        let (mut tray, mut live_2, mut run_2) = (vec![0; 1103], first_live, first_run);
+        let mut lent = Lent { tray: &mut tray, live: &mut live_2, run: &mut run_2, log: &mut log };
+        let mut state = prepare::new(scene.solution, scene.processor, scene.constellation).unwrap();
+        let mut joined_log = Vec::new();
+        let mut answers = Vec::new();
+        let mut at = 0;
+        let mut end = 0;
+        let mut cuts = cutting(&mut rng, input.len()).into_iter();
+        let mut finishing = false;
+        loop {
+            let said = if finishing {
+                prepare::finish(&state, &mut lent)
+            } else {
+                prepare::call(&state, &mut lent, &input[at..end])
+            };
+            let said = said.unwrap();
+            state = said.state;
+            at += said.used;
+            match said.event {
+                prepare::Event::Hungry => match cuts.next() {
+                    Some(cut) => end += cut,
+                    None => finishing = true,
+                },
+                prepare::Event::Done => break,
+                prepare::Event::Noise { .. } => {}
+                prepare::Event::Frame { answer, logged, .. } => {
+                    answers.push(answer);
+                    joined_log.extend_from_slice(&lent.log[..logged]);
+                }
+            }
+        }
+        assert_eq!((answers, joined_log), (apart_answers, apart_log));
+        assert_eq!((state.desk, live_2, run_2), (apart, live, run));
+    }
+    // SHORT to MESSAGE_CRC, MASK_EMPTY, FIELD, SEALED to BOOK_FULL
+    let expected: BTreeSet<u8> = [0, 1, 2, 3, 4, 5, 7, 8, 10, 11, 12, 13, 14, 15].into();
+    assert_eq!(reached, expected);
+    assert_eq!(logged, BTreeSet::from([(1, 0), (2, 0), (3, 1), (3, 2), (3, 3), (3, 4)]));
+    assert!(longest < 4096 && longest > 500, "{longest}");
+}
+
+#[test]
+fn desks_as_they_stand_and_unsound_ones() {
+    let mut rng = made_from(11);
+    let mut reached = BTreeSet::new();
+    for _ in 0..3000 {
+        let mut made = if rng.one_in(4) { unsound_table(&mut rng) } else { table(&mut rng) };
+        let frame = frame_for(&mut rng, &made);
+        let size = buffer_size(&mut rng, 4096);
+        let mut log = vec![0xA5; size];
+        let size = if rng.one_in(5) { buffer_size(&mut rng, 192) } else { made.run.len() };
+        made.run.resize(size, 0);
+        let before = made.clone();
+        let sound = desk::sound(&made.desk, &made.live, &made.run);
+        let result = desk::take(&made.desk, &frame, &mut made.live, &mut made.run, &mut log);
+        reached.insert(number(&result));
+        match result {
+            Err(_) => {
+                assert_eq!((&made.live, &made.run), (&before.live, &before.run));
+                assert!(log.iter().all(|&byte| byte == 0xA5));
+            }
+            Ok(taken) => {
+                assert!(sound && desk::sound(&taken.desk, &made.live, &made.run));
+                assert!(log[taken.logged..].iter().all(|&byte| byte == 0xA5));
+                made.desk = taken.desk;
+            }
+        }
+        for id in [0, 7, 255, rng.below(256)] {
+            let (of, part) = desk::look_up(&made.desk, &made.live, &made.run, AreaId(id));
+            assert!(part.is_empty() || part.len() == 6);
+            assert!(!part.is_empty() || of == Of::Live);
+        }
+        let whole = if rng.one_in(2) { second::generate::kept(&mut rng) } else { broken_kept(&mut rng) };
+        if let Ok(desk) = desk::take_kept(&made.desk, &whole, &mut made.live, &made.run) {
+            assert_eq!(desk.run, made.desk.run);
+            assert!(desk::sound(&desk, &made.live, &made.run));
+        }
+    }
+    assert!(reached.contains(&9) && reached.contains(&17) && reached.contains(&0));
+    let (unsound, sound) = (0..400).fold((0, 0), |(unsound, sound), _| {
+        let made = unsound_table(&mut rng);
+        match desk::sound(&made.desk, &made.live, &made.run) {
+            true => (unsound, sound + 1),
+            false => (unsound + 1, sound),
+        }
+    });
+    // with no run open a broken run's book does not count
+    assert!(unsound > 300 && sound > 0);
+}
+
+#[test]
+fn gads_on_sheets_are_taken_by_the_book() {
+    let mut rng = made_from(12);
+    let mut reached = BTreeSet::new();
+    let mut book = Book::default();
+    let mut bytes = lent_bytes(&mut rng, 192);
+    for _ in 0..3000 {
+        if rng.one_in(12) {
+            (book, bytes) = second::generate::book(&mut rng);
+        }
+        let count = rng.between(1, 5);
+        let blocks: Vec<_> = (0..count)
+            .map(|_| {
+                let id = rng.below(256);
+                let known = book::areas(&book, &bytes).unwrap();
+                match rng.below(8) {
+                    0 => area_off(&mut rng, id),
+                    1 | 2 if !known.is_empty() => rng.pick(&known),
+                    _ => area(&mut rng, id),
+                }
+            })
+            .collect();
+        let same = book.aiou.unwrap_or(3);
+        let other = rng.below(16);
+        let aiou = rng.pick(&[same, same, same, same, same, other]);
+        let sheet = gad_sheet(&mut rng, aiou, &blocks);
+        let before = bytes.clone();
+        let result = book::take(&book, &mut bytes, &sheet.codes);
+        reached.insert(number(&result));
+        match result {
+            Err(_) => assert_eq!(bytes, before),
+            Ok(then) => {
+                book = then;
+                assert!(book::sound(&book, &bytes));
+                for block in &blocks {
+                    let part = book::find(&book, &bytes, AreaId(block.id));
+                    assert_eq!(bytes[part], book::area_bytes(block));
+                }
+            }
+        }
+    }
+    assert_eq!(reached, BTreeSet::from([0, 13, 14, 15]));
+}
+
+#[test]
+fn the_same_seed_gives_the_same_inputs() {
+    for seed in [0, 1, u64::MAX] {
+        let make = |seed| {
+            let mut rng = Rng::new(seed);
+            (second::generate::stream(&mut rng), scene(&mut rng).frames, broken_kept(&mut rng))
+        };
+        assert_eq!(make(seed), make(seed));
+    }
+}

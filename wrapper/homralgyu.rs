@@ -1,0 +1,541 @@
+//! The desk's calls for Rust: slices in, `Result` out. Safe: each call hands pointer and length of a
+//! slice to the proved library, which writes inside it and nowhere else.
+//!
+//! A stream, portion by portion (`example.rs` is this as a program):
+//!
+//! ```
+//! # fn main() -> Result<(), homralgyu::Refusal> {
+//! let mut stream = homralgyu::Stream::new();
+//! let mut input: &[u8] = &[0x00, 0x73, 0x00];
+//! loop {
+//!     let (event, used) = stream.call(input)?;
+//!     input = &input[used..];
+//!     match event {
+//!         homralgyu::Event::Frame(header) => println!("frame {}", header.length),
+//!         homralgyu::Event::Noise(count) => println!("noise {count}"),
+//!         _ => break,
+//!     }
+//! }
+//! # Ok(())
+//! # }
+//! ```
+
+/// The functions of `include/homralgyu.h`, on slices of any size: what document 01 calls ROOM is theirs to say.
+pub mod raw {
+    extern "C" {
+        fn homralgyu_frame_check(
+            bytes: *const u8,
+            bytes_len: usize,
+            header: *mut u64,
+            header_len: usize,
+        ) -> u8;
+        fn homralgyu_frame_write(
+            message_type: u8,
+            check_type: u8,
+            subtype: u8,
+            tag_kind: u8,
+            tag: u64,
+            solution: u8,
+            processor: u8,
+            payload: *const u8,
+            payload_len: usize,
+            out: *mut u8,
+            out_len: usize,
+            size: *mut u64,
+            size_len: usize,
+        ) -> u8;
+        fn homralgyu_payload_judge(
+            kind: u8,
+            subtype: u8,
+            payload: *const u8,
+            payload_len: usize,
+            counts: *mut u64,
+            counts_len: usize,
+        ) -> u8;
+        fn homralgyu_payload_read(
+            kind: u8,
+            subtype: u8,
+            payload: *const u8,
+            payload_len: usize,
+            sheet: *mut u64,
+            sheet_len: usize,
+            counts: *mut u64,
+            counts_len: usize,
+        ) -> u8;
+        fn homralgyu_sheet_judge(
+            kind: u8,
+            subtype: u8,
+            sheet: *const u64,
+            sheet_len: usize,
+            counts: *mut u64,
+            counts_len: usize,
+        ) -> u8;
+        fn homralgyu_sheet_write(
+            kind: u8,
+            subtype: u8,
+            sheet: *const u64,
+            sheet_len: usize,
+            out: *mut u8,
+            out_len: usize,
+            counts: *mut u64,
+            counts_len: usize,
+        ) -> u8;
+        fn homralgyu_stream_call(
+            bytes: *mut u8,
+            bytes_len: usize,
+            tray: *mut u64,
+            tray_len: usize,
+            input: *const u8,
+            input_len: usize,
+            told: *mut u64,
+            told_len: usize,
+            header: *mut u64,
+            header_len: usize,
+        ) -> u8;
+        fn homralgyu_stream_finish(
+            bytes: *mut u8,
+            bytes_len: usize,
+            tray: *mut u64,
+            tray_len: usize,
+            told: *mut u64,
+            told_len: usize,
+            header: *mut u64,
+            header_len: usize,
+        ) -> u8;
+        fn homralgyu_book_take(
+            book: *mut u64,
+            book_len: usize,
+            bytes: *mut u8,
+            bytes_len: usize,
+            payload: *const u8,
+            payload_len: usize,
+        ) -> u8;
+        fn homralgyu_kept_write(
+            book: *const u64,
+            book_len: usize,
+            bytes: *const u8,
+            bytes_len: usize,
+            out: *mut u8,
+            out_len: usize,
+            written: *mut u64,
+            written_len: usize,
+        ) -> u8;
+        fn homralgyu_kept_read(
+            kept: *const u8,
+            kept_len: usize,
+            book: *mut u64,
+            book_len: usize,
+            bytes: *mut u8,
+            bytes_len: usize,
+        ) -> u8;
+        fn homralgyu_value(
+            sf: u16,
+            code: u64,
+            what: *mut u64,
+            what_len: usize,
+            value: *mut f64,
+            value_len: usize,
+        ) -> u8;
+        fn homralgyu_orbit(
+            radial: u64,
+            along_track: u64,
+            cross_track: u64,
+            orbit: *mut f64,
+            orbit_len: usize,
+        ) -> u8;
+    }
+
+    // Each call below hands on pointer and length of the slices that it is lent, which are valid for so long.
+
+    pub fn frame_check(bytes: &[u8], header: &mut [u64]) -> u8 {
+        unsafe { homralgyu_frame_check(bytes.as_ptr(), bytes.len(), header.as_mut_ptr(), header.len()) }
+    }
+
+    pub fn frame_write(parts: &super::Parts, payload: &[u8], out: &mut [u8], size: &mut [u64]) -> u8 {
+        unsafe {
+            homralgyu_frame_write(
+                parts.message_type,
+                parts.check_type,
+                parts.subtype,
+                parts.tag_kind,
+                parts.tag,
+                parts.solution,
+                parts.processor,
+                payload.as_ptr(),
+                payload.len(),
+                out.as_mut_ptr(),
+                out.len(),
+                size.as_mut_ptr(),
+                size.len(),
+            )
+        }
+    }
+
+    pub fn payload_judge(kind: u8, subtype: u8, payload: &[u8], counts: &mut [u64]) -> u8 {
+        unsafe {
+            homralgyu_payload_judge(
+                kind,
+                subtype,
+                payload.as_ptr(),
+                payload.len(),
+                counts.as_mut_ptr(),
+                counts.len(),
+            )
+        }
+    }
+
+    pub fn payload_read(kind: u8, subtype: u8, payload: &[u8], sheet: &mut [u64], counts: &mut [u64]) -> u8 {
+        unsafe {
+            homralgyu_payload_read(
+                kind,
+                subtype,
+                payload.as_ptr(),
+                payload.len(),
+                sheet.as_mut_ptr(),
+                sheet.len(),
+                counts.as_mut_ptr(),
+                counts.len(),
+            )
+        }
+    }
+
+    pub fn sheet_judge(kind: u8, subtype: u8, sheet: &[u64], counts: &mut [u64]) -> u8 {
+        unsafe {
+            homralgyu_sheet_judge(
+                kind,
+                subtype,
+                sheet.as_ptr(),
+                sheet.len(),
+                counts.as_mut_ptr(),
+                counts.len(),
+            )
+        }
+    }
+
+    pub fn sheet_write(kind: u8, subtype: u8, sheet: &[u64], out: &mut [u8], counts: &mut [u64]) -> u8 {
+        unsafe {
+            homralgyu_sheet_write(
+                kind,
+                subtype,
+                sheet.as_ptr(),
+                sheet.len(),
+                out.as_mut_ptr(),
+                out.len(),
+                counts.as_mut_ptr(),
+                counts.len(),
+            )
+        }
+    }
+
+    pub fn stream_call(
+        bytes: &mut [u8],
+        tray: &mut [u64],
+        input: &[u8],
+        told: &mut [u64],
+        header: &mut [u64],
+    ) -> u8 {
+        unsafe {
+            homralgyu_stream_call(
+                bytes.as_mut_ptr(),
+                bytes.len(),
+                tray.as_mut_ptr(),
+                tray.len(),
+                input.as_ptr(),
+                input.len(),
+                told.as_mut_ptr(),
+                told.len(),
+                header.as_mut_ptr(),
+                header.len(),
+            )
+        }
+    }
+
+    pub fn stream_finish(bytes: &mut [u8], tray: &mut [u64], told: &mut [u64], header: &mut [u64]) -> u8 {
+        unsafe {
+            homralgyu_stream_finish(
+                bytes.as_mut_ptr(),
+                bytes.len(),
+                tray.as_mut_ptr(),
+                tray.len(),
+                told.as_mut_ptr(),
+                told.len(),
+                header.as_mut_ptr(),
+                header.len(),
+            )
+        }
+    }
+
+    pub fn book_take(book: &mut [u64], bytes: &mut [u8], payload: &[u8]) -> u8 {
+        unsafe {
+            homralgyu_book_take(
+                book.as_mut_ptr(),
+                book.len(),
+                bytes.as_mut_ptr(),
+                bytes.len(),
+                payload.as_ptr(),
+                payload.len(),
+            )
+        }
+    }
+
+    pub fn kept_write(book: &[u64], bytes: &[u8], out: &mut [u8], written: &mut [u64]) -> u8 {
+        unsafe {
+            homralgyu_kept_write(
+                book.as_ptr(),
+                book.len(),
+                bytes.as_ptr(),
+                bytes.len(),
+                out.as_mut_ptr(),
+                out.len(),
+                written.as_mut_ptr(),
+                written.len(),
+            )
+        }
+    }
+
+    pub fn kept_read(kept: &[u8], book: &mut [u64], bytes: &mut [u8]) -> u8 {
+        unsafe {
+            homralgyu_kept_read(
+                kept.as_ptr(),
+                kept.len(),
+                book.as_mut_ptr(),
+                book.len(),
+                bytes.as_mut_ptr(),
+                bytes.len(),
+            )
+        }
+    }
+
+    pub fn value(sf: u16, code: u64, what: &mut [u64], value: &mut [f64]) -> u8 {
+        unsafe { homralgyu_value(sf, code, what.as_mut_ptr(), what.len(), value.as_mut_ptr(), value.len()) }
+    }
+
+    pub fn orbit(radial: u64, along_track: u64, cross_track: u64, orbit: &mut [f64]) -> u8 {
+        unsafe { homralgyu_orbit(radial, along_track, cross_track, orbit.as_mut_ptr(), orbit.len()) }
+    }
+}
+
+/// A refusal by its number in document 01, 1 to 18.
+#[derive(Clone, Copy, PartialEq, Eq, Debug)]
+pub struct Refusal(pub u8);
+
+fn answer<T>(number: u8, value: T) -> Result<T, Refusal> {
+    if number == 0 {
+        Ok(value)
+    } else {
+        Err(Refusal(number))
+    }
+}
+
+/// TF002, TF005, TF007 to TF011 of a plain frame.
+#[derive(Clone, Copy, PartialEq, Eq, Debug)]
+pub struct Parts {
+    pub message_type: u8,
+    pub check_type: u8,
+    pub subtype: u8,
+    pub tag_kind: u8,
+    pub tag: u64,
+    pub solution: u8,
+    pub processor: u8,
+}
+
+/// The header of an accepted frame.
+#[derive(Clone, Copy, PartialEq, Eq, Debug)]
+pub struct Header {
+    pub length: usize,
+    pub parts: Parts,
+    /// TF012 to TF015 of a sealed frame
+    pub sealing: Option<[u8; 4]>,
+    pub payload_at: usize,
+    pub payload_length: usize,
+}
+
+fn header_of(n: &[u64; 15]) -> Header {
+    Header {
+        length: n[0] as usize,
+        parts: Parts {
+            message_type: n[1] as u8,
+            check_type: n[4] as u8,
+            subtype: n[5] as u8,
+            tag_kind: n[6] as u8,
+            tag: n[7],
+            solution: n[8] as u8,
+            processor: n[9] as u8,
+        },
+        sealing: (n[3] == 1).then_some([n[10] as u8, n[11] as u8, n[12] as u8, n[13] as u8]),
+        payload_at: n[14] as usize,
+        payload_length: n[2] as usize,
+    }
+}
+
+/// Checks the frame that lies first in the bytes.
+pub fn check(bytes: &[u8]) -> Result<Header, Refusal> {
+    let mut header = [0; 15];
+    answer(raw::frame_check(bytes, &mut header), ()).map(|()| header_of(&header))
+}
+
+/// The frame's header and its payload as a part of the bytes.
+pub fn open(bytes: &[u8]) -> Result<(Header, &[u8]), Refusal> {
+    let header = check(bytes)?;
+    Ok((header, &bytes[header.payload_at..header.payload_at + header.payload_length]))
+}
+
+/// Writes a plain frame into `out`, which has 1,103 bytes or more: the frame's length.
+pub fn write(parts: &Parts, payload: &[u8], out: &mut [u8]) -> Result<usize, Refusal> {
+    let mut size = [0];
+    answer(raw::frame_write(parts, payload, out, &mut size), ()).map(|()| size[0] as usize)
+}
+
+/// Reads a payload into a sheet of 8,184 entries or more: the bits read and the entries written.
+pub fn read_payload(
+    kind: u8,
+    subtype: u8,
+    payload: &[u8],
+    sheet: &mut [u64],
+) -> Result<(usize, usize), Refusal> {
+    let mut counts = [0; 2];
+    answer(raw::payload_read(kind, subtype, payload, sheet, &mut counts), ())
+        .map(|()| (counts[0] as usize, counts[1] as usize))
+}
+
+/// Writes a sheet as a payload into 1,023 bytes or more: the bits and the bytes written.
+pub fn write_sheet(kind: u8, subtype: u8, sheet: &[u64], out: &mut [u8]) -> Result<(usize, usize), Refusal> {
+    let mut counts = [0; 2];
+    answer(raw::sheet_write(kind, subtype, sheet, out, &mut counts), ())
+        .map(|()| (counts[0] as usize, counts[1] as usize))
+}
+
+/// What a field's code means.
+#[derive(Clone, Copy, PartialEq, Debug)]
+pub enum Value {
+    Invalid,
+    Metres(f64),
+    Degrees(f64),
+    Tecu(f64),
+    Coefficient(f64),
+    Count(u64),
+}
+
+/// What a code of a field, SF020 by its number 20, means in its unit.
+pub fn value(sf: u16, code: u64) -> Result<Value, Refusal> {
+    let (mut what, mut value) = ([0; 2], [0.0]);
+    answer(raw::value(sf, code, &mut what, &mut value), ())?;
+    Ok(match what[0] {
+        1 => Value::Metres(value[0]),
+        2 => Value::Degrees(value[0]),
+        3 => Value::Tecu(value[0]),
+        4 => Value::Coefficient(value[0]),
+        5 => Value::Count(what[1]),
+        _ => Value::Invalid,
+    })
+}
+
+/// The orbit corrections in metres: radial, along-track, cross-track.
+pub fn orbit(radial: u64, along_track: u64, cross_track: u64) -> Result<[f64; 3], Refusal> {
+    let mut orbit = [0.0; 3];
+    answer(raw::orbit(radial, along_track, cross_track, &mut orbit), orbit).map(|_| orbit)
+}
+
+/// What a stream says.
+#[derive(Clone, Copy, PartialEq, Eq, Debug)]
+pub enum Event {
+    /// all input is used and nothing is due
+    Hungry,
+    /// a frame, the bytes of `Stream::frame`
+    Frame(Header),
+    /// so many bytes of noise
+    Noise(u64),
+    /// after the end of the stream: all is told
+    Done,
+}
+
+/// A stream's tray.
+#[derive(Clone, Debug)]
+pub struct Stream {
+    bytes: [u8; 1103],
+    tray: [u64; 3],
+}
+
+impl Default for Stream {
+    fn default() -> Self {
+        Self::new()
+    }
+}
+
+impl Stream {
+    pub fn new() -> Stream {
+        Stream { bytes: [0; 1103], tray: [0; 3] }
+    }
+
+    /// Takes input until an event is due or all of it is used: the event, and how many bytes were used.
+    pub fn call(&mut self, input: &[u8]) -> Result<(Event, usize), Refusal> {
+        let (mut told, mut header) = ([0; 3], [0; 15]);
+        let number = raw::stream_call(&mut self.bytes, &mut self.tray, input, &mut told, &mut header);
+        answer(number, ()).map(|()| (event(&told, &header), told[1] as usize))
+    }
+
+    /// The stream has ended; called until it says done.
+    pub fn finish(&mut self) -> Result<Event, Refusal> {
+        let (mut told, mut header) = ([0; 3], [0; 15]);
+        let number = raw::stream_finish(&mut self.bytes, &mut self.tray, &mut told, &mut header);
+        answer(number, ()).map(|()| event(&told, &header))
+    }
+
+    /// The frame that was told last, while no other call was made.
+    pub fn frame(&self) -> &[u8] {
+        &self.bytes[..self.tray[1] as usize]
+    }
+}
+
+fn event(told: &[u64; 3], header: &[u64; 15]) -> Event {
+    match told[0] {
+        0 => Event::Hungry,
+        1 => Event::Frame(header_of(header)),
+        2 => Event::Noise(told[2]),
+        _ => Event::Done,
+    }
+}
+
+/// An area book: AIOU, count and the areas' bytes.
+#[derive(Clone, Debug)]
+pub struct Book {
+    numbers: [u64; 2],
+    bytes: [u8; 192],
+}
+
+impl Default for Book {
+    fn default() -> Self {
+        Self::new()
+    }
+}
+
+impl Book {
+    /// an empty book
+    pub fn new() -> Book {
+        Book { numbers: [0; 2], bytes: [0; 192] }
+    }
+
+    /// Takes a GAD payload, whole or not at all.
+    pub fn take(&mut self, payload: &[u8]) -> Result<(), Refusal> {
+        answer(raw::book_take(&mut self.numbers, &mut self.bytes, payload), ())
+    }
+
+    /// The areas, six bytes each, ascending by ID.
+    pub fn areas(&self) -> &[u8] {
+        &self.bytes[..6 * self.numbers[1] as usize]
+    }
+
+    /// Writes the book as a kept book into 227 bytes or more: the bytes written.
+    pub fn keep(&self, out: &mut [u8]) -> Result<usize, Refusal> {
+        let mut written = [0];
+        answer(raw::kept_write(&self.numbers, &self.bytes, out, &mut written), ())
+            .map(|()| written[0] as usize)
+    }
+
+    /// The book that a kept book holds.
+    pub fn kept(kept: &[u8]) -> Result<Book, Refusal> {
+        let mut book = Book::new();
+        answer(raw::kept_read(kept, &mut book.numbers, &mut book.bytes), ())?;
+        Ok(book)
+    }
+}
