@@ -3,13 +3,15 @@
 use mathlib.Core.Path.{_≡_, refl, ap, ap₂, sym, _∙_, subst}
 use mathlib.Core.Bool.{Bool, true, false, cond, _&&_}
 use mathlib.Core.List.{List, [], _∷_, _++_}
-use Prim.Native.Nat.{ℕ, _≤_}
+use Prim.Native.Nat.{ℕ, _*_, _≤_}
 use native.Mathlib.Omega.{arith}
-use lib.ListN.{length}
-use borrow.Author.Tests.{lt-ltb, le-leb}
+use lib.Dec.{ltb}
+use lib.ListN.{length, take, drop}
+use borrow.Author.Tests.{lt-ltb, le-leb, le-ltb}
 use Rattle.area.specs.declared.AreaId.{AreaId}
 use Rattle.hpac.specs.Hpac.{Area, Hpac}
-use Rattle.book.specs.Book.{bookBytes, headSound, areasSound, sound, found}
+use Rattle.book.specs.Book.{bookBytes, headSound, areasSound, sound, isHeld, placeOf, found}
+use Rattle.book.specs.Laws.{sound-room}
 use Rattle.book.specs.declared.Book.{Book}
 use Rattle.log.specs.Log.{joined, opened, areaId, bitsFor, reasonFor, reasonOf, troposphereSaid, ionosphereSaid, entryOf, logOf}
 use Rattle.answer.specs.declared.Refusal.the-variants.{Field}
@@ -18,6 +20,7 @@ use Rattle.message.specs.declared.Subtype.{Subtype}
 use Rattle.message.specs.declared.Subtype.the-variants as subtype
 use Rattle.desk.specs.Desk.{tags, sourceInRange, noBook, madeFor, newDesk, deskSound}
 use Rattle.desk.specs.Take.{Verdict, refused, defines, continues, opens, copied, deskBy}
+use Rattle.desk.specs.Lookup.{inRun, nowhere, spotOf, bytesAt}
 use Rattle.desk.specs.Copied.{copied-sound, copied-found}
 use Rattle.desk.specs.Fits.{sound-source, sound-live, sound-run, Fits, new-areas, same-run, new-run, fits, fits-kept}
 use Rattle.desk.specs.History.{Held, Given, frameWith, keptBook, verdictOn, heldBy, entriesOf, Snapshot, openingBy, Course, onward, along, toldBy}
@@ -89,7 +92,7 @@ pub data Kept (run : List ℕ) (opening : Snapshot) : Run → Type 0 where
 abbrev pub KeptOn : Course → Type 0
 KeptOn course = Kept (course .held .run) (course .opening) (course .held .desk .run)
 
-stays-kept : (course : Course) (given : Given) → KeptOn course → KeptOn (onward course given)
+pub stays-kept : (course : Course) (given : Given) → KeptOn course → KeptOn (onward course given)
 stays-kept course given k = go (verdictOn held given) (fits-on held given)
   where
     held : Held
@@ -107,10 +110,11 @@ unfolding along
 always-kept course [] k = k
 always-kept course (given ∷ rest) k = always-kept (onward course given) rest (stays-kept course given k)
 
-kept-from : (start : Course) → start .held .desk .run ≡ Closed → (before : List Given) → KeptOn (along start before)
-kept-from start e before = always-kept start before (subst (λ r. Kept (start .held .run) (start .opening) r) (sym e) closed)
+-- where no run is open there is nothing to ask: a new desk may start with any `opening`
+pub closed-kept : (start : Course) → start .held .desk .run ≡ Closed → KeptOn start
+closed-kept start e = subst (λ r. Kept (start .held .run) (start .opening) r) (sym e) closed
 
-told : (course : Course) (given : Given) → KeptOn course
+pub told : (course : Course) (given : Given) → KeptOn course
     → entriesOf (course .held) (verdictOn (course .held) given) ≡ toldBy (onward course given .opening) (verdictOn (course .held) given)
 told course given k = go (verdictOn held given) (fits-on held given)
   where
@@ -134,12 +138,12 @@ told course given k = go (verdictOn held given) (fits-on held given)
         (log-same (held .desk .book) (copied (held .desk .book) (held .live) (held .run)) (held .live)
         (copied-found (held .desk .book) (held .live) (held .run) (sound-live (held .desk) (held .live) (held .run) (r .state)) (r .room)) message)
 
--- For a desk without an open run, as a new one is, whatever its books hold and whatever frames and kept books it is given: what any frame then adds to the run
--- log is the log of its message by the live book as it was when the message's run was opened.
-pub which-definition : (start : Course) → start .held .desk .run ≡ Closed → (before : List Given) (given : Given)
+-- For a desk without an open run, as a new one is (`closed-kept`), or whose open run was opened by the book beside it, whatever its books hold and whatever frames and
+-- kept books it is given: what any frame then adds to the run log is the log of its message by the live book as it was when the message's run was opened.
+pub which-definition : (start : Course) → KeptOn start → (before : List Given) (given : Given)
     → entriesOf (along start before .held) (verdictOn (along start before .held) given)
     ≡ toldBy (onward (along start before) given .opening) (verdictOn (along start before .held) given)
-which-definition start e before given = told (along start before) given (kept-from start e before)
+which-definition start k before given = told (along start before) given (always-kept start before k)
 
 -- In it an area is placed, entry 2, with the 47 bits that its ID has in that book.
 pub placed-with : (opening : Snapshot) (aiou : ℕ) (x : Area) → reasonOf (opening .book) (opening .bytes) aiou x ≡ 0
@@ -173,21 +177,21 @@ opening-stays course (given ∷ rest) (more e n) = opening-stays (onward course 
 
 -- Once a frame has opened a run, and as long as no other run is opened, every message of the run is told by the live book as it was before that frame, whatever
 -- GADs and kept books came since.
-pub never-mixes : (start : Course) → start .held .desk .run ≡ Closed → (before : List Given) (first : Given) (tag : ℕ) (opener : Hpac)
+pub never-mixes : (start : Course) → KeptOn start → (before : List Given) (first : Given) (tag : ℕ) (opener : Hpac)
     → verdictOn (along start before .held) first ≡ opens tag opener
     → (since : List Given) → NoneOpens (onward (along start before) first) since
     → (given : Given) (book : Book) (message : Hpac) → verdictOn (along (onward (along start before) first) since .held) given ≡ continues book message
     → entriesOf (along (onward (along start before) first) since .held) (continues book message)
     ≡ logOf (along start before .held .desk .book) (along start before .held .live) message
-never-mixes start e before first tag opener o since n given book message q =
+never-mixes start s before first tag opener o since n given book message q =
     let course : Course = along start before in
     let later : Course = along (onward course first) since in
-    let k : KeptOn later = always-kept (onward course first) since (stays-kept course first (kept-from start e before)) in
+    let k : KeptOn later = always-kept (onward course first) since (stays-kept course first (always-kept start before s)) in
     let t : entriesOf (later .held) (continues book message) ≡ logOf (later .opening .book) (later .opening .bytes) message
     = subst (λ v. entriesOf (later .held) v ≡ toldBy (openingBy (later .held) (later .opening) v) v) q (told later given k) in
-    let s : later .opening ≡ record { book = course .held .desk .book; bytes = course .held .live }
+    let m : later .opening ≡ record { book = course .held .desk .book; bytes = course .held .live }
     = opening-stays (onward course first) since n ∙ ap (openingBy (course .held) (course .opening)) o in
-    t ∙ ap (λ x. logOf (x .book) (x .bytes) message) s
+    t ∙ ap (λ x. logOf (x .book) (x .bytes) message) m
 
 -- ---- a GAD changes no later entry of the open run
 
@@ -201,3 +205,18 @@ gad-changes-no-entry held given book bytes e frame log runBook message q = let f
   where
     after-sound : Fits (held .desk) (held .live) (held .run) (defines book bytes) → deskSound (deskBy (held .desk) (defines book bytes)) bytes (held .run) ≡ true
     after-sound (new-areas r w) = subst (λ v. heldSound (heldBy held v) ≡ true) e (stays-sound held given (r .state))
+
+-- ---- what the log places is what the lookup shows
+
+-- While a run is open, looking up an area gives the six bytes that its ID has in the run's book: those that `bitsFor` and reason 3 ask.
+pub looks-up : (desk : Desk) (live run : List ℕ) (tag : ℕ) (book : Book) → deskSound desk live run ≡ true → bookBytes ≤ length run → desk .run ≡ Open tag book
+    → (id : AreaId) → bytesAt live run (spotOf desk live run id) ≡ found book run id
+unfolding spotOf found
+looks-up desk live run tag book e h o id =
+    let l : ltb (length live) 192 ≡ false = le-ltb (length live) 192 (sound-room (desk .book) live (sound-live desk live run e)) in
+    let r : ltb (length run) 192 ≡ false = le-ltb (length run) 192 h in
+    rw (l, r, e, o) (go (isHeld book run id))
+  where
+    go : (b : Bool) → bytesAt live run (cond b (inRun (6 * placeOf (id .0) (book .count) run)) nowhere) ≡ cond b (take 6 (drop (6 * placeOf (id .0) (book .count) run) run)) []
+    go true = refl
+    go false = refl

@@ -20,3 +20,8 @@ unfoldable pub placedLog : desk.Held → desk.Snapshot → List Event → List �
 placedLog books opening [] = []
 placedLog books opening (event ∷ events) =
     entriesUnder (openingAfter books opening event) books event ++ placedLog (booksAfter books event) (openingAfter books opening event) events
+
+-- that live book once a whole stream is told
+unfoldable pub openingAll : desk.Held → desk.Snapshot → List Event → desk.Snapshot
+openingAll books opening [] = opening
+openingAll books opening (event ∷ events) = openingAll (booksAfter books event) (openingAfter books opening event) events

@@ -35,7 +35,7 @@ abbrev pub given : (bytes : List ℕ) → Given
 given bytes = frameWith bytes someLog
 
 -- past ROOM and STATE the desk's own definition of taking a frame is what it makes of the frame
-verdict-past : (books : Held) → Sound books → (bytes log : List ℕ) → desk.logRoom ≤ length log
+pub verdict-past : (books : Held) → Sound books → (bytes log : List ℕ) → desk.logRoom ≤ length log
     → desk.verdict (books .desk) bytes (books .live) (books .run) log ≡ verdictOn books bytes
 unfolding verdictOn desk.verdict
 verdict-past books s bytes log h =

@@ -1,27 +1,32 @@
 -- The theorems of stream and desk together, worded after the demand: "A byte stream cut into portions anywhere, some empty, gives the frames, noise counts,
 -- run log and closing state that document 01 lays down for the uncut stream. Each residual is placed by the area definition in force when its run opened."
 -- They are about the definitions that the contracts of `call` and `finish` cite. The proofs rest on Driving.antt, Placing.antt and the theorems of stream and desk.
-use mathlib.Core.Path.{_≡_, sym, ap, ap₂, _∙_}
+use mathlib.Core.Path.{_≡_, refl, sym, ap, ap₂, _∙_, subst}
 use mathlib.Core.List.{List, [], _∷_, _++_, append-assoc, append-nil, flatten}
 use Prim.Native.Nat.{ℕ, _≤_}
 use native.Mathlib.Omega.{arith}
 use lib.ListN.{length, replicate, length-replicate}
-use Rattle.stream.specs.Scan.{scan}
+use Rattle.groups.specs.Groups.{groupsOfAll}
+use Rattle.frame.specs.declared.Frame.{Frame}
+use Rattle.stream.specs.Scan.{frame, scan}
+use Rattle.stream.specs.Tray.{Outcome, refused, told, hungry, done}
+use Rattle.stream.specs.declared.Tray.{Tray}
 use Rattle.stream.specs.Driver as streaming
 use Rattle.stream.specs.Theorems as stream
+use Rattle.desk.specs.Take as desk
 use Rattle.desk.specs.Take.{logRoom}
-use Rattle.desk.specs.History.{Held, Snapshot}
+use Rattle.desk.specs.History.{Held, Snapshot, heldBy}
 use Rattle.desk.specs.declared.Desk.{Desk}
-use Rattle.desk.specs.declared.Run.the-variants.{Closed}
 use Rattle.desk.specs.declared.NewDesk.the-variants.{Made}
 use Rattle.desk.specs.Desk.{newDesk}
-use Rattle.desk.specs.Theorems.{new-sound}
+use Rattle.desk.specs.Theorems.{new-sound, KeptOn, closed-kept}
 use Rattle.book.specs.Book.{bookBytes}
-use Rattle.prepare.specs.Uncut.{Told, toldAll, booksAll, runLog, uncutTold, uncutLog, uncutBooks}
-use Rattle.prepare.specs.Driver.{State, Sound, Feeds, start, Whole}
-use Rattle.prepare.specs.Placed.{placedLog}
-use Rattle.prepare.specs.Placing.{placed}
-use Rattle.prepare.specs.Stays.{new-closed}
+use Rattle.prepare.specs.Uncut.{Told, verdictOn, toldBy, toldOf, booksAfter, toldAll, booksAll, entriesOf, runLog, uncutTold, uncutLog, uncutBooks}
+use Rattle.prepare.specs.Prepare.{callOutcome, finishOutcome, answerOf, booksOf, written, booksIn, callAnswer, callBytes, callLive, callRun, finishAnswer, finishBytes, finishLive, finishRun}
+use Rattle.prepare.specs.Driver.{State, Sound, callLeaves, finishLeaves, Feeds, start, Whole}
+use Rattle.prepare.specs.Placed.{placedLog, openingAll}
+use Rattle.prepare.specs.Placing.{placed, still-kept}
+use Rattle.prepare.specs.Stays.{verdict-past, new-closed}
 use Rattle.prepare.specs.Driving.{Ready, feeds-so, feeds-ready, closes-so, so-feeds, so-closes, told-append, books-append, log-append}
 
 one : (l : List ℕ) → flatten (l ∷ []) ≡ l
@@ -93,12 +98,18 @@ module _ {bytes : List ℕ} {books : Held} (clear : streaming.Clear bytes) (soun
       = ap (uncutTold books) (sym (one (flatten portions ++ more))) ∙ sym (prepared w .0) ∙ ap (λ us. us ++ w .after) (p .1) ∙ append-assoc ts (p .0) (w .after) in
       (p .0 ++ w .after, e, ap runLog e ∙ log-append ts (p .0 ++ w .after))
 
-  -- Each residual is placed by the area definition in force when its run opened: from a desk without an open run, the run log, however the stream is cut, is the one in
-  -- which each message is told by the live book as it was at the moment when its run opened (`opening` is never asked before a run opens). In it an area is placed
-  -- with the 47 bits that its ID has in that book: `placed-with` of the desk.
-  pub in-force : books .desk .run ≡ Closed → (opening : Snapshot) {portions : List (List ℕ)} (w : Whole bytes books portions)
-      → runLog (w .before ++ w .after) ≡ placedLog books opening (scan (flatten portions))
-  in-force e opening {portions} w = prepared w .1 ∙ placed books sound e opening (scan (flatten portions))
+  -- Each residual is placed by the area definition in force when its run opened: the run log, however the stream is cut, is the one in which each message is told
+  -- by the live book as it was at the moment when its run opened. In it an area is placed with the 47 bits that its ID has in that book: `placed-with` of the desk.
+  -- `opening` is that moment's live book of the run that is open at the start; without an open run it is never asked, and any will do (`fresh-kept`). The closing desk
+  -- keeps to the same, so that a further stream may follow.
+  pub in-force : (opening : Snapshot) → KeptOn (record { held = books; opening = opening }) → {portions : List (List ℕ)} (w : Whole bytes books portions)
+      → (runLog (w .before ++ w .after) ≡ placedLog books opening (scan (flatten portions)))
+      × KeptOn (record { held = w .end .books; opening = openingAll books opening (scan (flatten portions)) })
+  in-force opening k {portions} w = (
+    prepared w .1 ∙ placed (record { held = books; opening = opening }) sound k (scan (flatten portions)),
+    subst (λ held. KeptOn (record { held = held; opening = openingAll books opening (scan (flatten portions)) })) (sym (ap (λ s. s .books) (prepared w .2)))
+        (still-kept (record { held = books; opening = opening }) sound k (scan (flatten portions))),
+  )
 
 -- A sound state stays sound: so it is before finish, whatever the portions were.
 pub stays-sound : {bytes : List ℕ} {books : Held} → streaming.Clear bytes → Sound books → {portions : List (List ℕ)} {ts : List Told} {s : State}
@@ -106,9 +117,64 @@ pub stays-sound : {bytes : List ℕ} {books : Held} → streaming.Clear bytes �
 stays-sound clear sound f = let r = feeds-ready f (ready clear sound) in (r .tray-ready, r .books-sound)
 
 -- A fresh desk may start: a new one, with any bytes that have room for its books.
-pub fresh-sound : (solution processor constellation : ℕ) (desk : Desk) → newDesk solution processor constellation ≡ Made desk → (live run : List ℕ)
-    → bookBytes ≤ length live → bookBytes ≤ length run → (Sound (record { desk = desk; live = live; run = run })) × (desk .run ≡ Closed)
-fresh-sound solution processor constellation desk e live run hl hr = (
-  record { live-room = hl; run-room = hr; is-sound = new-sound solution processor constellation desk live run e hl },
-  new-closed solution processor constellation desk e,
-)
+module _ (solution processor constellation : ℕ) (desk : Desk) (e : newDesk solution processor constellation ≡ Made desk) (live run : List ℕ) where
+  pub fresh-sound : bookBytes ≤ length live → bookBytes ≤ length run → Sound (booksIn desk live run)
+  fresh-sound hl hr = record { live-room = hl; run-room = hr; is-sound = new-sound solution processor constellation desk live run e hl }
+
+  pub fresh-kept : (opening : Snapshot) → KeptOn (record { held = booksIn desk live run; opening = opening })
+  fresh-kept opening = closed-kept (record { held = booksIn desk live run; opening = opening }) (new-closed solution processor constellation desk e)
+
+-- ---- what these theorems carry from call to call is what the contracts hand back
+
+handed-back : (tray : Tray) (books : Held) (o : Outcome) → booksIn (answerOf tray books o .desk) (booksOf books o .live) (booksOf books o .run) ≡ booksOf books o
+handed-back tray books (refused why) = refl
+handed-back tray books (told event contents used) = refl
+handed-back tray books (hungry contents used) = refl
+handed-back tray books (done contents) = refl
+
+module _ (bytes : List ℕ) (tray : Tray) (desk : Desk) (live run log : List ℕ) where
+  abbrev state : State
+  state = record { bytes = bytes; tray = tray; books = booksIn desk live run }
+
+  -- The state after a call: its tray's bytes, the tray and the desk of its answer, and both books.
+  pub call-hands-back : (input : List ℕ) → callLeaves state log input
+      ≡ record {
+        bytes = callBytes bytes tray desk live run log input;
+        tray = callAnswer bytes tray desk live run log input .tray;
+        books = booksIn (callAnswer bytes tray desk live run log input .desk) (callLive bytes tray desk live run log input) (callRun bytes tray desk live run log input);
+      }
+  call-hands-back input =
+      ap (λ held. record { bytes = callBytes bytes tray desk live run log input; tray = callAnswer bytes tray desk live run log input .tray; books = held })
+      (sym (handed-back tray (booksIn desk live run) (callOutcome bytes tray (booksIn desk live run) log input)))
+
+  pub finish-hands-back : finishLeaves state log
+      ≡ record {
+        bytes = finishBytes bytes tray desk live run log;
+        tray = finishAnswer bytes tray desk live run log .tray;
+        books = booksIn (finishAnswer bytes tray desk live run log .desk) (finishLive bytes tray desk live run log) (finishRun bytes tray desk live run log);
+      }
+  finish-hands-back =
+      ap (λ held. record { bytes = finishBytes bytes tray desk live run log; tray = finishAnswer bytes tray desk live run log .tray; books = held })
+      (sym (handed-back tray (booksIn desk live run) (finishOutcome bytes tray (booksIn desk live run) log)))
+
+-- ---- "Each frame event goes to the desk in order": the uncut stream's step is what `desk::take` says of the frame's bytes, lent any log that has room
+
+module _ (books : Held) (sound : Sound books) (header : Frame) (bytes log : List ℕ) (room : logRoom ≤ length log) where
+  now-is : desk.verdict (books .desk) bytes (books .live) (books .run) log ≡ verdictOn books bytes
+  now-is = verdict-past books sound bytes log room
+
+  pub books-by-take : booksAfter books (frame header bytes)
+      ≡ booksIn (desk.frameTaken (books .desk) bytes (books .live) (books .run) log .desk) (desk.liveAfter (books .desk) bytes (books .live) (books .run) log)
+      (desk.runAfter (books .desk) bytes (books .live) (books .run) log)
+  unfolding desk.frameTaken desk.liveAfter desk.runAfter
+  books-by-take = ap (heldBy books) (sym now-is)
+
+  pub log-by-take : written (entriesOf (toldOf books (frame header bytes))) log ≡ desk.logAfter (books .desk) bytes (books .live) (books .run) log
+  unfolding desk.logAfter desk.loggedBy groupsOfAll
+  log-by-take = go (verdictOn books bytes) ∙ ap (desk.logBy (books .desk) (books .live) (books .run) log) (sym now-is)
+    where
+      go : (v : desk.Verdict) → written (entriesOf (toldBy books header bytes v)) log ≡ desk.logBy (books .desk) (books .live) (books .run) log v
+      go (desk.refused why) = refl
+      go (desk.defines book live) = refl
+      go (desk.continues book message) = refl
+      go (desk.opens tag message) = refl
