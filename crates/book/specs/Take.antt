@@ -78,7 +78,7 @@ takeAll (a ∷ blocks) l = andThen (takeBlock a l) (λ l. takeAll blocks l)
 unfoldable pub before : Book → List ℕ → ℕ → List ℕ
 before book s aiou = cond (eqb (book .«aiou_plus_one») (aiou + 1)) (areasIn (book .count) s) []
 
--- "LENGTH: payload of 0 or over 1,023 bytes"
+-- LENGTH: "payload of 0 or over 1,023 bytes"
 abbrev pub mostPayload : ℕ
 mostPayload = 1023
 

@@ -56,7 +56,7 @@ unfoldable pub along : Course → List Given → Course
 along course [] = course
 along course (given ∷ rest) = along (onward course given) rest
 
--- the log of a message by a live book: "1, tag, AIOU + 1, count of areas" if it opens the run, then an entry 2 or 3 for each area
+-- the log of a message by a live book: "1, tag, AIOU + 1 (0 without a book), count of areas" if it opens the run, then an entry 2 or 3 for each area
 abbrev pub toldBy : Snapshot → Verdict → List ℕ
 toldBy opening (refused why) = []
 toldBy opening (defines book bytes) = []

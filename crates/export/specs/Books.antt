@@ -18,7 +18,7 @@ use Rattle.export.specs.Numbers.{Told, refused, atMost}
 abbrev pub bookRoom : ℕ
 bookRoom = 2
 
--- AIOU and count. "Numbers that a flag makes meaningless (.. the AIOU of an empty book) do not count." An AIOU over 15 is not sound, whatever it is.
+-- AIOU and count. Numbers that a flag makes meaningless, as the AIOU of an empty book, do not count (DECISIONS). An AIOU over 15 is not sound, whatever it is.
 unfoldable pub bookIn : List ℕ → Book
 bookIn s =
     cond (eqb (getD s 1 0) 0)

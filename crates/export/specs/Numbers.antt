@@ -12,7 +12,7 @@ pub record Told : Type 0 where
   pub number : ℕ
   pub numbers : List ℕ
 
--- "All counts beside a refusal are 0": none is told
+-- all counts beside a refusal are 0 (DECISIONS): none is told
 abbrev pub refused : Refusal → Told
 refused refusal = record { number = numberOf refusal; numbers = [] }
 

@@ -17,7 +17,7 @@ trayRoom = 3
 abbrev pub toldRoom : ℕ
 toldRoom = 3
 
--- "Where several buffers are lent, any one short is ROOM"
+-- where several buffers are lent, any one short is ROOM (DECISIONS)
 unfoldable pub rooms : {A : Type 0} → (tray told header : List ℕ) → A → A → A
 rooms tray told header short rest = roomFor trayRoom tray short (roomFor toldRoom told short (roomFor headerRoom header short rest))
 

@@ -1,4 +1,5 @@
--- Definitions to believe: how a stream is prepared: each portion is handed over until the call says hungry, and then finish is called until it says done. Each call is lent a log of its own choice.
+-- Definitions to believe: how a stream is prepared: each portion is handed over until the call says hungry, or until all of it is used, and then finish is called until it says done.
+-- Each call is lent a log of its own choice.
 use mathlib.Core.Path.{_≡_}
 use mathlib.Core.Bool.{true}
 use mathlib.Core.List.{List, [], _∷_}
@@ -6,6 +7,7 @@ use Prim.Native.Nat.{ℕ, _≤_}
 use lib.ListN.{length, take, drop}
 use Rattle.stream.specs.declared.Tray.{Tray}
 use Rattle.stream.specs.Tray.{freshTray, bytesOf}
+use Rattle.stream.specs.Driver.{Caller, GoesOn}
 use Rattle.book.specs.Book.{bookBytes}
 use Rattle.desk.specs.Desk.{deskSound}
 use Rattle.desk.specs.Take.{logRoom}
@@ -67,17 +69,18 @@ Tells said.Hungry written bytes log told = ⊥
 Tells said.Done written bytes log told = ⊥
 Tells (said.Refused why) written bytes log told = ⊥
 
--- `Feeds s portions told s₁`: the calls on the portions tell this and leave that state
-pub data Feeds : State → List (List ℕ) → List Told → State → Type 0 where
-  no-more : {s : State} → Feeds s [] [] s
+-- `Feeds caller s portions told s₁`: the calls on the portions tell this and leave that state; as the stream's
+pub data Feeds (c : Caller) : State → List (List ℕ) → List Told → State → Type 0 where
+  no-more : {s : State} → Feeds c s [] [] s
   an-event : {s s₁ : State} {p : List ℕ} {ps : List (List ℕ)} {t : Told} {ts : List Told} (log : List ℕ) → logRoom ≤ length log
       → Tells (callSays s log p .said) (callSays s log p .log) (callLeaves s log p .bytes) (callLogs s log p) t
-      → Feeds (callLeaves s log p) (drop (callSays s log p .used) p ∷ ps) ts s₁
-      → Feeds s (p ∷ ps) (t ∷ ts) s₁
+      → Feeds c (callLeaves s log p) (drop (callSays s log p .used) p ∷ ps) ts s₁
+      → Feeds c s (p ∷ ps) (t ∷ ts) s₁
   all-used : {s s₁ : State} {p : List ℕ} {ps : List (List ℕ)} {ts : List Told} (log : List ℕ) → logRoom ≤ length log
       → callSays s log p .said ≡ said.Hungry
-      → Feeds (callLeaves s log p) ps ts s₁
-      → Feeds s (p ∷ ps) ts s₁
+      → Feeds c (callLeaves s log p) ps ts s₁
+      → Feeds c s (p ∷ ps) ts s₁
+  passed-over : {s s₁ : State} {ps : List (List ℕ)} {ts : List Told} → GoesOn c → Feeds c s ps ts s₁ → Feeds c s ([] ∷ ps) ts s₁
 
 -- `Closes s told s₁`: finish, called until it says done, tells this and leaves that state
 pub data Closes : State → List Told → State → Type 0 where
@@ -92,10 +95,10 @@ abbrev pub start : (bytes : List ℕ) → Held → State
 start bytes books = record { bytes = bytes; tray = freshTray; books = books }
 
 -- a whole stream in these portions: what is told before finish and at finish, with the state before finish and at the end
-pub record Whole (bytes : List ℕ) (books : Held) (portions : List (List ℕ)) : Type 0 where
+pub record Whole (c : Caller) (bytes : List ℕ) (books : Held) (portions : List (List ℕ)) : Type 0 where
   pub before : List Told
   pub between : State
-  pub feeds : Feeds (start bytes books) portions before between
+  pub feeds : Feeds c (start bytes books) portions before between
   pub after : List Told
   pub end : State
   pub closes : Closes between after end

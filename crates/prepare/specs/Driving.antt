@@ -7,6 +7,7 @@ use Rattle.stream.specs.declared.Tray.{Tray}
 use Rattle.stream.specs.Scan.{Event}
 use Rattle.stream.specs.Tray as stream
 use Rattle.stream.specs.Driver as streaming
+use Rattle.stream.specs.Driver.{Caller}
 use Rattle.stream.specs.Driving.{call-ready, finish-ready}
 use Rattle.stream.specs.Kept.{Good}
 use Rattle.stream.specs.Steps.{call-kept, end-kept}
@@ -35,9 +36,9 @@ unfolding finishOutcome
 finish-is s log r h = guarded-is (s .bytes) (s .tray) (s .books) log (stream.finished (s .bytes) (s .tray)) (r .tray-ready) (r .books-sound) h
 
 -- the stream's calls beside those of stream and desk: its events, and what the desk makes of them
-pub record Fed (s : State) (ps : List (List ℕ)) (ts : List Told) (s₁ : State) : Type 0 where
+pub record Fed (c : Caller) (s : State) (ps : List (List ℕ)) (ts : List Told) (s₁ : State) : Type 0 where
   pub events : List Event
-  pub feeds : streaming.Feeds (s .bytes) (s .tray) ps events (s₁ .bytes) (s₁ .tray)
+  pub feeds : streaming.Feeds c (s .bytes) (s .tray) ps events (s₁ .bytes) (s₁ .tray)
   pub told : ts ≡ toldAll (s .books) events
   pub books : s₁ .books ≡ booksAll (s .books) events
 
@@ -95,24 +96,25 @@ module _ (s : State) (log : List ℕ) (r : Ready s) (h : logRoom ≤ length log)
 
 -- ---- from the calls of stream and desk to those of the stream
 
-pub feeds-so : {s s₁ : State} {ps : List (List ℕ)} {ts : List Told} → Feeds s ps ts s₁ → Ready s → Fed s ps ts s₁
+pub feeds-so : {c : Caller} {s s₁ : State} {ps : List (List ℕ)} {ts : List Told} → Feeds c s ps ts s₁ → Ready s → Fed c s ps ts s₁
 unfolding toldAll booksAll
 feeds-so Feeds.no-more r = record { events = []; feeds = streaming.Feeds.no-more; told = refl; books = refl }
-feeds-so (Feeds.an-event {s} {s₁} {p} {ps} {t} {ts} log h k f) r =
+feeds-so {c} (Feeds.an-event {s} {s₁} {p} {ps} {t} {ts} log h k f) r =
     let w = is-told (s .bytes) (s .tray) (s .books) (callOutcome (s .bytes) (s .tray) (s .books) log p) (call-o s log r h p) (call-is s log p r h) log (call-good s log r h p) t k in
     let x = feeds-so f (call-stays s log r h p (booksAfter (s .books) (w .0)) (sound-after (r .books-sound) (w .0)) (w .3)) in
-    let y = call-forth s log r h p (λ b t u d. Fed (at b t d) (drop u p ∷ ps) ts s₁) x in
-    let z = subst (λ d. Fed (at (stream.callBytes (s .bytes) (s .tray) p) (stream.callAnswer (s .bytes) (s .tray) p .tray) d)
+    let y = call-forth s log r h p (λ b t u d. Fed c (at b t d) (drop u p ∷ ps) ts s₁) x in
+    let z = subst (λ d. Fed c (at (stream.callBytes (s .bytes) (s .tray) p) (stream.callAnswer (s .bytes) (s .tray) p .tray) d)
     (drop (stream.callAnswer (s .bytes) (s .tray) p .used) p ∷ ps) ts s₁) (w .3) y in
     record { events = w .0 ∷ z .events; feeds = streaming.Feeds.an-event (w .1) (z .feeds); told = ap₂ (λ a l. a ∷ l) (w .2) (z .told); books = z .books }
-feeds-so (Feeds.all-used {s} {s₁} {p} {ps} {ts} log h k f) r =
+feeds-so {c} (Feeds.all-used {s} {s₁} {p} {ps} {ts} log h k f) r =
     let w = is-hungry (s .bytes) (s .tray) (s .books) (callOutcome (s .bytes) (s .tray) (s .books) log p) (call-o s log r h p) (call-is s log p r h) k in
     let x = feeds-so f (call-stays s log r h p (s .books) (r .books-sound) (w .1)) in
-    let y = call-forth s log r h p (λ b t u d. Fed (at b t d) ps ts s₁) x in
-    let z = subst (λ d. Fed (at (stream.callBytes (s .bytes) (s .tray) p) (stream.callAnswer (s .bytes) (s .tray) p .tray) d) ps ts s₁) (w .1) y in
+    let y = call-forth s log r h p (λ b t u d. Fed c (at b t d) ps ts s₁) x in
+    let z = subst (λ d. Fed c (at (stream.callBytes (s .bytes) (s .tray) p) (stream.callAnswer (s .bytes) (s .tray) p .tray) d) ps ts s₁) (w .1) y in
     record { events = z .events; feeds = streaming.Feeds.all-used (w .0) (z .feeds); told = z .told; books = z .books }
+feeds-so (Feeds.passed-over g f) r = let x = feeds-so f r in record { events = x .events; feeds = streaming.Feeds.passed-over g (x .feeds); told = x .told; books = x .books }
 
-pub feeds-ready : {s s₁ : State} {ps : List (List ℕ)} {ts : List Told} → Feeds s ps ts s₁ → Ready s → Ready s₁
+pub feeds-ready : {c : Caller} {s s₁ : State} {ps : List (List ℕ)} {ts : List Told} → Feeds c s ps ts s₁ → Ready s → Ready s₁
 feeds-ready Feeds.no-more r = r
 feeds-ready (Feeds.an-event {s} {p = p} {t = t} log h k f) r =
     let w = is-told (s .bytes) (s .tray) (s .books) (callOutcome (s .bytes) (s .tray) (s .books) log p) (call-o s log r h p) (call-is s log p r h) log (call-good s log r h p) t k in
@@ -120,6 +122,7 @@ feeds-ready (Feeds.an-event {s} {p = p} {t = t} log h k f) r =
 feeds-ready (Feeds.all-used {s} {p = p} log h k f) r =
     let w = is-hungry (s .bytes) (s .tray) (s .books) (callOutcome (s .bytes) (s .tray) (s .books) log p) (call-o s log r h p) (call-is s log p r h) k in
     feeds-ready f (call-stays s log r h p (s .books) (r .books-sound) (w .1))
+feeds-ready (Feeds.passed-over g f) r = feeds-ready f r
 
 pub closes-so : {s s₁ : State} {ts : List Told} → Closes s ts s₁ → Ready s → Closed s ts s₁
 unfolding toldAll booksAll
@@ -137,28 +140,29 @@ closes-so (Closes.is-done {s} log h k) r =
 -- ---- and back: where the stream's calls end, those of stream and desk do
 
 module _ (lends : State → List ℕ) (room : (s : State) → logRoom ≤ length (lends s)) where
-  pub so-feeds : {b b₁ : List ℕ} {t t₁ : Tray} {ps : List (List ℕ)} {es : List Event} → streaming.Feeds b t ps es b₁ t₁ → (d : Held) → Ready (at b t d)
-      → Feeds (at b t d) ps (toldAll d es) (at b₁ t₁ (booksAll d es))
+  pub so-feeds : {c : Caller} {b b₁ : List ℕ} {t t₁ : Tray} {ps : List (List ℕ)} {es : List Event} → streaming.Feeds c b t ps es b₁ t₁ → (d : Held) → Ready (at b t d)
+      → Feeds c (at b t d) ps (toldAll d es) (at b₁ t₁ (booksAll d es))
   unfolding toldAll booksAll
   so-feeds streaming.Feeds.no-more d r = Feeds.no-more
-  so-feeds (streaming.Feeds.an-event {b} {b₁} {t} {t₁} {p} {ps} {e} {es} k f) d r =
+  so-feeds {c} (streaming.Feeds.an-event {b} {b₁} {t} {t₁} {p} {ps} {e} {es} k f) d r =
       let s = at b t d in
       let log = lends s in
       let h = room s in
       let w = tells-so b t d (callOutcome b t d log p) (call-o s log r h p) (call-is s log p r h) log (call-good s log r h p) e k in
       let n = booksAfter d e in
       let x = so-feeds f n (record { tray-ready = call-ready (r .tray-ready) p; books-sound = sound-after (r .books-sound) e }) in
-      let y = subst (λ m. Feeds (at (stream.callBytes b t p) (stream.callAnswer b t p .tray) m) (drop (stream.callAnswer b t p .used) p ∷ ps)
+      let y = subst (λ m. Feeds c (at (stream.callBytes b t p) (stream.callAnswer b t p .tray) m) (drop (stream.callAnswer b t p .used) p ∷ ps)
       (toldAll n es) (at b₁ t₁ (booksAll n es))) (sym (w .1)) x in
-      Feeds.an-event log h (w .0) (call-back s log r h p (λ b t u m. Feeds (at b t m) (drop u p ∷ ps) (toldAll n es) (at b₁ t₁ (booksAll n es))) y)
-  so-feeds (streaming.Feeds.all-used {b} {b₁} {t} {t₁} {p} {ps} {es} k f) d r =
+      Feeds.an-event log h (w .0) (call-back s log r h p (λ b t u m. Feeds c (at b t m) (drop u p ∷ ps) (toldAll n es) (at b₁ t₁ (booksAll n es))) y)
+  so-feeds {c} (streaming.Feeds.all-used {b} {b₁} {t} {t₁} {p} {ps} {es} k f) d r =
       let s = at b t d in
       let log = lends s in
       let h = room s in
       let w = hungry-is b t d (callOutcome b t d log p) (call-o s log r h p) (call-is s log p r h) k in
       let x = so-feeds f d (record { tray-ready = call-ready (r .tray-ready) p; books-sound = r .books-sound }) in
-      let y = subst (λ m. Feeds (at (stream.callBytes b t p) (stream.callAnswer b t p .tray) m) ps (toldAll d es) (at b₁ t₁ (booksAll d es))) (sym (w .1)) x in
-      Feeds.all-used log h (w .0) (call-back s log r h p (λ b t u m. Feeds (at b t m) ps (toldAll d es) (at b₁ t₁ (booksAll d es))) y)
+      let y = subst (λ m. Feeds c (at (stream.callBytes b t p) (stream.callAnswer b t p .tray) m) ps (toldAll d es) (at b₁ t₁ (booksAll d es))) (sym (w .1)) x in
+      Feeds.all-used log h (w .0) (call-back s log r h p (λ b t u m. Feeds c (at b t m) ps (toldAll d es) (at b₁ t₁ (booksAll d es))) y)
+  so-feeds (streaming.Feeds.passed-over g f) d r = Feeds.passed-over g (so-feeds f d r)
 
   pub so-closes : {b b₁ : List ℕ} {t t₁ : Tray} {es : List Event} → streaming.Closes b t es b₁ t₁ → (d : Held) → Ready (at b t d)
       → Closes (at b t d) (toldAll d es) (at b₁ t₁ (booksAll d es))

@@ -18,7 +18,7 @@ use Rattle.prepare.specs.declared.Said.the-variants as said
 use Rattle.prepare.specs.declared.Answer.{Answer}
 use Rattle.prepare.specs.Uncut as uncut
 
--- ---- "tests ROOM of every lent buffer, then STATE of tray and desk, then takes its step"
+-- ---- ROOM of every lent buffer, then STATE of tray and desk, then the step (DECISIONS)
 
 -- ROOM: "lent buffer under its stated size"
 abbrev pub noRoom : (bytes live run log : List ℕ) → Bool
@@ -38,7 +38,7 @@ callOutcome bytes tray books log input = guarded bytes tray books log (called by
 unfoldable pub finishOutcome : (bytes : List ℕ) → Tray → Held → (log : List ℕ) → Outcome
 finishOutcome bytes tray books log = guarded bytes tray books log (finished bytes tray)
 
--- ---- what is answered: "What the desk says of a frame is then an event of the call with its number, not a refusal of the call."
+-- ---- what is answered: what the desk says of a frame is an event of the call with its number, not a refusal of the call (DECISIONS)
 
 abbrev pub saidOf : uncut.Told → Said
 saidOf (uncut.accepted header bytes entries) = said.Accepted header

@@ -12,6 +12,7 @@ use Rattle.stream.specs.Scan.{frame, scan}
 use Rattle.stream.specs.Tray.{Outcome, refused, told, hungry, done}
 use Rattle.stream.specs.declared.Tray.{Tray}
 use Rattle.stream.specs.Driver as streaming
+use Rattle.stream.specs.Driver.{Caller, waits}
 use Rattle.stream.specs.Theorems as stream
 use Rattle.desk.specs.Take as desk
 use Rattle.desk.specs.Take.{logRoom}
@@ -37,14 +38,14 @@ module _ {bytes : List ℕ} {books : Held} (clear : streaming.Clear bytes) (soun
   ready : Ready (start bytes books)
   ready = record { tray-ready = stream.fresh-sound clear; books-sound = sound }
 
-  -- However a stream is cut into portions, some of them empty: calling on each until hungry and then finishing until done tells the frames, with what the desk
-  -- says of each, and the noise counts of the uncut stream; the run log is the uncut stream's; and so is the closing state: the fresh tray with its bytes as they
-  -- were lent, and the desk with every byte of both books.
-  pub prepared : {portions : List (List ℕ)} → (w : Whole bytes books portions)
+  -- However a stream is cut into portions, some of them empty: calling on each until hungry, or until it is used up, and then finishing until done tells the frames,
+  -- with what the desk says of each, and the noise counts of the uncut stream; the run log is the uncut stream's; and so is the closing state: the fresh tray with its
+  -- bytes as they were lent, and the desk with every byte of both books.
+  pub prepared : {c : Caller} {portions : List (List ℕ)} → (w : Whole c bytes books portions)
       → (w .before ++ w .after ≡ uncutTold books (flatten portions))
       × (runLog (w .before ++ w .after) ≡ uncutLog books (flatten portions))
       × (w .end ≡ start bytes (uncutBooks books (flatten portions)))
-  prepared {portions} w =
+  prepared {portions = portions} w =
       let f = feeds-so (w .feeds) ready in
       let g = closes-so (w .closes) (feeds-ready (w .feeds) ready) in
       let z = stream.stream clear (record { before = f .events; bytes₁ = _; tray₁ = _; feeds = f .feeds; after = g .events; bytes₂ = _; tray₂ = _; closes = g .closes }) in
@@ -56,16 +57,16 @@ module _ {bytes : List ℕ} {books : Held} (clear : streaming.Clear bytes) (soun
       (t, ap runLog t, λ i. record { bytes = z .2 i; tray = z .1 i; books = d i })
 
   -- And the calls end, whatever the portions are, and whatever log each call is lent.
-  pub prepared-ends : (lends : State → List ℕ) → ((s : State) → logRoom ≤ length (lends s)) → (portions : List (List ℕ)) → Whole bytes books portions
+  pub prepared-ends : {c : Caller} (lends : State → List ℕ) → ((s : State) → logRoom ≤ length (lends s)) → (portions : List (List ℕ)) → Whole c bytes books portions
   prepared-ends lends room portions =
       let w = stream.stream-ends clear portions in
       let f = so-feeds lends room (w .feeds) books ready in
       let g = so-closes lends room (w .closes) (booksAll books (w .before)) (feeds-ready f ready) in
       record { before = _; between = _; feeds = f; after = _; end = _; closes = g }
 
-  -- Before finish, what is told and the state, every byte of tray and books included, depend on the joined bytes alone.
+  -- Before finish, once the last call has said hungry, what is told and the state, every byte of tray and books included, depend on the joined bytes alone.
   pub cut : {portions portions′ : List (List ℕ)} {ts ts′ : List Told} {s s′ : State}
-      → Feeds (start bytes books) portions ts s → Feeds (start bytes books) portions′ ts′ s′ → flatten portions ≡ flatten portions′
+      → Feeds waits (start bytes books) portions ts s → Feeds waits (start bytes books) portions′ ts′ s′ → flatten portions ≡ flatten portions′
       → (ts ≡ ts′) × (s ≡ s′)
   cut f f′ q =
       let x = feeds-so f ready in
@@ -76,8 +77,8 @@ module _ {bytes : List ℕ} {books : Held} (clear : streaming.Clear bytes) (soun
 
   -- What is told before finish on a stream is told first on every longer stream that begins with it, and the log told before finish is the beginning of its log:
   -- before finish ..
-  pub prefix : {portions portions′ : List (List ℕ)} {ts ts′ : List Told} {s s′ : State}
-      → Feeds (start bytes books) portions ts s → Feeds (start bytes books) portions′ ts′ s′
+  pub prefix : {c : Caller} {portions portions′ : List (List ℕ)} {ts ts′ : List Told} {s s′ : State}
+      → Feeds c (start bytes books) portions ts s → Feeds waits (start bytes books) portions′ ts′ s′
       → (more : List ℕ) → flatten portions′ ≡ flatten portions ++ more
       → (rest : List Told) × (ts′ ≡ ts ++ rest) × (runLog ts′ ≡ runLog ts ++ runLog rest)
   prefix {ts = ts} f f′ more q =
@@ -89,9 +90,9 @@ module _ {bytes : List ℕ} {books : Held} (clear : streaming.Clear bytes) (soun
       (rest, e, ap runLog e ∙ log-append ts rest)
 
   -- .. and of the whole longer stream, uncut.
-  pub prefix-uncut : {portions : List (List ℕ)} {ts : List Told} {s : State} → Feeds (start bytes books) portions ts s → (more : List ℕ)
+  pub prefix-uncut : {c : Caller} {portions : List (List ℕ)} {ts : List Told} {s : State} → Feeds c (start bytes books) portions ts s → (more : List ℕ)
       → (rest : List Told) × (uncutTold books (flatten portions ++ more) ≡ ts ++ rest) × (uncutLog books (flatten portions ++ more) ≡ runLog ts ++ runLog rest)
-  prefix-uncut {portions} {ts} f more =
+  prefix-uncut {portions = portions} {ts} f more =
       let w = prepared-ends (λ _. replicate logRoom 0) (λ _. omega (arith, length-replicate {A = ℕ} logRoom 0)) ((flatten portions ++ more) ∷ []) in
       let p = prefix f (w .feeds) more (one (flatten portions ++ more)) in
       let e : uncutTold books (flatten portions ++ more) ≡ ts ++ (p .0 ++ w .after)
@@ -102,18 +103,18 @@ module _ {bytes : List ℕ} {books : Held} (clear : streaming.Clear bytes) (soun
   -- by the live book as it was at the moment when its run opened. In it an area is placed with the 47 bits that its ID has in that book: `placed-with` of the desk.
   -- `opening` is that moment's live book of the run that is open at the start; without an open run it is never asked, and any will do (`fresh-kept`). The closing desk
   -- keeps to the same, so that a further stream may follow.
-  pub in-force : (opening : Snapshot) → KeptOn (record { held = books; opening = opening }) → {portions : List (List ℕ)} (w : Whole bytes books portions)
+  pub in-force : (opening : Snapshot) → KeptOn (record { held = books; opening = opening }) → {c : Caller} {portions : List (List ℕ)} (w : Whole c bytes books portions)
       → (runLog (w .before ++ w .after) ≡ placedLog books opening (scan (flatten portions)))
       × KeptOn (record { held = w .end .books; opening = openingAll books opening (scan (flatten portions)) })
-  in-force opening k {portions} w = (
+  in-force opening k {portions = portions} w = (
     prepared w .1 ∙ placed (record { held = books; opening = opening }) sound k (scan (flatten portions)),
     subst (λ held. KeptOn (record { held = held; opening = openingAll books opening (scan (flatten portions)) })) (sym (ap (λ s. s .books) (prepared w .2)))
         (still-kept (record { held = books; opening = opening }) sound k (scan (flatten portions))),
   )
 
 -- A sound state stays sound: so it is before finish, whatever the portions were.
-pub stays-sound : {bytes : List ℕ} {books : Held} → streaming.Clear bytes → Sound books → {portions : List (List ℕ)} {ts : List Told} {s : State}
-    → Feeds (start bytes books) portions ts s → (streaming.Ready (s .bytes) (s .tray)) × Sound (s .books)
+pub stays-sound : {bytes : List ℕ} {books : Held} → streaming.Clear bytes → Sound books → {c : Caller} {portions : List (List ℕ)} {ts : List Told} {s : State}
+    → Feeds c (start bytes books) portions ts s → (streaming.Ready (s .bytes) (s .tray)) × Sound (s .books)
 stays-sound clear sound f = let r = feeds-ready f (ready clear sound) in (r .tray-ready, r .books-sound)
 
 -- A fresh desk may start: a new one, with any bytes that have room for its books.

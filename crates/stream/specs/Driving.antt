@@ -15,7 +15,7 @@ use Rattle.stream.specs.declared.Said.{Said}
 use Rattle.stream.specs.Scan.{Event, most, scanFrom, scan}
 use Rattle.stream.specs.Tray.{zeros, sound, contents, Decision, event, none, decide, Outcome, refused, told, hungry, done, taken, feedBy, feedEnd, feed, stop, called, finished}
 use Rattle.stream.specs.Tray.{freshTray, answerOf, laid, callAnswer, callBytes, finishAnswer, finishBytes}
-use Rattle.stream.specs.Driver.{Ready, Clear, Tells, Feeds, Closes}
+use Rattle.stream.specs.Driver.{Ready, Clear, Tells, Caller, waits, Feeds, Closes}
 use Rattle.stream.specs.Machine.{Reading, tells, onList, scan-reading}
 use Rattle.stream.specs.Ahead.{aheadFrom, onAhead, ahead-reading, tells-ahead}
 use Rattle.stream.specs.Kept.{Waits}
@@ -39,10 +39,11 @@ fresh-ready {bytes} c = record {
   is-sound = sound-whole bytes freshTray (record { held-most = omega arith; zeros-after = c .are-zeros; noise-less = omega arith; shown-fits = inl refl });
 }
 
-pub feeds-ready : {b b₁ : List ℕ} {t t₁ : Tray} {ps : List (List ℕ)} {es : List Event} → Feeds b t ps es b₁ t₁ → Ready b t → Ready b₁ t₁
+pub feeds-ready : {c : Caller} {b b₁ : List ℕ} {t t₁ : Tray} {ps : List (List ℕ)} {es : List Event} → Feeds c b t ps es b₁ t₁ → Ready b t → Ready b₁ t₁
 feeds-ready Feeds.no-more r = r
 feeds-ready (Feeds.an-event {p = p} k f) r = feeds-ready f (call-ready r p)
 feeds-ready (Feeds.all-used {p = p} k f) r = feeds-ready f (call-ready r p)
+feeds-ready (Feeds.passed-over g f) r = feeds-ready f r
 
 pub closes-ready : {b b₁ : List ℕ} {t t₁ : Tray} {es : List Event} → Closes b t es b₁ t₁ → Ready b t → Ready b₁ t₁
 closes-ready (Closes.an-event k f) r = closes-ready f (finish-ready r)
@@ -104,15 +105,16 @@ hungry-used bytes tray input q = go (called bytes tray input) (call-used-by byte
 
 -- ---- the lent bytes beyond 1,103 stay
 
-feeds-beyond : {b b₁ : List ℕ} {t t₁ : Tray} {ps : List (List ℕ)} {es : List Event} → Feeds b t ps es b₁ t₁ → Ready b t → drop longest b₁ ≡ drop longest b
+feeds-beyond : {c : Caller} {b b₁ : List ℕ} {t t₁ : Tray} {ps : List (List ℕ)} {es : List Event} → Feeds c b t ps es b₁ t₁ → Ready b t → drop longest b₁ ≡ drop longest b
 feeds-beyond Feeds.no-more r = refl
 feeds-beyond (Feeds.an-event {b} {t = t} {p = p} k f) r = feeds-beyond f (call-ready r p) ∙ beyond-after b (called b t p) (call-kept b t p r)
 feeds-beyond (Feeds.all-used {b} {t = t} {p = p} k f) r = feeds-beyond f (call-ready r p) ∙ beyond-after b (called b t p) (call-kept b t p r)
+feeds-beyond (Feeds.passed-over g f) r = feeds-beyond f r
 
 -- ---- the calls, of any reading of the bytes to come that goes as `scan` does
 
 module _ {X : Type 0} (cons : Event → X → X) (F : ℕ → List ℕ → X) (reading : Reading cons F) where
-  feeds-good : {b b₁ : List ℕ} {t t₁ : Tray} {ps : List (List ℕ)} {es : List Event} → Feeds b t ps es b₁ t₁ → Ready b t
+  feeds-good : {c : Caller} {b b₁ : List ℕ} {t t₁ : Tray} {ps : List (List ℕ)} {es : List Event} → Feeds c b t ps es b₁ t₁ → Ready b t
       → (x : List ℕ) → F (t .noise) (liveOf b t ++ (flatten ps ++ x)) ≡ tells cons es (F (t₁ .noise) (liveOf b₁ t₁ ++ x))
   unfolding flatten
   feeds-good Feeds.no-more r x = refl
@@ -123,6 +125,7 @@ module _ {X : Type 0} (cons : Event → X → X) (F : ℕ → List ℕ → X) (r
   feeds-good (Feeds.all-used {b} {t = t} {p = p} {ps = ps} k f) r x =
       let s = hungry-step cons F b t p _ (called b t p) (call-kept b t p r) (call-fed cons F reading b t p r) k (flatten ps ++ x) in
       rw (append-assoc p (flatten ps) x) (s ∙ feeds-good f (call-ready r p) x)
+  feeds-good (Feeds.passed-over g f) r x = feeds-good f r x
 
 -- ---- finish until done, and all of it
 
@@ -140,8 +143,8 @@ tells-list : (es fs : List Event) → tells onList es fs ≡ es ++ fs
 tells-list [] fs = refl
 tells-list (e ∷ es) fs = ap (λ gs. e ∷ gs) (tells-list es fs)
 
-pub stream : {bytes b₁ b₂ : List ℕ} {t₁ t₂ : Tray} {portions : List (List ℕ)} {es fs : List Event}
-    → Clear bytes → Feeds bytes freshTray portions es b₁ t₁ → Closes b₁ t₁ fs b₂ t₂
+pub stream : {c : Caller} {bytes b₁ b₂ : List ℕ} {t₁ t₂ : Tray} {portions : List (List ℕ)} {es fs : List Event}
+    → Clear bytes → Feeds c bytes freshTray portions es b₁ t₁ → Closes b₁ t₁ fs b₂ t₂
     → (es ++ fs ≡ scan (flatten portions)) × (t₂ ≡ freshTray) × (b₂ ≡ bytes)
 unfolding scan
 stream {bytes} {b₁} {t₁ = t₁} {portions = ps} {es = es} {fs = fs} c f g =
@@ -169,11 +172,11 @@ pub finish-event : {b : List ℕ} {t : Tray} → Ready b t → (e : Event) → T
 finish-event {b} {t} r e k =
     rw (append-nil (liveOf b t), append-nil (liveOf (finishBytes b t) (finishAnswer b t .tray))) (last-step b t _ (finished b t) (end-kept b t r) (end-ended b t r) e k)
 
-abbrev pub Fedto : List ℕ → Tray → List (List ℕ) → Type 0
-Fedto b t ps = (es : List Event) × (b₁ : List ℕ) × (t₁ : Tray) × Feeds b t ps es b₁ t₁
+abbrev pub Fedto : Caller → List ℕ → Tray → List (List ℕ) → Type 0
+Fedto c b t ps = (es : List Event) × (b₁ : List ℕ) × (t₁ : Tray) × Feeds c b t ps es b₁ t₁
 
-one-portion : (ps : List (List ℕ)) → ((b : List ℕ) (t : Tray) → Ready b t → Fedto b t ps)
-    → (n : ℕ) (p : List ℕ) (b : List ℕ) (t : Tray) → Ready b t → length (left b t p) < n → Fedto b t (p ∷ ps)
+one-portion : {c : Caller} (ps : List (List ℕ)) → ((b : List ℕ) (t : Tray) → Ready b t → Fedto c b t ps)
+    → (n : ℕ) (p : List ℕ) (b : List ℕ) (t : Tray) → Ready b t → length (left b t p) < n → Fedto c b t (p ∷ ps)
 one-portion ps more zero p b t r h = absurd (omega arith)
 one-portion ps more (suc n) p b t r h =
     ⊎-elim
@@ -186,7 +189,7 @@ one-portion ps more (suc n) p b t r h =
     (d .0, d .1, d .2, Feeds.all-used q (d .3)))
     (call-says onList (λ k s. scanFrom s 0 k) b t p _ (called b t p) (call-fed onList (λ k s. scanFrom s 0 k) scan-reading b t p r))
 
-pub feeds-end : (portions : List (List ℕ)) (bytes : List ℕ) (tray : Tray) → Ready bytes tray → Fedto bytes tray portions
+pub feeds-end : {c : Caller} (portions : List (List ℕ)) (bytes : List ℕ) (tray : Tray) → Ready bytes tray → Fedto c bytes tray portions
 feeds-end [] b t r = ([], b, t, Feeds.no-more)
 feeds-end (p ∷ ps) b t r = one-portion ps (λ b t r. feeds-end ps b t r) (suc (length (left b t p))) p b t r (omega arith)
 
@@ -209,17 +212,18 @@ closes-end b t r = closes-in (suc (length (left b t []))) b t r (omega arith)
 
 -- ---- before finish
 
-feeds-wait : {b b₁ : List ℕ} {t t₁ : Tray} {ps : List (List ℕ)} {es : List Event} → Feeds b t ps es b₁ t₁ → Ready b t
+feeds-wait : {b b₁ : List ℕ} {t t₁ : Tray} {ps : List (List ℕ)} {es : List Event} → Feeds waits b t ps es b₁ t₁ → Ready b t
     → (ps ≡ [] → Waits (contents b t)) → Waits (contents b₁ t₁)
 feeds-wait Feeds.no-more r w = w refl
 feeds-wait (Feeds.an-event {p = p} k f) r w = feeds-wait f (call-ready r p) (λ z. let no : _≡_ {A = ℕ} 0 1 = cc in absurd (omega arith))
 feeds-wait (Feeds.all-used {b} {t = t} {p = p} k f) r w = feeds-wait f (call-ready r p) (λ _. hungry-waits b t (called b t p) (call-kept b t p r) k)
+feeds-wait (Feeds.passed-over g f) r w = absurd g
 
 fresh-waits : (bytes : List ℕ) → Waits (contents bytes freshTray)
 unfolding aheadFrom
 fresh-waits bytes = record { none-shown = refl; none-ahead = refl; has-room = omega arith; noise-less = omega arith }
 
-feeds-ahead : {bytes b : List ℕ} {t : Tray} {ps : List (List ℕ)} {es : List Event} → Clear bytes → Feeds bytes freshTray ps es b t
+feeds-ahead : {bytes b : List ℕ} {t : Tray} {ps : List (List ℕ)} {es : List Event} → Clear bytes → Feeds waits bytes freshTray ps es b t
     → aheadFrom (flatten ps) 0 0 ≡ (es, take (t .held) b, t .noise)
 feeds-ahead {bytes} {b} {t} {ps} {es} c f =
     let r = fresh-ready c in
@@ -230,7 +234,7 @@ feeds-ahead {bytes} {b} {t} {ps} {es} c f =
     ∙ tells-ahead es ([], take (t .held) b, t .noise) ∙ rw (append-nil es)
 
 pub cut : {bytes b b′ : List ℕ} {t t′ : Tray} {portions portions′ : List (List ℕ)} {es es′ : List Event} → Clear bytes
-    → Feeds bytes freshTray portions es b t → Feeds bytes freshTray portions′ es′ b′ t′ → flatten portions ≡ flatten portions′
+    → Feeds waits bytes freshTray portions es b t → Feeds waits bytes freshTray portions′ es′ b′ t′ → flatten portions ≡ flatten portions′
     → (es ≡ es′) × (t ≡ t′) × (b ≡ b′)
 cut {bytes} {b} {b′} {t} {t′} c f f′ q =
     let r = fresh-ready c in
@@ -255,8 +259,8 @@ cut {bytes} {b} {b′} {t} {t′} c f f′ q =
     self : {b : List ℕ} {t : Tray} → Ready b t → laid b (take (t .held) b) ≡ b
     self {b} {t} r = laid-self b (t .held) (r .room) (held-most r) (sound-parts b t (r .is-sound) .zeros-after)
 
-pub prefix : {bytes b b′ : List ℕ} {t t′ : Tray} {portions portions′ : List (List ℕ)} {es es′ : List Event} → Clear bytes
-    → Feeds bytes freshTray portions es b t → Feeds bytes freshTray portions′ es′ b′ t′
+pub prefix : {c : Caller} {bytes b b′ : List ℕ} {t t′ : Tray} {portions portions′ : List (List ℕ)} {es es′ : List Event} → Clear bytes
+    → Feeds c bytes freshTray portions es b t → Feeds waits bytes freshTray portions′ es′ b′ t′
     → (more : List ℕ) → flatten portions′ ≡ flatten portions ++ more → (rest : List Event) × (es′ ≡ es ++ rest)
 prefix {b = b} {t = t} {es = es} c f f′ more q =
     let a = feeds-good onAhead (λ k s. aheadFrom s 0 k) ahead-reading f (fresh-ready c) more in

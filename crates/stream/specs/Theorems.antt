@@ -8,32 +8,32 @@ use Rattle.stream.specs.declared.Tray.{Tray}
 use Rattle.stream.specs.declared.Said.{Said}
 use Rattle.stream.specs.Scan.{Event, scan}
 use Rattle.stream.specs.Tray.{freshTray, callAnswer, callBytes, finishAnswer, finishBytes}
-use Rattle.stream.specs.Driver.{Ready, Clear, Feeds, Closes, Whole}
+use Rattle.stream.specs.Driver.{Ready, Clear, Caller, waits, Feeds, Closes, Whole}
 use Rattle.stream.specs.Driving as Driving
 
--- However a stream is cut into portions, some of them empty: calling on each until hungry and then finishing until done tells exactly the events of
--- `scan` on the joined bytes, and leaves the fresh tray, with its bytes as they were lent.
-pub stream : {bytes : List ℕ} {portions : List (List ℕ)} → Clear bytes → (w : Whole bytes portions)
+-- However a stream is cut into portions, some of them empty: calling on each until hungry, or until it is used up, and then finishing until done tells exactly the
+-- events of `scan` on the joined bytes, and leaves the fresh tray, with its bytes as they were lent.
+pub stream : {c : Caller} {bytes : List ℕ} {portions : List (List ℕ)} → Clear bytes → (w : Whole c bytes portions)
     → (w .before ++ w .after ≡ scan (flatten portions)) × (w .tray₂ ≡ freshTray) × (w .bytes₂ ≡ bytes)
 stream c w = Driving.stream c (w .feeds) (w .closes)
 
 -- And the calls end, whatever the portions are.
-pub stream-ends : {bytes : List ℕ} → Clear bytes → (portions : List (List ℕ)) → Whole bytes portions
+pub stream-ends : {c : Caller} {bytes : List ℕ} → Clear bytes → (portions : List (List ℕ)) → Whole c bytes portions
 stream-ends {bytes} c portions =
     let r = Driving.fresh-ready c in
     let f = Driving.feeds-end portions bytes freshTray r in
     let g = Driving.closes-end (f .1) (f .2) (Driving.feeds-ready (f .3) r) in
     record { before = f .0; bytes₁ = f .1; tray₁ = f .2; feeds = f .3; after = g .0; bytes₂ = g .1; tray₂ = g .2; closes = g .3 }
 
--- Before finish, the events, the tray and its bytes depend on the joined bytes alone.
+-- Before finish, once the last call has said hungry, the events, the tray and its bytes depend on the joined bytes alone.
 pub cut : {bytes b b′ : List ℕ} {t t′ : Tray} {portions portions′ : List (List ℕ)} {es es′ : List Event} → Clear bytes
-    → Feeds bytes freshTray portions es b t → Feeds bytes freshTray portions′ es′ b′ t′ → flatten portions ≡ flatten portions′
+    → Feeds waits bytes freshTray portions es b t → Feeds waits bytes freshTray portions′ es′ b′ t′ → flatten portions ≡ flatten portions′
     → (es ≡ es′) × (t ≡ t′) × (b ≡ b′)
 cut c f f′ q = Driving.cut c f f′ q
 
 -- The events told before finish on a stream are the first ones told on any longer stream that begins with it.
-pub prefix : {bytes b b′ : List ℕ} {t t′ : Tray} {portions portions′ : List (List ℕ)} {es es′ : List Event} → Clear bytes
-    → Feeds bytes freshTray portions es b t → Feeds bytes freshTray portions′ es′ b′ t′
+pub prefix : {c : Caller} {bytes b b′ : List ℕ} {t t′ : Tray} {portions portions′ : List (List ℕ)} {es es′ : List Event} → Clear bytes
+    → Feeds c bytes freshTray portions es b t → Feeds waits bytes freshTray portions′ es′ b′ t′
     → (more : List ℕ) → flatten portions′ ≡ flatten portions ++ more → (rest : List Event) × (es′ ≡ es ++ rest)
 prefix c f f′ more q = Driving.prefix c f f′ more q
 

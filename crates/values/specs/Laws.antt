@@ -79,7 +79,7 @@ pub rounded-once : (z : ℤ) (n : ℕ) → steps z ≤ 2 ^ 53 → 0 < n → n �
 unfolding quotient
 rounded-once z n h k l = divided binary64 (ofInt binary64 z) (ofInt binary64 (pos n)) (negative z) (steps z) n k (exact z h) (exact (pos n) l)
 
--- "zero is +0.0"
+-- zero is +0.0 (DECISIONS)
 pub zero-over : (n : ℕ) → 0 < n → n ≤ 2 ^ 53 → quotient (pos 0) n ≡ fin false 0 (pos 0)
 zero-over n h k = rounded-once (pos 0) n (lit≤ tt) h k ∙ round-same binary64 false 0 n 0 1 h (lit< tt) (omega arith) ∙ zero-rounded
 

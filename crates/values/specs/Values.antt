@@ -148,7 +148,7 @@ abbrev pub pick : Bool → Value → Value → Value
 pick true value rest = value
 pick false value rest = rest
 
--- "A code the field does not take is FIELD"; so is every code of a field without a value
+-- a code the field does not take is FIELD (DECISIONS); so is every code of a field without a value
 abbrev pub valueBy : Row → ℕ → Value
 valueBy none code = Refused Field
 valueBy (row sf width most steps perUnit meaning) code =
