@@ -15,7 +15,7 @@ use Rattle.book.specs.Laws.{sound-room}
 use Rattle.book.specs.declared.Book.{Book}
 use Rattle.log.specs.Log.{joined, opened, areaId, bitsFor, reasonFor, reasonOf, troposphereSaid, ionosphereSaid, entryOf, logOf}
 use Rattle.answer.specs.declared.Refusal.the-variants.{Field}
-use Rattle.message.specs.Machine.{constellationFor}
+use Rattle.message.specs.Messages.{constellationFor}
 use Rattle.message.specs.declared.Subtype.{Subtype}
 use Rattle.message.specs.declared.Subtype.the-variants as subtype
 use Rattle.desk.specs.Desk.{tags, sourceInRange, noBook, madeFor, newDesk, deskSound}

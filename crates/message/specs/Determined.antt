@@ -6,7 +6,8 @@ use Rattle.layout.specs.Determined.{determined}
 use Rattle.message.specs.declared.State.{State}
 use Rattle.message.specs.declared.Start.{Start}
 use Rattle.message.specs.declared.Subtype.{Subtype}
-use Rattle.message.specs.Machine.{fieldOf, stepOf, constellationFor, startOf}
+use Rattle.message.specs.Messages.{constellationFor}
+use Rattle.message.specs.Machine.{fieldOf, stepOf, startOf}
 
 pub field-of-determined : (s : State) {r r' : Field} → r ≡ fieldOf s → r' ≡ fieldOf s → r ≡ r'
 field-of-determined s p q = determined p q

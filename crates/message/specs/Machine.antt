@@ -24,7 +24,7 @@ use Rattle.ocb.specs.Machine.{ocbField, ocbStep, leads-ocb}
 use Rattle.hpac.specs.Machine.{hpacField, hpacStep, leads-hpac}
 use Rattle.gad.specs.Machine.{gadField, gadStep, leads-gad}
 use Rattle.bpac.specs.Machine.{bpacField, bpacStep, leads-bpac}
-use Rattle.message.specs.Messages.{Message, ocbMessage, hpacMessage, gadMessage, bpacMessage, ocbLayout, hpacLayout, gadLayout, bpacLayout, constellationOf, byConstellation, layoutFor}
+use Rattle.message.specs.Messages.{Message, ocbMessage, hpacMessage, gadMessage, bpacMessage, ocbLayout, hpacLayout, gadLayout, bpacLayout, constellationOf, constellationFor, byConstellation, layoutFor}
 
 abbrev pub fieldOf : State → Field
 fieldOf (Ocb s) = ocbField s
@@ -39,16 +39,6 @@ stepOf (Gad s) c = Gad (gadStep s c)
 stepOf (Bpac s) c = Bpac (bpacStep s c)
 
 -- ---- where a payload starts
-
--- `constellationOf`, as the code's enum
-abbrev pub constellationFor : ℕ → Subtype
-constellationFor subtype =
-    pick (eqb subtype 0) (sub.Known Gps) (
-    pick (eqb subtype 1) (sub.Known Glonass) (
-    pick (eqb subtype 2) (sub.Known Galileo) (
-    pick (eqb subtype 3) (sub.Known BeiDou) (
-    pick (eqb subtype 4) (sub.Known Qzss)
-    sub.Unknown))))
 
 abbrev pub ocbStart : Subtype → Start
 ocbStart (sub.Known c) = start.Known (Ocb (ocb.Siou c))

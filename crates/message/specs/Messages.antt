@@ -10,6 +10,8 @@ use Rattle.ocb.specs.Ocb as ocb
 use Rattle.hpac.specs.Hpac as hpac
 use Rattle.gad.specs.Gad as gad
 use Rattle.bpac.specs.Bpac as bpac
+use Rattle.message.specs.declared.Subtype.{Subtype}
+use Rattle.message.specs.declared.Subtype.the-variants as sub
 
 -- what the log and the views take from a payload. Every code of it, the reserved bit, SF008 and the size codes of masks too, is on the sheet.
 pub data Message : Type 0 where
@@ -39,6 +41,16 @@ constellationOf subtype =
     pick (eqb subtype 3) (present BeiDou) (
     pick (eqb subtype 4) (present Qzss)
     absent))))
+
+-- the same, as what `constellation_of` hands out
+abbrev pub constellationFor : ℕ → Subtype
+constellationFor subtype =
+    pick (eqb subtype 0) (sub.Known Gps) (
+    pick (eqb subtype 1) (sub.Known Glonass) (
+    pick (eqb subtype 2) (sub.Known Galileo) (
+    pick (eqb subtype 3) (sub.Known BeiDou) (
+    pick (eqb subtype 4) (sub.Known Qzss)
+    sub.Unknown))))
 
 abbrev pub byConstellation : (Constellation → Layout Message) → Part Constellation → Part (Layout Message)
 byConstellation layout absent = absent

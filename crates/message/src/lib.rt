@@ -1,6 +1,7 @@
 // The twelve payloads of document 01 as one machine: which field is next, and where a code leads.
 ghost use mathlib.Core.Path.{_≡_};
-ghost use Rattle.message.specs.Machine.{fieldOf, stepOf, startOf, constellationFor, ocbStart, hpacStart, gadStart, bpacStart};
+ghost use Rattle.message.specs.Messages.{constellationFor};
+ghost use Rattle.message.specs.Machine.{fieldOf, stepOf, startOf, ocbStart, hpacStart, gadStart, bpacStart};
 
 pub mod row;
 

@@ -12,7 +12,7 @@ use Rattle.stream.specs.Scan.{Event, frame, noise}
 use Rattle.book.specs.Book.{bookBytes, sound}
 use Rattle.book.specs.Laws.{sound-room}
 use Rattle.answer.specs.declared.Refusal.the-variants.{Field}
-use Rattle.message.specs.Machine.{constellationFor}
+use Rattle.message.specs.Messages.{constellationFor}
 use Rattle.message.specs.declared.Subtype.{Subtype}
 use Rattle.message.specs.declared.Subtype.the-variants as subtype
 use Rattle.desk.specs.declared.Desk.{Desk}

@@ -9,7 +9,7 @@ use Rattle.layout.specs.Parts.{Part}
 use Rattle.layout.specs.Reaches.{Holds}
 use Rattle.message.specs.declared.Subtype.{Subtype}
 use Rattle.message.specs.declared.Subtype.the-variants as sub
-use Rattle.message.specs.Machine.{constellationFor}
+use Rattle.message.specs.Messages.{constellationFor}
 use Rattle.message.specs.Messages.{ocbLayout, hpacLayout, gadLayout, bpacLayout, byConstellation, constellationOf}
 use Rattle.sheet.specs.declared.WriteAnswer.{WriteAnswer}
 use Rattle.sheet.specs.declared.WriteAnswer.the-variants as writer

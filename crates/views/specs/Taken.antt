@@ -12,7 +12,7 @@ use Rattle.layout.specs.Parts.{Part, absent, present}
 use Rattle.layout.specs.Reaches.{Holds, written-holds}
 use Rattle.message.specs.declared.Subtype.{Subtype}
 use Rattle.message.specs.declared.Subtype.the-variants as sub
-use Rattle.message.specs.Machine.{constellationFor}
+use Rattle.message.specs.Messages.{constellationFor}
 use Rattle.message.specs.Messages.{Message, constellationOf, layoutFor}
 use Rattle.sheet.specs.declared.WriteAnswer.{WriteAnswer}
 use Rattle.sheet.specs.declared.WriteAnswer.the-variants as writer
