@@ -1,21 +1,33 @@
--- Document 01, "Measured cases": one table against the definitions, with a single proof. Definitions to believe. Cases 9 and 10 join with the desk, as two more
--- kinds of questions and a row each.
+-- Document 01, "Measured cases": one table against the definitions, with a single proof. Definitions to believe.
 use mathlib.Core.Path.{_≡_, refl}
 use mathlib.Core.Bool.{Bool, true, false}
 use mathlib.Core.List.{List, [], _∷_, map}
 use Prim.Native.Nat.{ℕ, _+_, _*_, _^_}
 use lib.IntN.{pos}
+use lib.ListN.{replicate}
 use lib.Ieee.{Float, fin, binary64, round, div, ofInt}
 use Rattle.answer.specs.declared.Refusal.the-variants.{Field}
 use Rattle.area.specs.Area.{areaOff}
-use Rattle.bits.specs.Bits.{bitsOf}
+use Rattle.bits.specs.Bits.{bitsOf, toBits, number, field}
+use Rattle.book.specs.Book.{bookBytes, sound, headSound, areasSound}
+use Rattle.checks.specs.Crc.{shift, crcBits, crc, lowFirst, reversed4, frameCrc, messageCrc}
 use Rattle.codes.specs.Fields.{numbered}
 use Rattle.codes.specs.Tables.{maskSizes, maskSize}
-use Rattle.groups.specs.Groups.{groups, groupsOf}
-use Rattle.layout.specs.Layout.{judge, writeL}
+use Rattle.desk.specs.Desk.{noBook, newDesk, deskSound}
+use Rattle.desk.specs.Take.{logRoom, byHeader, verdict, loggedBy, frameTaken}
+use Rattle.desk.specs.declared.NewDesk.{NewDesk}
+use Rattle.desk.specs.declared.NewDesk.the-variants as new
+use Rattle.desk.specs.declared.Run.{Run}
+use Rattle.desk.specs.declared.Run.the-variants.{Open}
+use Rattle.frame.specs.Fields.{authenticated, authentication}
+use Rattle.frame.specs.Check.{frameOf, badMessageCrc, badFrameCrc, checked, payloadIn}
+use Rattle.frame.specs.Write.{bytesOf, start, description, body, checkOver, plain}
+use Rattle.groups.specs.Groups.{groups, groupsOf, groupsOfAll}
+use Rattle.layout.specs.Layout.{judge, readL, writeL}
+use Rattle.log.specs.Log.{reasonFor, logOf}
 use Rattle.sheet.specs.declared.WriteAnswer.{WriteAnswer}
 use Rattle.sheet.specs.declared.WriteAnswer.the-variants.{Written}
-use Rattle.sheet.specs.Sheet.{judgingSheet, judgedSheet}
+use Rattle.sheet.specs.Sheet.{judging, judgingSheet, judgedSheet}
 use Rattle.values.specs.declared.Yaw.the-variants as Yaw
 use Rattle.values.specs.declared.Value.{Value}
 use Rattle.values.specs.declared.Value.the-variants.{Metres, Degrees, OfYaw, Refused}
@@ -28,18 +40,41 @@ pub data Question : Type 0 where
   payloadOf : (kind subtype : ℕ) (sheet : List ℕ) → Question
   offPole : (area : ℕ) → Question
   inGroups : (number : ℕ) → Question
+  runAfter : (frame : List ℕ) → Question
+  logAfter : (frame : List ℕ) → Question
 
 pub data Answer : Type 0 where
   means : (value : Value) → Answer
   takes : (answer : WriteAnswer) → Answer
   isOff : (off : Bool) → Answer
   bytes : (groups : List ℕ) → Answer
+  opens : (run : Run) → Answer
+  noDesk : Answer
+
+-- what is lent to a desk: the bytes of its live book and of its run's book, and a log
+abbrev pub book : List ℕ
+book = replicate bookBytes 0
+
+abbrev pub log : List ℕ
+log = replicate logRoom 0
+
+-- the run that a new desk has open after its first frame, and the log bytes that it writes of it
+abbrev pub firstRun : NewDesk → (frame : List ℕ) → Answer
+firstRun (new.Made desk) frame = opens (frameTaken desk frame book book log .desk .run)
+firstRun (new.Refused why) frame = noDesk
+
+abbrev pub firstLog : NewDesk → (frame : List ℕ) → Answer
+firstLog (new.Made desk) frame = bytes (loggedBy desk book book (verdict desk frame book book log))
+firstLog (new.Refused why) frame = noDesk
 
 abbrev pub said : Question → Answer
 said (valueAt sf code) = means (valueOf sf code)
 said (payloadOf kind subtype sheet) = takes (judgedSheet kind subtype sheet)
 said (offPole area) = isOff (areaOff area)
 said (inGroups number) = bytes (groupsOf number)
+-- for solution 0, processor 0 and GPS
+said (runAfter frame) = firstRun (newDesk 0 0 0) frame
+said (logAfter frame) = firstLog (newDesk 0 0 0) frame
 
 pub record Case : Type 0 where
   pub asked : Question
@@ -57,6 +92,17 @@ decimal negative digits over = round binary64 negative digits over
 -- 8 rows at 3.2 degrees from a latitude: SF034 is 7, SF036 is 31
 abbrev pub eightRows : ℕ → ℕ
 eightRows latitude = latitude * 2 ^ 28 + 7 * 2 ^ 13 + 31 * 2 ^ 5
+
+-- the HPAC payload for GPS with area 5 alone and nothing sent of it: SF031 lies from bit 19 on, all else is zero
+abbrev pub areaFive : List ℕ
+areaFive = 0 ∷ 0 ∷ 0 ∷ 0xA0 ∷ 0 ∷ []
+
+-- a plain frame with it, the tag of 16 bits (kind 0) or 32 (kind 1)
+abbrev pub hpacWith : (kind tag : ℕ) → List ℕ
+hpacWith kind tag =
+    plain
+    (record { «message_type» = 1; «check_type» = 0; subtype = 0; «tag_kind» = kind; tag = tag; solution = 0; processor = 0 })
+    areaFive
 
 unfoldable pub measured : List Case
 measured =
@@ -82,8 +128,12 @@ measured =
     at (offPole (eightRows 223)) (isOff true) ∷
     -- 8. 43,199 is BF D1 02.
     at (inGroups 43199) (bytes (0xBF ∷ 0xD1 ∷ 0x02 ∷ [])) ∷
+    -- 9. Tag 4294967295 becomes 23295.
+    at (runAfter (hpacWith 1 4294967295)) (opens (Open 23295 noBook)) ∷
+    -- 10. First HPAC, no book, tag 43,199, one area 5: 01 BF D1 02 00 00 03 05 01.
+    at (logAfter (hpacWith 0 43199)) (bytes (0x01 ∷ 0xBF ∷ 0xD1 ∷ 0x02 ∷ 0x00 ∷ 0x00 ∷ 0x03 ∷ 0x05 ∷ 0x01 ∷ [])) ∷
     []
 
 pub measured-hold : map (λ (c : Case). said (c .asked)) measured ≡ map (λ (c : Case). c .answer) measured
-unfolding measured decimal valueOf rowOf table find quotient div ofInt round judgedSheet judgingSheet writeL judge bitsOf numbered maskSize maskSizes areaOff groupsOf groups
+unfolding measured decimal valueOf rowOf table find quotient div ofInt round judgedSheet judgingSheet writeL judge bitsOf numbered maskSize maskSizes areaOff groupsOf groups groupsOfAll newDesk frameTaken loggedBy verdict byHeader deskSound sound headSound areasSound plain body start description checkOver bytesOf checked badFrameCrc badMessageCrc frameOf payloadIn authenticated authentication frameCrc messageCrc crc crcBits shift lowFirst reversed4 toBits number field judging readL logOf reasonFor
 measured-hold = refl

@@ -1,4 +1,10 @@
 // Runs document 01's measured cases over the real calls and prints for each whether it holds. specs/Cases.antt proves them of the definitions.
+use desk::Desk;
+use desk::NewDesk;
+use desk::Run;
+use desk::Said;
+use desk::Taken;
+use frame::Parts;
 use groups::Written;
 use libc::STDOUT_FILENO;
 use sheet::WriteAnswer;
@@ -73,6 +79,78 @@ fn is_three(number: u64, first: u8, second: u8, third: u8) -> bool {
     }
 }
 
+// A plain frame with the HPAC payload for GPS of area 5 alone, and nothing sent of it: SF031 lies from bit 19 on, all else is zero.
+fn write_hpac(tag_kind: u8, tag: u64, out: &mut [u8]) {
+    let parts = Parts {
+        message_type: 1,
+        check_type: 0,
+        subtype: 0,
+        tag_kind: tag_kind,
+        tag: tag,
+        solution: 0,
+        processor: 0,
+    };
+    frame::write(parts, &[0, 0, 0, 0xA0, 0], out);
+}
+
+// What a desk makes of that frame.
+fn taken(desk: Desk, tag_kind: u8, tag: u64, log: &mut [u8]) -> Taken {
+    let mut frame = [0u8; 1103];
+    write_hpac(tag_kind, tag, &mut frame);
+    let mut live = [0u8; 192];
+    let mut run = [0u8; 192];
+    desk::take(desk, &frame, &mut live, &mut run, log)
+}
+
+// A run with this tag and no book.
+fn is_open(run: Run, tag: u64) -> bool {
+    match run {
+        Run::Open { tag: t, book } => t == tag && book.aiou_plus_one == 0 && book.count == 0,
+        Run::Closed => false,
+    }
+}
+
+// A frame whose tag has 32 bits opens a run with this tag, as the first of a new desk.
+fn opens(tag: u64, becomes: u64) -> bool {
+    let mut log = [0u8; 4096];
+    match desk::new_desk(0, 0, 0) {
+        NewDesk::Made(desk) => {
+            let after = taken(desk, 1, tag, &mut log).desk;
+            let run = after.run;
+            is_open(run, becomes)
+        }
+        NewDesk::Refused(_) => false,
+    }
+}
+
+// A text begins with so many bytes, and they are these.
+fn begins(text: &[u8], n: usize, wanted: &[u8]) -> bool {
+    if text.len() < n {
+        return false;
+    }
+    check::same(&text[0..n], wanted)
+}
+
+// These bytes of log were written.
+fn is_log(said: Said, log: &[u8], wanted: &[u8]) -> bool {
+    match said {
+        Said::Accepted { log: n } => begins(log, n, wanted),
+        Said::Refused(_) => false,
+    }
+}
+
+// The log of a frame whose tag has 16 bits, as the first of a new desk.
+fn logs(tag: u64, wanted: &[u8]) -> bool {
+    let mut log = [0u8; 4096];
+    match desk::new_desk(0, 0, 0) {
+        NewDesk::Made(desk) => {
+            let said = taken(desk, 0, tag, &mut log).said;
+            is_log(said, &log, wanted)
+        }
+        NewDesk::Refused(_) => false,
+    }
+}
+
 fn tell_values() {
     tell(b"1. SF020: 0 is -16.382 m", is_metres(20, 0, 0.0 - 16.382));
     tell(b"1. SF020: 8191 zero", is_metres(20, 8191, 0.0));
@@ -99,6 +177,17 @@ fn tell_payloads() {
     );
 }
 
+fn tell_desk() {
+    tell(b"9. Tag 4294967295 becomes 23295", opens(4294967295, 23295));
+    tell(
+        b"10. First HPAC, no book, tag 43,199, one area 5: 01 BF D1 02 00 00 03 05 01",
+        logs(
+            43199,
+            &[0x01, 0xBF, 0xD1, 0x02, 0x00, 0x00, 0x03, 0x05, 0x01],
+        ),
+    );
+}
+
 fn main() {
     tell_values();
     tell_payloads();
@@ -111,4 +200,5 @@ fn main() {
         is_off(223),
     );
     tell(b"8. 43,199 is BF D1 02", is_three(43199, 0xBF, 0xD1, 0x02));
+    tell_desk();
 }
