@@ -8,7 +8,7 @@
  * size is ROOM; a longer one is fine, its surplus is neither read nor written. A refusal (a number other than 0) changes nothing. On
  * success, places behind what is written stay as lent. No call keeps a pointer, takes memory or reads anything but its arguments.
  *
- * That each call does what is said here is proved, for all arguments (crates/export/specs).
+ * That each call does what is said here is proved, for all arguments (crates/export/specs, crates/exportdesk/specs).
  */
 #ifndef HOMRALGYU_H
 #define HOMRALGYU_H
@@ -122,6 +122,81 @@ uint8_t homralgyu_value(uint16_t sf, uint64_t code, uint64_t *what, size_t what_
  * Refusals in order: ROOM (orbit, 3), FIELD.
  * Writes them in metres: radial, along-track, cross-track. */
 uint8_t homralgyu_orbit(uint64_t radial, uint64_t along_track, uint64_t cross_track, double *orbit, size_t orbit_len);
+
+/* A desk is nine numbers and the bytes of two books, 192 each: the live book's and the run's. */
+enum homralgyu_desk {
+    HOMRALGYU_DESK_SOLUTION,      /* TF010, 0 to 127 */
+    HOMRALGYU_DESK_PROCESSOR,     /* TF011, 0 to 15 */
+    HOMRALGYU_DESK_CONSTELLATION, /* 0 GPS, 1 GLONASS, 2 Galileo, 3 BeiDou, 4 QZSS */
+    HOMRALGYU_DESK_AIOU,          /* of the live book; without areas it does not count and is written as 0 */
+    HOMRALGYU_DESK_AREAS,         /* of the live book: their count */
+    HOMRALGYU_DESK_OPEN,          /* 1 if a run is open, 0 if none is */
+    HOMRALGYU_DESK_TAG,           /* of the open run, as the two below; without one they do not count and are written as 0 */
+    HOMRALGYU_DESK_RUN_AIOU,
+    HOMRALGYU_DESK_RUN_AREAS,
+    HOMRALGYU_DESK                /* the room that a desk wants: 9 */
+};
+
+/* A new desk, without a book and without a run; its books' bytes may be anything.
+ * Refusals in order: ROOM (desk, 9), FIELD (solution over 127, processor over 15, constellation over 4).
+ * Writes the desk. */
+uint8_t homralgyu_desk_new(uint8_t solution, uint8_t processor, uint8_t constellation, uint64_t *desk, size_t desk_len);
+
+/* Whether a desk and its two books are sound: 0 if they are.
+ * Refusals in order: ROOM (desk, 9; live, 192; run, 192), STATE (a number out of its range, an unsound live book, or, if a run is open, an
+ * unsound book of the run). */
+uint8_t homralgyu_desk_is_sound(const uint64_t *desk, size_t desk_len, const uint8_t *live, size_t live_len, const uint8_t *run,
+                                size_t run_len);
+
+/* Takes a frame: a GAD into the live book; an HPAC message into the run log by the run's book, after opening a run if its tag is another.
+ * Refusals in order: ROOM (desk, 9; written, 1; live, 192; run, 192; log, 4,096), STATE (the desk is not sound), those of homralgyu_frame_check,
+ * NOT_OURS, SEALED, those of the payload, then for HPAC TAG, for GAD AREA_OFF, CONFLICT, BOOK_FULL.
+ * Writes the desk, of both books bytes of areas that they hold, the entries of the run log into log, and how many bytes they have into written. */
+uint8_t homralgyu_desk_take(const uint8_t *frame, size_t frame_len, uint64_t *desk, size_t desk_len, uint8_t *live, size_t live_len,
+                            uint8_t *run, size_t run_len, uint8_t *log, size_t log_len, uint64_t *written, size_t written_len);
+
+/* Takes a book (two numbers and its bytes, as homralgyu_kept_read gives them) as the live book. An open run stays as it is.
+ * Refusals in order: ROOM (desk, 9; book, 2; bytes, 192; live, 192; run, 192), STATE (the desk or the book is not sound).
+ * Writes the desk, and six bytes an area into live. */
+uint8_t homralgyu_desk_take_book(uint64_t *desk, size_t desk_len, uint8_t *live, size_t live_len, const uint8_t *run, size_t run_len,
+                                 const uint64_t *book, size_t book_len, const uint8_t *bytes, size_t bytes_len);
+
+/* Looks an area up by its ID: out of the run's book if a run is open, else out of the live book.
+ * Refusals: ROOM (area, 6; found, 1).
+ * Writes the area's six bytes into area, and 6 into found. An absent ID, a desk under nine numbers, a book under 192 bytes, and a desk or book
+ * that is not sound are no refusals: 0 is written into found, and nothing into area. */
+uint8_t homralgyu_desk_find(const uint64_t *desk, size_t desk_len, const uint8_t *live, size_t live_len, const uint8_t *run,
+                            size_t run_len, uint8_t id, uint8_t *area, size_t area_len, uint64_t *found, size_t found_len);
+
+/* The same in one book, of two numbers and its bytes. */
+uint8_t homralgyu_book_find(const uint64_t *book, size_t book_len, const uint8_t *bytes, size_t bytes_len, uint8_t id, uint8_t *area,
+                            size_t area_len, uint64_t *found, size_t found_len);
+
+/* Stream and desk together: what is told is five numbers. */
+enum homralgyu_told {
+    HOMRALGYU_TOLD_EVENT,  /* 0 hungry, 1 frame, 2 noise, 3 done */
+    HOMRALGYU_TOLD_USED,   /* bytes of the input used */
+    HOMRALGYU_TOLD_NOISE,  /* the count of noise that is told, else 0 */
+    HOMRALGYU_TOLD_NUMBER, /* of a frame the desk's answer: 0, or the number of its refusal; else 0 */
+    HOMRALGYU_TOLD_LOG,    /* bytes of the log written */
+    HOMRALGYU_TOLD         /* the room that it wants: 5 */
+};
+
+/* homralgyu_prepare_call takes input until an event is due or all of it is used, and gives a frame to the desk;
+ * homralgyu_prepare_finish is called at the stream's end until it says done. Tray and its bytes are those of homralgyu_stream_call, desk and
+ * the bytes of its two books, live and run, those of homralgyu_desk_take.
+ * Refusals in order: ROOM (tray, 3; desk, 9; told, 5; header, 15; bytes, 1,103; live, 192; run, 192; log, 4,096), STATE (the tray or
+ * the desk is not sound). A frame that the desk refuses is an event like another, with the refusal's number in told; books and log stay.
+ * Writes the tray and its bytes, the desk and its books, told, and the frame's entries of the run log from the log's start on. Of a
+ * frame, accepted or refused by the desk, which then lies first in the tray's bytes, it writes the header. */
+uint8_t homralgyu_prepare_call(uint8_t *bytes, size_t bytes_len, uint64_t *tray, size_t tray_len, uint64_t *desk, size_t desk_len,
+                               uint8_t *live, size_t live_len, uint8_t *run, size_t run_len, uint8_t *log, size_t log_len,
+                               const uint8_t *input, size_t input_len, uint64_t *told, size_t told_len, uint64_t *header,
+                               size_t header_len);
+
+uint8_t homralgyu_prepare_finish(uint8_t *bytes, size_t bytes_len, uint64_t *tray, size_t tray_len, uint64_t *desk, size_t desk_len,
+                                 uint8_t *live, size_t live_len, uint8_t *run, size_t run_len, uint8_t *log, size_t log_len,
+                                 uint64_t *told, size_t told_len, uint64_t *header, size_t header_len);
 
 #ifdef __cplusplus
 }

@@ -143,6 +143,71 @@ pub mod raw {
             orbit: *mut f64,
             orbit_len: usize,
         ) -> u8;
+        fn homralgyu_desk_new(
+            solution: u8,
+            processor: u8,
+            constellation: u8,
+            desk: *mut u64,
+            desk_len: usize,
+        ) -> u8;
+        fn homralgyu_desk_is_sound(
+            desk: *const u64,
+            desk_len: usize,
+            live: *const u8,
+            live_len: usize,
+            run: *const u8,
+            run_len: usize,
+        ) -> u8;
+        fn homralgyu_desk_take(
+            frame: *const u8,
+            frame_len: usize,
+            desk: *mut u64,
+            desk_len: usize,
+            live: *mut u8,
+            live_len: usize,
+            run: *mut u8,
+            run_len: usize,
+            log: *mut u8,
+            log_len: usize,
+            written: *mut u64,
+            written_len: usize,
+        ) -> u8;
+        fn homralgyu_desk_take_book(
+            desk: *mut u64,
+            desk_len: usize,
+            live: *mut u8,
+            live_len: usize,
+            run: *const u8,
+            run_len: usize,
+            book: *const u64,
+            book_len: usize,
+            bytes: *const u8,
+            bytes_len: usize,
+        ) -> u8;
+        fn homralgyu_desk_find(
+            desk: *const u64,
+            desk_len: usize,
+            live: *const u8,
+            live_len: usize,
+            run: *const u8,
+            run_len: usize,
+            id: u8,
+            area: *mut u8,
+            area_len: usize,
+            found: *mut u64,
+            found_len: usize,
+        ) -> u8;
+        fn homralgyu_book_find(
+            book: *const u64,
+            book_len: usize,
+            bytes: *const u8,
+            bytes_len: usize,
+            id: u8,
+            area: *mut u8,
+            area_len: usize,
+            found: *mut u64,
+            found_len: usize,
+        ) -> u8;
     }
 
     // Each call below hands on pointer and length of the slices that it is lent, which are valid for so long.
@@ -312,6 +377,218 @@ pub mod raw {
 
     pub fn orbit(radial: u64, along_track: u64, cross_track: u64, orbit: &mut [f64]) -> u8 {
         unsafe { homralgyu_orbit(radial, along_track, cross_track, orbit.as_mut_ptr(), orbit.len()) }
+    }
+
+    pub fn desk_new(solution: u8, processor: u8, constellation: u8, desk: &mut [u64]) -> u8 {
+        unsafe { homralgyu_desk_new(solution, processor, constellation, desk.as_mut_ptr(), desk.len()) }
+    }
+
+    pub fn desk_is_sound(desk: &[u64], live: &[u8], run: &[u8]) -> u8 {
+        unsafe {
+            homralgyu_desk_is_sound(
+                desk.as_ptr(),
+                desk.len(),
+                live.as_ptr(),
+                live.len(),
+                run.as_ptr(),
+                run.len(),
+            )
+        }
+    }
+
+    pub fn desk_take(
+        frame: &[u8],
+        desk: &mut [u64],
+        live: &mut [u8],
+        run: &mut [u8],
+        log: &mut [u8],
+        written: &mut [u64],
+    ) -> u8 {
+        unsafe {
+            homralgyu_desk_take(
+                frame.as_ptr(),
+                frame.len(),
+                desk.as_mut_ptr(),
+                desk.len(),
+                live.as_mut_ptr(),
+                live.len(),
+                run.as_mut_ptr(),
+                run.len(),
+                log.as_mut_ptr(),
+                log.len(),
+                written.as_mut_ptr(),
+                written.len(),
+            )
+        }
+    }
+
+    pub fn desk_take_book(desk: &mut [u64], live: &mut [u8], run: &[u8], book: &[u64], bytes: &[u8]) -> u8 {
+        unsafe {
+            homralgyu_desk_take_book(
+                desk.as_mut_ptr(),
+                desk.len(),
+                live.as_mut_ptr(),
+                live.len(),
+                run.as_ptr(),
+                run.len(),
+                book.as_ptr(),
+                book.len(),
+                bytes.as_ptr(),
+                bytes.len(),
+            )
+        }
+    }
+
+    pub fn desk_find(
+        desk: &[u64],
+        live: &[u8],
+        run: &[u8],
+        id: u8,
+        area: &mut [u8],
+        found: &mut [u64],
+    ) -> u8 {
+        unsafe {
+            homralgyu_desk_find(
+                desk.as_ptr(),
+                desk.len(),
+                live.as_ptr(),
+                live.len(),
+                run.as_ptr(),
+                run.len(),
+                id,
+                area.as_mut_ptr(),
+                area.len(),
+                found.as_mut_ptr(),
+                found.len(),
+            )
+        }
+    }
+
+    pub fn book_find(book: &[u64], bytes: &[u8], id: u8, area: &mut [u8], found: &mut [u64]) -> u8 {
+        unsafe {
+            homralgyu_book_find(
+                book.as_ptr(),
+                book.len(),
+                bytes.as_ptr(),
+                bytes.len(),
+                id,
+                area.as_mut_ptr(),
+                area.len(),
+                found.as_mut_ptr(),
+                found.len(),
+            )
+        }
+    }
+
+    // stream and desk together
+    extern "C" {
+        fn homralgyu_prepare_call(
+            bytes: *mut u8,
+            bytes_len: usize,
+            tray: *mut u64,
+            tray_len: usize,
+            desk: *mut u64,
+            desk_len: usize,
+            live: *mut u8,
+            live_len: usize,
+            run: *mut u8,
+            run_len: usize,
+            log: *mut u8,
+            log_len: usize,
+            input: *const u8,
+            input_len: usize,
+            told: *mut u64,
+            told_len: usize,
+            header: *mut u64,
+            header_len: usize,
+        ) -> u8;
+        fn homralgyu_prepare_finish(
+            bytes: *mut u8,
+            bytes_len: usize,
+            tray: *mut u64,
+            tray_len: usize,
+            desk: *mut u64,
+            desk_len: usize,
+            live: *mut u8,
+            live_len: usize,
+            run: *mut u8,
+            run_len: usize,
+            log: *mut u8,
+            log_len: usize,
+            told: *mut u64,
+            told_len: usize,
+            header: *mut u64,
+            header_len: usize,
+        ) -> u8;
+    }
+
+    #[allow(clippy::too_many_arguments)]
+    pub fn prepare_call(
+        bytes: &mut [u8],
+        tray: &mut [u64],
+        desk: &mut [u64],
+        live: &mut [u8],
+        run: &mut [u8],
+        log: &mut [u8],
+        input: &[u8],
+        told: &mut [u64],
+        header: &mut [u64],
+    ) -> u8 {
+        unsafe {
+            homralgyu_prepare_call(
+                bytes.as_mut_ptr(),
+                bytes.len(),
+                tray.as_mut_ptr(),
+                tray.len(),
+                desk.as_mut_ptr(),
+                desk.len(),
+                live.as_mut_ptr(),
+                live.len(),
+                run.as_mut_ptr(),
+                run.len(),
+                log.as_mut_ptr(),
+                log.len(),
+                input.as_ptr(),
+                input.len(),
+                told.as_mut_ptr(),
+                told.len(),
+                header.as_mut_ptr(),
+                header.len(),
+            )
+        }
+    }
+
+    #[allow(clippy::too_many_arguments)]
+    pub fn prepare_finish(
+        bytes: &mut [u8],
+        tray: &mut [u64],
+        desk: &mut [u64],
+        live: &mut [u8],
+        run: &mut [u8],
+        log: &mut [u8],
+        told: &mut [u64],
+        header: &mut [u64],
+    ) -> u8 {
+        unsafe {
+            homralgyu_prepare_finish(
+                bytes.as_mut_ptr(),
+                bytes.len(),
+                tray.as_mut_ptr(),
+                tray.len(),
+                desk.as_mut_ptr(),
+                desk.len(),
+                live.as_mut_ptr(),
+                live.len(),
+                run.as_mut_ptr(),
+                run.len(),
+                log.as_mut_ptr(),
+                log.len(),
+                told.as_mut_ptr(),
+                told.len(),
+                header.as_mut_ptr(),
+                header.len(),
+            )
+        }
     }
 }
 
@@ -537,5 +814,148 @@ impl Book {
         let mut book = Book::new();
         answer(raw::kept_read(kept, &mut book.numbers, &mut book.bytes), ())?;
         Ok(book)
+    }
+
+    /// The six bytes of the area with this ID.
+    pub fn find(&self, id: u8) -> Option<[u8; 6]> {
+        let (mut area, mut found) = ([0; 6], [0]);
+        raw::book_find(&self.numbers, &self.bytes, id, &mut area, &mut found);
+        (found[0] == 6).then_some(area)
+    }
+}
+
+/// A desk: what it was made for, its live book and its run, with the bytes of both books.
+#[derive(Clone, Debug)]
+pub struct Desk {
+    numbers: [u64; 9],
+    live: [u8; 192],
+    run: [u8; 192],
+}
+
+impl Desk {
+    /// A desk for one solution, processor and constellation (0 GPS to 4 QZSS), without a book and without a run.
+    pub fn new(solution: u8, processor: u8, constellation: u8) -> Result<Desk, Refusal> {
+        let mut desk = Desk { numbers: [0; 9], live: [0; 192], run: [0; 192] };
+        answer(raw::desk_new(solution, processor, constellation, &mut desk.numbers), ())?;
+        Ok(desk)
+    }
+
+    /// Takes a frame, with 4,096 bytes or more lent for the log: the bytes that it adds to the run log.
+    pub fn take(&mut self, frame: &[u8], log: &mut [u8]) -> Result<usize, Refusal> {
+        let mut written = [0];
+        let number =
+            raw::desk_take(frame, &mut self.numbers, &mut self.live, &mut self.run, log, &mut written);
+        answer(number, ()).map(|()| written[0] as usize)
+    }
+
+    /// Takes a book, as one that was kept, as the live book; an open run stays as it is.
+    pub fn take_book(&mut self, book: &Book) -> Result<(), Refusal> {
+        let number =
+            raw::desk_take_book(&mut self.numbers, &mut self.live, &self.run, &book.numbers, &book.bytes);
+        answer(number, ())
+    }
+
+    /// The live book, to be kept.
+    pub fn book(&self) -> Book {
+        Book { numbers: [self.numbers[3], self.numbers[4]], bytes: self.live }
+    }
+
+    /// The six bytes of the area with this ID, out of the run's book if a run is open, else out of the live book.
+    pub fn find(&self, id: u8) -> Option<[u8; 6]> {
+        let (mut area, mut found) = ([0; 6], [0]);
+        raw::desk_find(&self.numbers, &self.live, &self.run, id, &mut area, &mut found);
+        (found[0] == 6).then_some(area)
+    }
+}
+
+// ---- stream and desk together
+
+/// What a stream says whose frames go to a desk.
+#[derive(Clone, Copy, PartialEq, Eq, Debug)]
+pub enum Prepared {
+    /// all input is used and nothing is due
+    Hungry,
+    /// a frame, the bytes of `Prepare::frame`, and what the desk said of it
+    Frame(Header, Result<(), Refusal>),
+    /// so many bytes of noise
+    Noise(u64),
+    /// after the end of the stream: all is told
+    Done,
+}
+
+/// A stream, the desk that its frames go to, and the run log's entries of the last of them.
+#[derive(Clone, Debug)]
+pub struct Prepare {
+    stream: Stream,
+    desk: Desk,
+    log: [u8; 4096],
+    logged: usize,
+}
+
+impl Prepare {
+    /// The start of a stream to this desk.
+    pub fn new(desk: Desk) -> Prepare {
+        Prepare { stream: Stream::new(), desk, log: [0; 4096], logged: 0 }
+    }
+
+    /// Takes input until an event is due or all of it is used: the event, and how many bytes were used.
+    pub fn call(&mut self, input: &[u8]) -> Result<(Prepared, usize), Refusal> {
+        let (mut told, mut header) = ([0; 5], [0; 15]);
+        let number = raw::prepare_call(
+            &mut self.stream.bytes,
+            &mut self.stream.tray,
+            &mut self.desk.numbers,
+            &mut self.desk.live,
+            &mut self.desk.run,
+            &mut self.log,
+            input,
+            &mut told,
+            &mut header,
+        );
+        self.logged = told[4] as usize;
+        answer(number, ())?;
+        Ok((prepared(&told, &header), told[1] as usize))
+    }
+
+    /// The stream has ended; called until it says done.
+    pub fn finish(&mut self) -> Result<Prepared, Refusal> {
+        let (mut told, mut header) = ([0; 5], [0; 15]);
+        let number = raw::prepare_finish(
+            &mut self.stream.bytes,
+            &mut self.stream.tray,
+            &mut self.desk.numbers,
+            &mut self.desk.live,
+            &mut self.desk.run,
+            &mut self.log,
+            &mut told,
+            &mut header,
+        );
+        self.logged = told[4] as usize;
+        answer(number, ())?;
+        Ok(prepared(&told, &header))
+    }
+
+    /// The frame that was told last, while no other call was made.
+    pub fn frame(&self) -> &[u8] {
+        self.stream.frame()
+    }
+
+    /// The entries that the last call added to the run log.
+    pub fn log(&self) -> &[u8] {
+        &self.log[..self.logged]
+    }
+
+    /// The desk as it is now.
+    pub fn desk(&self) -> &Desk {
+        &self.desk
+    }
+}
+
+fn prepared(told: &[u64; 5], header: &[u64; 15]) -> Prepared {
+    match told[0] {
+        0 => Prepared::Hungry,
+        1 => Prepared::Frame(header_of(header), answer(told[3] as u8, ())),
+        2 => Prepared::Noise(told[2]),
+        _ => Prepared::Done,
     }
 }

@@ -6,6 +6,8 @@ use Prim.Native.Nat.{ℕ}
 use denote.Ref.{RefT, ptr}
 use Rattle.bits.specs.Part.{part-determined}
 use Rattle.area.specs.declared.AreaId.{AreaId}
+use Rattle.codes.specs.Tables.{rowOf}
+use Rattle.codes.specs.declared.Constellation.{Constellation}
 use Rattle.book.specs.declared.Book.{Book}
 use Rattle.desk.specs.Desk.{newDesk, numberOfNew, deskSound}
 use Rattle.desk.specs.Take.{frameTaken, liveAfter, runAfter, logAfter, bookTaken, liveAfterBook, numberOfSaid}
@@ -35,6 +37,9 @@ spot-determined (empty-part p) (empty-part q) = part-determined p q
 
 pub number-said-determined : (said : Said) (a b : ℕ) → a ≡ numberOfSaid said → b ≡ numberOfSaid said → a ≡ b
 number-said-determined said a b p q = p ∙ sym q
+
+pub subtype-of-determined : (constellation : Constellation) (a b : ℕ) → a ≡ rowOf constellation → b ≡ rowOf constellation → a ≡ b
+subtype-of-determined constellation a b p q = p ∙ sym q
 
 pub take-book-determined : (desk : Desk) (book : Book) (bytes live run : List ℕ) (a b : Taken) (s t : List ℕ) → a ≡ bookTaken desk book bytes live run → b ≡ bookTaken desk book bytes live run
     → s ≡ liveAfterBook desk book bytes live run → t ≡ liveAfterBook desk book bytes live run → (a ≡ b) × (s ≡ t)

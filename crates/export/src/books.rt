@@ -35,7 +35,7 @@ fn size(x: u64) -> usize
 }
 
 // The AIOU of a book that has one, 0 of one that has none.
-fn aiou_of(x: u8) -> u64
+pub fn aiou_of(x: u8) -> u64
     ensures { λ r. ⌜ r ≡ x - 1 ⌝ }
 {
     if x == 0 {
@@ -44,7 +44,7 @@ fn aiou_of(x: u8) -> u64
     (x - 1) as u64
 }
 
-fn book_in(book: &[u64]) -> Book
+pub fn book_in(book: &[u64]) -> Book
     requires { ⌜ bookRoom ≤ length (now book) ⌝ }
     ensures { λ r. ⌜ r ≡ bookIn (now (book .entry)) ⌝ }
 {
@@ -61,7 +61,7 @@ fn book_in(book: &[u64]) -> Book
     }
 }
 
-fn put_book(held: Book, book: &mut [u64])
+pub fn put_book(held: Book, book: &mut [u64])
     requires { ⌜ bookRoom ≤ length (now book) ⌝ }
     ensures { λ _. ⌜ now (book .exit) ≡ laid (bookOf held) (now (book .entry)) ⌝ }
 {

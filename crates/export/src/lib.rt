@@ -2,6 +2,6 @@
 pub mod books;
 pub mod frames;
 pub mod meanings;
-mod numbers;
+pub mod numbers;
 pub mod payloads;
 pub mod streams;

@@ -32,7 +32,7 @@ fn noise_in(x: u64) -> u32
     65535
 }
 
-fn noise_count(x: u32) -> u64
+pub fn noise_count(x: u32) -> u64
     ensures { λ r. ⌜ r ≡ x ⌝ }
 {
     x as u64
@@ -44,7 +44,7 @@ fn size(x: u64) -> usize
     x as usize
 }
 
-fn tray_in(tray: &[u64]) -> Tray
+pub fn tray_in(tray: &[u64]) -> Tray
     requires { ⌜ trayRoom ≤ length (now tray) ⌝ }
     ensures { λ r. ⌜ r ≡ trayIn (now (tray .entry)) ⌝ }
 {
@@ -55,7 +55,7 @@ fn tray_in(tray: &[u64]) -> Tray
     }
 }
 
-fn put_tray(held: Tray, tray: &mut [u64])
+pub fn put_tray(held: Tray, tray: &mut [u64])
     requires { ⌜ trayRoom ≤ length (now tray) ⌝ }
     ensures { λ _. ⌜ now (tray .exit) ≡ laid (trayOf held) (now (tray .entry)) ⌝ }
 {

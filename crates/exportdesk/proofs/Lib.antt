@@ -1,0 +1,5 @@
+pub mod Laws
+pub mod Nine
+pub mod Telling
+pub mod Finding
+pub mod Prepared

@@ -1,0 +1,79 @@
+-- Laws: a desk taken out of nine numbers and put back, worded as the code makes them.
+use mathlib.Core.Path.{_≡_, sym, ap, _∙_}
+use mathlib.Core.Bool.{true, false}
+use mathlib.Core.List.{List, [], _∷_}
+use Prim.Native.Nat.{ℕ, _≤_, _<_}
+use lib.Dec.{leb, eqb}
+use lib.ListN.{getD}
+use borrow.Author.Tests.{eq-eqb, ne-eqb, le-leb, lt-leb}
+use Rattle.codes.specs.declared.Constellation.{Constellation}
+use Rattle.codes.specs.declared.Constellation.the-variants.{Gps}
+use Rattle.message.specs.Messages.{constellationFor}
+use Rattle.message.specs.declared.Subtype.{Subtype}
+use Rattle.message.specs.declared.Subtype.the-variants as subtype
+use Rattle.book.specs.declared.Book.{Book}
+use Rattle.desk.specs.declared.Desk.{Desk}
+use Rattle.desk.specs.declared.Run.{Run}
+use Rattle.desk.specs.declared.Run.the-variants.{Closed, Open}
+use Rattle.export.specs.Numbers.{laid, atMost}
+use Rattle.export.specs.Books.{bookIn}
+use Rattle.export.proofs.Laws.{at-most-under, at-most-over}
+use Rattle.exportdesk.specs.States.{known, constellationIn, solutionIn, runIn, deskIn, runBook, deskOf}
+
+-- ---- numbers that may be out of range
+
+pub under : (most w x : ℕ) → w ≡ most → x < w → x ≡ atMost most x
+under most w x e h = at-most-under most x (rw (sym e) h)
+
+pub over : (most w x : ℕ) → w ≡ most → w ≤ x → most ≡ atMost most x
+over most w x e h = at-most-over most x (rw (sym e) h)
+
+module _ (x k : ℕ) (v : Subtype) (p : k ≡ atMost 5 x) (q : v ≡ constellationFor k) where
+  said : known v ≡ constellationIn x
+  unfolding constellationIn
+  said = ap known q ∙ ap (λ (k : ℕ). known (constellationFor k)) p
+
+  pub constellation-known : (c : Constellation) → v ≡ subtype.Known c → c ≡ constellationIn x
+  constellation-known c e = sym (ap known e) ∙ said
+
+  pub constellation-unknown : v ≡ subtype.Unknown → Gps ≡ constellationIn x
+  constellation-unknown e = sym (ap known e) ∙ said
+
+module _ (solution constellation flag : ℕ) where
+  pub no-constellation : 4 < constellation → 128 ≡ solutionIn solution constellation flag
+  unfolding solutionIn
+  no-constellation h = let z : leb constellation 4 ≡ false = lt-leb _ _ h in rw z
+
+  pub no-flag : constellation ≤ 4 → 1 < flag → 128 ≡ solutionIn solution constellation flag
+  unfolding solutionIn
+  no-flag g h = let y : leb constellation 4 ≡ true = le-leb _ _ g in let z : leb flag 1 ≡ false = lt-leb _ _ h in rw (y, z)
+
+  pub solution-is : (r : ℕ) → constellation ≤ 4 → flag ≤ 1 → r ≡ atMost 128 solution → r ≡ solutionIn solution constellation flag
+  unfolding solutionIn
+  solution-is r g h p = let y : leb constellation 4 ≡ true = le-leb _ _ g in let z : leb flag 1 ≡ true = le-leb _ _ h in rw (y, z) p
+
+-- ---- the run, and the desk
+
+module _ (flag tag aiou areas : ℕ) where
+  pub run-closed : flag ≡ 0 → Closed ≡ runIn flag tag aiou areas
+  unfolding runIn
+  run-closed h = let z : eqb flag 0 ≡ true = eq-eqb _ _ h in rw z
+
+  pub run-open : (book : Book) → (flag ≡ 0 → ⊥) → book ≡ bookIn (aiou ∷ areas ∷ []) → Open tag book ≡ runIn flag tag aiou areas
+  unfolding runIn
+  run-open book h p = let z : eqb flag 0 ≡ false = ne-eqb _ _ h in rw z (ap (λ (b : Book). Open tag b) p)
+
+pub desk-in : (s : List ℕ) (a b : ℕ) (c : Constellation) (book : Book) (run : Run) → a ≡ solutionIn (getD s 0 0) (getD s 2 0) (getD s 5 0) → b ≡ atMost 16 (getD s 1 0)
+    → c ≡ constellationIn (getD s 2 0) → book ≡ bookIn (getD s 3 0 ∷ getD s 4 0 ∷ []) → run ≡ runIn (getD s 5 0) (getD s 6 0) (getD s 7 0) (getD s 8 0)
+    → record { solution = a; processor = b; constellation = c; book = book; run = run } ≡ deskIn s
+unfolding deskIn
+desk-in s a b c book run p q t u v = cc
+
+pub run-book-closed : (run : Run) → run ≡ Closed → record { «aiou_plus_one» = 0; count = 0 } ≡ runBook run
+run-book-closed run e = rw e
+
+pub run-book-open : (run : Run) (tag : ℕ) (book : Book) → run ≡ Open tag book → book ≡ runBook run
+run-book-open run tag book e = rw e
+
+pub desk-put : (desk : Desk) (ns lent now : List ℕ) → ns ≡ deskOf desk → now ≡ laid ns lent → now ≡ laid (deskOf desk) lent
+desk-put desk ns lent now q p = p ∙ ap (λ x. laid x lent) q

@@ -1,0 +1,174 @@
+-- Laws: what the calls of `prepare` tell and leave, worded as the code makes it.
+use mathlib.Core.Path.{_≡_, refl, sym, ap, ap₂, _∙_, subst}
+use mathlib.Core.Bool.{Bool, true, false, cond, _||_}
+use mathlib.Core.List.{List, [], _∷_}
+use Prim.Native.Nat.{ℕ, _≤_, _<_}
+use lib.Dec.{ltb}
+use lib.ListN.{length}
+use borrow.Author.Tests.{lt-ltb, le-ltb, ltb-false}
+use Rattle.answer.specs.Number.{numberOf}
+use Rattle.answer.specs.declared.Refusal.{Refusal}
+use Rattle.frame.specs.declared.Frame.{Frame}
+use Rattle.stream.specs.declared.Tray.{Tray}
+use Rattle.desk.specs.declared.Desk.{Desk}
+use Rattle.prepare.specs.declared.Said.{Said}
+use Rattle.prepare.specs.declared.Said.the-variants as said
+use Rattle.prepare.specs.declared.Answer.{Answer}
+use Rattle.prepare.specs.Prepare.{callAnswer, callBytes, callLive, callRun, callLog, finishAnswer, finishBytes, finishLive, finishRun, finishLog}
+use Rattle.prepare.specs.Determined.{Result, byCall, byFinish}
+use Rattle.export.specs.Numbers.{laid}
+use Rattle.export.specs.Frames.{headerOf}
+use Rattle.export.specs.Streams.{trayIn, trayOf}
+use Rattle.export.proofs.Laws.{laid-none}
+use Rattle.exportdesk.specs.States.{deskIn, deskOf}
+use Rattle.exportdesk.specs.Prepares.{Lent, lends, noRoom, callResult, finishResult, eventOf, toldSaid, toldAnswer, headerSaid, stateSaid, numberBy, lentBy, callNumber, callLeaves, finishNumber, finishLeaves}
+use Rattle.exportdesk.specs.Refusals.{neither}
+use Rattle.exportdesk.specs.Tells.{Tells, results}
+
+-- ---- lacks_room
+
+module _ (tray desk told header : List ℕ) where
+  pub room-tray : length tray < 3 → true ≡ noRoom tray desk told header
+  unfolding noRoom
+  room-tray h = rw (lt-ltb (length tray) 3 h)
+
+  pub room-desk : 3 ≤ length tray → length desk < 9 → true ≡ noRoom tray desk told header
+  unfolding noRoom
+  room-desk h k = rw (le-ltb (length tray) 3 h, lt-ltb (length desk) 9 k)
+
+  pub room-told : 3 ≤ length tray → 9 ≤ length desk → length told < 5 → true ≡ noRoom tray desk told header
+  unfolding noRoom
+  room-told h k l = rw (le-ltb (length tray) 3 h, le-ltb (length desk) 9 k, lt-ltb (length told) 5 l)
+
+  pub room-header : 3 ≤ length tray → 9 ≤ length desk → 5 ≤ length told → ltb (length header) 15 ≡ noRoom tray desk told header
+  unfolding noRoom
+  room-header h k l = rw (le-ltb (length tray) 3 h, le-ltb (length desk) 9 k, le-ltb (length told) 5 l)
+
+-- ---- put_told
+
+pub told-put : (event used noise number log u n l : ℕ) (lent now : List ℕ) → u ≡ used → n ≡ number → l ≡ log → now ≡ laid (event ∷ u ∷ noise ∷ n ∷ l ∷ []) lent
+    → now ≡ laid (eventOf event used noise number log) lent
+unfolding eventOf
+told-put event used noise number log u n l lent now p q r e =
+    e ∙ ap₂ (λ u n. laid (event ∷ u ∷ noise ∷ n ∷ l ∷ []) lent) p q ∙ ap (λ l. laid (event ∷ used ∷ noise ∷ number ∷ l ∷ []) lent) r
+
+-- ---- tell: a case for each thing that is said
+
+module _ (a : Answer) (tray desk told header tray′ desk′ told′ : List ℕ) where
+  module _ (t : tray′ ≡ laid (trayOf (a .tray)) tray) (d : desk′ ≡ laid (deskOf (a .desk)) desk) where
+    pub tells-hungry : a .said ≡ said.Hungry → told′ ≡ laid (eventOf 0 (a .used) 0 0 (a .log)) told → Tells a tray desk told header 0 tray′ desk′ told′ header
+    unfolding toldAnswer toldSaid stateSaid headerSaid
+    tells-hungry e p = record { number-is = rw e; tray-is = rw e t; desk-is = rw e d; told-is = rw e p; header-is = rw e (laid-none header) }
+
+    pub tells-done : a .said ≡ said.Done → told′ ≡ laid (eventOf 3 (a .used) 0 0 (a .log)) told → Tells a tray desk told header 0 tray′ desk′ told′ header
+    unfolding toldAnswer toldSaid stateSaid headerSaid
+    tells-done e p = record { number-is = rw e; tray-is = rw e t; desk-is = rw e d; told-is = rw e p; header-is = rw e (laid-none header) }
+
+    pub tells-noise : (m n : ℕ) → a .said ≡ said.Noise m → n ≡ m → told′ ≡ laid (eventOf 2 (a .used) n 0 (a .log)) told → Tells a tray desk told header 0 tray′ desk′ told′ header
+    unfolding toldAnswer toldSaid stateSaid headerSaid
+    tells-noise m n e q p = record {
+      number-is = rw e;
+      tray-is = rw e t;
+      desk-is = rw e d;
+      told-is = rw e (p ∙ ap (λ n. laid (eventOf 2 (a .used) n 0 (a .log)) told) q);
+      header-is = rw e (laid-none header);
+    }
+
+    pub tells-accepted : (f : Frame) (header′ : List ℕ) → a .said ≡ said.Accepted f → told′ ≡ laid (eventOf 1 (a .used) 0 0 (a .log)) told → header′ ≡ laid (headerOf f) header
+        → Tells a tray desk told header 0 tray′ desk′ told′ header′
+    unfolding toldAnswer toldSaid stateSaid headerSaid
+    tells-accepted f header′ e p h = record { number-is = rw e; tray-is = rw e t; desk-is = rw e d; told-is = rw e p; header-is = rw e h }
+
+    pub tells-refused-frame : (f : Frame) (w : Refusal) (n : ℕ) (header′ : List ℕ) → a .said ≡ said.FrameRefused f w → n ≡ numberOf w
+        → told′ ≡ laid (eventOf 1 (a .used) 0 n (a .log)) told → header′ ≡ laid (headerOf f) header
+        → Tells a tray desk told header 0 tray′ desk′ told′ header′
+    unfolding toldAnswer toldSaid stateSaid headerSaid
+    tells-refused-frame f w n header′ e q p h = record {
+      number-is = rw e;
+      tray-is = rw e t;
+      desk-is = rw e d;
+      told-is = rw e (p ∙ ap (λ n. laid (eventOf 1 (a .used) 0 n (a .log)) told) q);
+      header-is = rw e h;
+    }
+
+pub tells-refused : (a : Answer) (tray desk told header : List ℕ) (w : Refusal) (n : ℕ) → a .said ≡ said.Refused w → n ≡ numberOf w
+    → Tells a tray desk told header n tray desk told header
+unfolding toldAnswer toldSaid stateSaid headerSaid
+tells-refused a tray desk told header w n e q =
+    record { number-is = rw e q; tray-is = rw e (laid-none tray); desk-is = rw e (laid-none desk); told-is = rw e (laid-none told); header-is = rw e (laid-none header) }
+
+-- ---- call and finish: the tray and the desk are those that the numbers say
+
+module _ (bytes live run log bytes′ live′ run′ log′ ts ds : List ℕ) (t : Tray) (d : Desk) (p : t ≡ trayIn ts) (q : d ≡ deskIn ds) (r : Answer) where
+  pub called : (input : List ℕ)
+      → r ≡ callAnswer bytes t d live run log input → bytes′ ≡ callBytes bytes t d live run log input → live′ ≡ callLive bytes t d live run log input
+      → run′ ≡ callRun bytes t d live run log input → log′ ≡ callLog bytes t d live run log input
+      → results r bytes′ live′ run′ log′ ≡ byCall bytes (trayIn ts) (deskIn ds) live run log input
+  called input a b c e f =
+      let z : results r bytes′ live′ run′ log′ ≡ byCall bytes t d live run log input = rw (a, b, c, e, f) in
+      z ∙ ap₂ (λ t d. byCall bytes t d live run log input) p q
+
+  pub finished : r ≡ finishAnswer bytes t d live run log → bytes′ ≡ finishBytes bytes t d live run log → live′ ≡ finishLive bytes t d live run log
+      → run′ ≡ finishRun bytes t d live run log → log′ ≡ finishLog bytes t d live run log
+      → results r bytes′ live′ run′ log′ ≡ byFinish bytes (trayIn ts) (deskIn ds) live run log
+  finished a b c e f =
+      let z : results r bytes′ live′ run′ log′ ≡ byFinish bytes t d live run log = rw (a, b, c, e, f) in
+      z ∙ ap₂ (λ t d. byFinish bytes t d live run log) p q
+
+-- ---- the calls for other languages
+
+record Rooms (tray desk told header : List ℕ) : Type 0 where
+  tray-room : 3 ≤ length tray
+  desk-room : 9 ≤ length desk
+  told-room : 5 ≤ length told
+  header-room : 15 ≤ length header
+
+module _ (tray desk told header : List ℕ) (b : Bool) (e : b ≡ noRoom tray desk told header) (h : b ≡ false) where
+  rooms : Rooms tray desk told header
+  unfolding noRoom
+  rooms =
+      let x = neither (ltb (length tray) 3) _ (sym e ∙ h) in
+      let y = neither (ltb (length desk) 9) _ (x .1) in
+      let z = neither (ltb (length told) 5) _ (y .1) in
+      record { tray-room = ltb-false _ _ (x .0); desk-room = ltb-false _ _ (y .0); told-room = ltb-false _ _ (z .0); header-room = ltb-false _ _ (z .1) }
+
+  -- what the call below wants, and what telling wants
+  pub states-there : (3 ≤ length tray) × (9 ≤ length desk)
+  states-there = (rooms .tray-room, rooms .desk-room)
+
+  pub all-there : (3 ≤ length tray) × (9 ≤ length desk) × (5 ≤ length told) × (15 ≤ length header)
+  all-there = (rooms .tray-room, rooms .desk-room, rooms .told-room, rooms .header-room)
+
+module _ (bytes tray desk live run log told header : List ℕ) (b : Bool) (e : b ≡ noRoom tray desk told header) where
+  abbrev lent : Lent
+  lent = lends bytes tray desk live run log told header
+
+  short-by : (result : Result) → b ≡ true → (9 ≡ numberBy lent result) × (lent ≡ lentBy lent result)
+  unfolding numberBy lentBy
+  short-by result h = let z : noRoom tray desk told header ≡ true = sym e ∙ h in (rw z, rw z)
+
+  pub call-short : (input : List ℕ) → b ≡ true → (9 ≡ callNumber lent input) × (lent ≡ callLeaves lent input)
+  unfolding callNumber callLeaves
+  call-short input h = short-by (callResult lent input) h
+
+  pub finish-short : b ≡ true → (9 ≡ finishNumber lent) × (lent ≡ finishLeaves lent)
+  unfolding finishNumber finishLeaves
+  finish-short h = short-by (finishResult lent) h
+
+  module _ (h : b ≡ false) (a : Answer) (bytes′ tray′ desk′ live′ run′ log′ told′ header′ : List ℕ) (n : ℕ) (t : Tells a tray desk told header n tray′ desk′ told′ header′) where
+    abbrev lent′ : Lent
+    lent′ = lends bytes′ tray′ desk′ live′ run′ log′ told′ header′
+
+    told-by : (n ≡ numberBy lent (results a bytes′ live′ run′ log′)) × (lent′ ≡ lentBy lent (results a bytes′ live′ run′ log′))
+    unfolding numberBy lentBy
+    told-by = let z : noRoom tray desk told header ≡ false = sym e ∙ h in (rw z (t .number-is), rw (z, t .tray-is, t .desk-is, t .told-is, t .header-is))
+
+    pub call-told : (input : List ℕ) → results a bytes′ live′ run′ log′ ≡ byCall bytes (trayIn tray) (deskIn desk) live run log input
+        → (n ≡ callNumber lent input) × (lent′ ≡ callLeaves lent input)
+    unfolding callNumber callLeaves callResult
+    call-told input q = subst (λ r. (n ≡ numberBy lent r) × (lent′ ≡ lentBy lent r)) q told-by
+
+    pub finish-told : results a bytes′ live′ run′ log′ ≡ byFinish bytes (trayIn tray) (deskIn desk) live run log
+        → (n ≡ finishNumber lent) × (lent′ ≡ finishLeaves lent)
+    unfolding finishNumber finishLeaves finishResult
+    finish-told q = subst (λ r. (n ≡ numberBy lent r) × (lent′ ≡ lentBy lent r)) q told-by

@@ -1,0 +1,40 @@
+-- A slice is too short, or what was told is what the call below answers.
+use Rattle.desk.specs.declared.Taken.{Taken}
+use Rattle.exportdesk.specs.Desks.{toldTaken}
+use Rattle.exportdesk.proofs.Laws.{first-short, second-short, both-are, both-by, both-laid}
+use borrow.Author.Needs.{needs}
+use Rattle.exportdesk.proofs.desks.homralgyu_desk_take_book.Statement.{statement}
+use Rattle.exportdesk.proofs.desks.homralgyu_desk_take_book.Tie as tie
+
+returns : tie.Need-returns
+returns c = (search (first-short, needs), (search (first-short, needs), search (first-short, needs)))
+
+returns-2 : tie.Need-returns-2
+returns-2 c = (search (second-short, needs), (search (second-short, needs), search (second-short, needs)))
+
+take-book-requires : tie.Need-take-book-requires
+take-book-requires c κs = search needs
+
+tell-taken-requires : tie.Need-tell-taken-requires
+tell-taken-requires c κs = search needs
+
+same-length : tie.Need-same-length
+same-length c = search needs
+
+same-length-2 : tie.Need-same-length-2
+same-length-2 c = search needs
+
+returns-3 : tie.Need-returns-3
+returns-3 c = (search (both-by (λ (v : Taken). toldTaken v .number), needs), (search (both-laid (λ (v : Taken). toldTaken v .numbers), needs), search (both-are, needs)))
+
+pub homralgyu-desk-take-book-spec : {M : Type 1} → statement M
+homralgyu-desk-take-book-spec =
+    tie.close
+    (tie.spec
+    returns
+    returns-2
+    take-book-requires
+    tell-taken-requires
+    same-length
+    same-length-2
+    returns-3)

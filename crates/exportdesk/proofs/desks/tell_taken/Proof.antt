@@ -1,0 +1,38 @@
+-- A case for each thing that is said.
+use Rattle.exportdesk.proofs.Telling.{taken-number, taken-numbers, refused-number, refused-numbers}
+use borrow.Author.Needs.{needs}
+use Rattle.exportdesk.proofs.desks.tell_taken.Statement.{statement}
+use Rattle.exportdesk.proofs.desks.tell_taken.Tie as tie
+
+enum-told : tie.Need-enum-told
+enum-told c = search needs
+
+put-desk-requires : tie.Need-put-desk-requires
+put-desk-requires c κs = search needs
+
+enum-known-said : tie.Need-enum-known-said
+enum-known-said c = search needs
+
+number-requires : tie.Need-number-requires
+number-requires c κs = search needs
+
+same-length : tie.Need-same-length
+same-length c = search needs
+
+returns : tie.Need-returns
+returns c = search (taken-number, taken-numbers, needs)
+
+returns-2 : tie.Need-returns-2
+returns-2 c = search (refused-number, refused-numbers, needs)
+
+pub tell-taken-spec : {M : Type 1} → statement M
+tell-taken-spec =
+    tie.close
+    (tie.spec
+    enum-told
+    put-desk-requires
+    enum-known-said
+    number-requires
+    same-length
+    returns
+    returns-2)

@@ -1,0 +1,39 @@
+-- A slice is too short, or the bytes are those that are found.
+use Rattle.exportdesk.specs.Finds.{countOf}
+use Rattle.exportdesk.proofs.Laws.{first-short, second-short, both-are, both-laid}
+use borrow.Author.Needs.{needs}
+use Rattle.exportdesk.proofs.finds.homralgyu_desk_find.Statement.{statement}
+use Rattle.exportdesk.proofs.finds.homralgyu_desk_find.Tie as tie
+
+returns : tie.Need-returns
+returns c = (search (first-short, needs), (search (first-short, needs), search (first-short, needs)))
+
+returns-2 : tie.Need-returns-2
+returns-2 c = (search (second-short, needs), (search (second-short, needs), search (second-short, needs)))
+
+find-in-desk-requires : tie.Need-find-in-desk-requires
+find-in-desk-requires c κs = search needs
+
+put-found-requires : tie.Need-put-found-requires
+put-found-requires c κs = search needs
+
+same-length : tie.Need-same-length
+same-length c = search needs
+
+same-length-2 : tie.Need-same-length-2
+same-length-2 c = search needs
+
+returns-3 : tie.Need-returns-3
+returns-3 c = (search (both-are, needs), (search (both-are, needs), search (both-laid countOf, needs)))
+
+pub homralgyu-desk-find-spec : {M : Type 1} → statement M
+homralgyu-desk-find-spec =
+    tie.close
+    (tie.spec
+    returns
+    returns-2
+    find-in-desk-requires
+    put-found-requires
+    same-length
+    same-length-2
+    returns-3)

@@ -1,0 +1,20 @@
+-- A closed run has no book.
+use Rattle.exportdesk.proofs.Nine.{run-book-closed, run-book-open}
+use borrow.Author.Needs.{needs}
+use Rattle.exportdesk.proofs.states.run_book.Statement.{statement}
+use Rattle.exportdesk.proofs.states.run_book.Tie as tie
+
+enum-told : tie.Need-enum-told
+enum-told c = search needs
+
+enum-known-run : tie.Need-enum-known-run
+enum-known-run c = search needs
+
+returns : tie.Need-returns
+returns c = search (run-book-closed, needs)
+
+returns-2 : tie.Need-returns-2
+returns-2 c = search (run-book-open, needs)
+
+pub run-book-spec : {M : Type 1} → statement M
+run-book-spec = tie.close (tie.spec enum-told enum-known-run returns returns-2)

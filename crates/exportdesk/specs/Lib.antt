@@ -1,0 +1,11 @@
+pub mod Rooms
+pub mod States
+pub mod Desks
+pub mod Finds
+pub mod Theorems
+pub mod FindTheorems
+pub mod Determined
+pub mod Prepares
+pub mod Tells
+pub mod DeterminedPrepares
+pub mod Refusals

@@ -1,0 +1,79 @@
+-- Definitions to believe: a desk as nine numbers.
+use mathlib.Core.Bool.{cond, _&&_}
+use mathlib.Core.List.{List, [], _∷_}
+use Prim.Native.Nat.{ℕ, _-_}
+use lib.Dec.{leb, eqb}
+use lib.ListN.{getD}
+use Rattle.codes.specs.Tables.{rowOf}
+use Rattle.codes.specs.declared.Constellation.{Constellation}
+use Rattle.codes.specs.declared.Constellation.the-variants.{Gps}
+use Rattle.message.specs.Messages.{constellationFor}
+use Rattle.message.specs.declared.Subtype.{Subtype}
+use Rattle.message.specs.declared.Subtype.the-variants as subtype
+use Rattle.book.specs.declared.Book.{Book}
+use Rattle.desk.specs.Desk.{noBook}
+use Rattle.desk.specs.declared.Desk.{Desk}
+use Rattle.desk.specs.declared.Run.{Run}
+use Rattle.desk.specs.declared.Run.the-variants.{Closed, Open}
+use Rattle.export.specs.Numbers.{atMost}
+use Rattle.export.specs.Books.{bookIn}
+
+-- solution, processor, constellation; AIOU and count of the live book; 1 if a run is open, else 0; the run's tag, and AIOU and count of its book
+abbrev pub deskRoom : ℕ
+deskRoom = 9
+
+-- ---- the desk that nine numbers say
+
+-- constellations are 0 to 4, as the subtypes of HPAC; any other number is none (`solutionIn`)
+abbrev pub known : Subtype → Constellation
+known (subtype.Known constellation) = constellation
+known subtype.Unknown = Gps
+
+unfoldable pub constellationIn : ℕ → Constellation
+constellationIn x = known (constellationFor (atMost 5 x))
+
+-- "Solution, processor, constellation, AIOU and tag are in range": a number out of its range is not sound, whatever it is. "A flag out of range is
+-- STATE". A desk whose constellation or flag is out of range is read as one of solution 128, which no desk has.
+unfoldable pub solutionIn : (solution constellation flag : ℕ) → ℕ
+solutionIn solution constellation flag = cond (leb constellation 4 && leb flag 1) (atMost 128 solution) 128
+
+-- "Numbers that a flag makes meaningless (the tag of a closed run, ..) do not count."
+unfoldable pub runIn : (flag tag aiou areas : ℕ) → Run
+runIn flag tag aiou areas = cond (eqb flag 0) Closed (Open tag (bookIn (aiou ∷ areas ∷ [])))
+
+unfoldable pub deskIn : List ℕ → Desk
+deskIn s =
+    record {
+      solution = solutionIn (getD s 0 0) (getD s 2 0) (getD s 5 0);
+      processor = atMost 16 (getD s 1 0);
+      constellation = constellationIn (getD s 2 0);
+      book = bookIn (getD s 3 0 ∷ getD s 4 0 ∷ []);
+      run = runIn (getD s 5 0) (getD s 6 0) (getD s 7 0) (getD s 8 0);
+    }
+
+-- ---- a desk said in nine numbers; what does not count is 0
+
+abbrev pub isOpen : Run → ℕ
+isOpen Closed = 0
+isOpen (Open tag book) = 1
+
+abbrev pub tagOf : Run → ℕ
+tagOf Closed = 0
+tagOf (Open tag book) = tag
+
+abbrev pub runBook : Run → Book
+runBook Closed = noBook
+runBook (Open tag book) = book
+
+unfoldable pub deskOf : Desk → List ℕ
+deskOf desk =
+    desk .solution
+    ∷ desk .processor
+    ∷ rowOf (desk .constellation)
+    ∷ (desk .book .«aiou_plus_one» - 1)
+    ∷ desk .book .count
+    ∷ isOpen (desk .run)
+    ∷ tagOf (desk .run)
+    ∷ (runBook (desk .run) .«aiou_plus_one» - 1)
+    ∷ runBook (desk .run) .count
+    ∷ []

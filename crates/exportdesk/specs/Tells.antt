@@ -1,0 +1,21 @@
+-- Mirror: what the steps of a call of `prepare` leave. Serves proofs.
+use mathlib.Core.Path.{_≡_}
+use mathlib.Core.List.{List}
+use Prim.Native.Nat.{ℕ}
+use Rattle.export.specs.Numbers.{laid}
+use Rattle.export.specs.Streams.{trayOf}
+use Rattle.prepare.specs.declared.Answer.{Answer}
+use Rattle.prepare.specs.Determined.{Result}
+use Rattle.exportdesk.specs.States.{deskOf}
+use Rattle.exportdesk.specs.Prepares.{toldAnswer, stateSaid, headerSaid}
+
+abbrev pub results : Answer → (bytes live run log : List ℕ) → Result
+results answer bytes live run log = record { answer = answer; bytes = bytes; live = live; run = run; log = log }
+
+-- the number, and the slices of numbers, are these
+pub record Tells (answer : Answer) (tray desk told header : List ℕ) (number : ℕ) (tray′ desk′ told′ header′ : List ℕ) : Type 0 where
+  pub number-is : number ≡ toldAnswer answer .number
+  pub tray-is : tray′ ≡ laid (stateSaid (answer .said) (trayOf (answer .tray))) tray
+  pub desk-is : desk′ ≡ laid (stateSaid (answer .said) (deskOf (answer .desk))) desk
+  pub told-is : told′ ≡ laid (toldAnswer answer .numbers) told
+  pub header-is : header′ ≡ laid (headerSaid (answer .said)) header

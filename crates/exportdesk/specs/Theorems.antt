@@ -1,0 +1,205 @@
+-- Theorems on a desk as nine numbers. A number out of its range makes a desk unsound; numbers that a flag makes meaningless do not count. A sound desk
+-- that is written and read again is the same desk, so calls in a row are what they are to `desk`. Proved; assumes nothing.
+use mathlib.Core.Path.{_≡_, refl, ap, ap₂, sym, _∙_}
+use mathlib.Core.Bool.{Bool, true, false, cond, _&&_, Bool·beq}
+use mathlib.Core.List.{List, [], _∷_}
+use Prim.Native.Nat.{ℕ, _+_, _-_, _≤_, _<_}
+use native.Mathlib.Nat.{pos-of-ne-zero}
+use native.Mathlib.Omega.{arith}
+use lib.Dec.{ltb, leb, eqb}
+use lib.ListN.{getD}
+use borrow.Author.Tests.{lt-ltb, le-ltb, ltb-true, le-leb, lt-leb, eqb-true, eqb-false, ne-eqb}
+use Rattle.area.specs.Laws.{both-left, both-right}
+use Rattle.codes.specs.Tables.{rowOf}
+use Rattle.codes.specs.declared.Constellation.{Constellation}
+use Rattle.codes.specs.declared.Constellation.the-variants.{Gps, Glonass, Galileo, BeiDou, Qzss}
+use Rattle.book.specs.Book.{mostAreas, headSound, sound}
+use Rattle.book.specs.Laws.{head-parts, sound-head}
+use Rattle.book.specs.declared.Book.{Book}
+use Rattle.desk.specs.Desk.{tags, sourceInRange, runSound, deskSound}
+use Rattle.desk.specs.Take.{Verdict, refused, defines, continues, opens, copied, deskBy, takenBy, frameTaken, bookTaken}
+use Rattle.desk.specs.Fits.{sound-source, sound-live, sound-run, Fits, new-areas, same-run, new-run}
+use Rattle.desk.specs.History.{Held, Given, frameWith, keptBook, verdictOn, heldBy}
+use Rattle.desk.specs.Theorems.{heldSound, fits-on, stays-sound}
+use Rattle.desk.specs.declared.Desk.{Desk}
+use Rattle.desk.specs.declared.Run.{Run}
+use Rattle.desk.specs.declared.Run.the-variants.{Closed, Open}
+use Rattle.export.specs.Numbers.{laid, atMost}
+use Rattle.export.specs.Books.{bookIn}
+use Rattle.exportdesk.specs.States.{constellationIn, solutionIn, runIn, deskIn, isOpen, tagOf, runBook, deskOf}
+use Rattle.exportdesk.specs.Desks.{toldSaid, toldTaken, takeOf, takeBookOf}
+
+-- ---- a number out of its range
+
+most-over : (most x : ℕ) → most ≤ x → atMost most x ≡ most
+unfolding atMost
+most-over most x h = let z : ltb x most ≡ false = le-ltb _ _ h in rw z
+
+most-under : (most x : ℕ) → x < most → atMost most x ≡ x
+unfolding atMost
+most-under most x h = let z : ltb x most ≡ true = lt-ltb _ _ h in rw z
+
+never : (b : Bool) → (b && false) ≡ false
+never true = refl
+never false = refl
+
+no-solution : (desk : Desk) (live run : List ℕ) → desk .solution ≡ 128 → deskSound desk live run ≡ false
+unfolding deskSound
+no-solution desk live run e = rw e
+
+no-processor : (desk : Desk) (live run : List ℕ) → desk .processor ≡ 16 → deskSound desk live run ≡ false
+unfolding deskSound
+no-processor desk live run e = rw (e, never (ltb (desk .solution) 128))
+
+no-run : (desk : Desk) (live run : List ℕ) → runSound (desk .run) run ≡ false → deskSound desk live run ≡ false
+unfolding deskSound
+no-run desk live run e = rw (e, never (sound (desk .book) live), never (sourceInRange (desk .solution) (desk .processor)))
+
+module _ (s live run : List ℕ) where
+  pub solution-out : 127 < getD s 0 0 → deskSound (deskIn s) live run ≡ false
+  unfolding deskIn solutionIn
+  solution-out h = no-solution (deskIn s) live run (go (leb (getD s 2 0) 4 && leb (getD s 5 0) 1))
+    where
+      go : (b : Bool) → cond b (atMost 128 (getD s 0 0)) 128 ≡ 128
+      go true = most-over 128 (getD s 0 0) (omega arith)
+      go false = refl
+
+  pub processor-out : 15 < getD s 1 0 → deskSound (deskIn s) live run ≡ false
+  unfolding deskIn
+  processor-out h = no-processor (deskIn s) live run (most-over 16 (getD s 1 0) (omega arith))
+
+  pub constellation-out : 4 < getD s 2 0 → deskSound (deskIn s) live run ≡ false
+  unfolding deskIn solutionIn
+  constellation-out h = no-solution (deskIn s) live run (ap (λ b. cond (b && leb (getD s 5 0) 1) (atMost 128 (getD s 0 0)) 128) (lt-leb (getD s 2 0) 4 h))
+
+  pub flag-out : 1 < getD s 5 0 → deskSound (deskIn s) live run ≡ false
+  unfolding deskIn solutionIn
+  flag-out h =
+      no-solution (deskIn s) live run
+      (ap (λ b. cond (leb (getD s 2 0) 4 && b) (atMost 128 (getD s 0 0)) 128) (lt-leb (getD s 5 0) 1 h)
+      ∙ ap (λ b. cond b (atMost 128 (getD s 0 0)) 128) (never (leb (getD s 2 0) 4)))
+
+  pub tag-out : getD s 5 0 ≡ 1 → 43199 < getD s 6 0 → deskSound (deskIn s) live run ≡ false
+  unfolding deskIn runIn
+  tag-out f h =
+      let y : eqb (getD s 5 0) 0 ≡ false = ne-eqb (getD s 5 0) 0 (λ q. omega arith) in
+      let z : ltb (getD s 6 0) tags ≡ false = le-ltb (getD s 6 0) tags (omega arith) in
+      no-run (deskIn s) live run (rw (y, z))
+
+-- ---- numbers that do not count
+
+module _ (solution processor constellation : ℕ) where
+  -- the AIOU of an empty book
+  pub empty-book : (a b flag tag aiou areas : ℕ)
+      → deskIn (solution ∷ processor ∷ constellation ∷ a ∷ 0 ∷ flag ∷ tag ∷ aiou ∷ areas ∷ []) ≡ deskIn (solution ∷ processor ∷ constellation ∷ b ∷ 0 ∷ flag ∷ tag ∷ aiou ∷ areas ∷ [])
+  unfolding deskIn bookIn
+  empty-book a b flag tag aiou areas = refl
+
+  -- tag and book of a closed run
+  pub closed-run : (aiou areas t a n u b m : ℕ)
+      → deskIn (solution ∷ processor ∷ constellation ∷ aiou ∷ areas ∷ 0 ∷ t ∷ a ∷ n ∷ []) ≡ deskIn (solution ∷ processor ∷ constellation ∷ aiou ∷ areas ∷ 0 ∷ u ∷ b ∷ m ∷ [])
+  unfolding deskIn runIn
+  closed-run aiou areas t a n u b m = refl
+
+-- ---- a desk that is written and read again
+
+-- of a sound book AIOU and count are both there, or neither is
+book-back : (book : Book) → headSound book ≡ true → bookIn ((book .«aiou_plus_one» - 1) ∷ book .count ∷ []) ≡ book
+unfolding headSound bookIn
+book-back book e = go (eqb (book .count) 0) refl
+  where
+    a : ℕ
+    a = book .«aiou_plus_one»
+
+    alike : Bool·beq (eqb a 0) (eqb (book .count) 0) ≡ true
+    alike = both-left (Bool·beq (eqb a 0) (eqb (book .count) 0)) (leb a 16 && leb (book .count) mostAreas) e
+
+    none : (x : Bool) → eqb a 0 ≡ x → Bool·beq x true ≡ true → a ≡ 0
+    none true q h = eqb-true a 0 q
+    none false q h = let z : _≡_ {A = ℕ} 0 1 = cc in absurd (omega arith)
+
+    some : (x : Bool) → eqb a 0 ≡ x → Bool·beq x false ≡ true → a ≡ 0 → ⊥
+    some false q h = eqb-false a 0 q
+    some true q h = let z : _≡_ {A = ℕ} 0 1 = cc in absurd (omega arith)
+
+    go : (b : Bool) → eqb (book .count) 0 ≡ b
+        → cond b (record { «aiou_plus_one» = 0; count = 0 }) (record { «aiou_plus_one» = atMost 16 (a - 1) + 1; count = book .count }) ≡ book
+    go true q =
+        let h : Bool·beq (eqb a 0) true ≡ true = ap (Bool·beq (eqb a 0)) (sym q) ∙ alike in
+        ap₂ (λ (x : ℕ) (y : ℕ). record { «aiou_plus_one» = x; count = y }) (sym (none (eqb a 0) refl h)) (sym (eqb-true (book .count) 0 q))
+    go false q =
+        let h : Bool·beq (eqb a 0) false ≡ true = ap (Bool·beq (eqb a 0)) (sym q) ∙ alike in
+        let n : a ≡ 0 → ⊥ = some (eqb a 0) refl h in
+        let k : a ≤ 16 = head-parts book e .0 in
+        let w : atMost 16 (a - 1) ≡ a - 1 = most-under 16 (a - 1) (omega (arith, pos-of-ne-zero n)) in
+        ap (λ (x : ℕ). record { «aiou_plus_one» = x; count = book .count }) (ap (λ (x : ℕ). x + 1) w ∙ omega (arith, pos-of-ne-zero n))
+
+constellation-back : (c : Constellation) → constellationIn (rowOf c) ≡ c
+unfolding constellationIn atMost
+constellation-back Gps = refl
+constellation-back Glonass = refl
+constellation-back Galileo = refl
+constellation-back BeiDou = refl
+constellation-back Qzss = refl
+
+solution-back : (solution : ℕ) (c : Constellation) (run : Run) → solution < 128 → solutionIn solution (rowOf c) (isOpen run) ≡ solution
+unfolding solutionIn
+solution-back solution c run h =
+    let y : leb (rowOf c) 4 ≡ true = le-leb _ _ (row c) in
+    let z : leb (isOpen run) 1 ≡ true = le-leb _ _ (flag run) in
+    rw (y, z) (most-under 128 solution h)
+  where
+    row : (c : Constellation) → rowOf c ≤ 4
+    row Gps = omega arith
+    row Glonass = omega arith
+    row Galileo = omega arith
+    row BeiDou = omega arith
+    row Qzss = omega arith
+
+    flag : (run : Run) → isOpen run ≤ 1
+    flag Closed = omega arith
+    flag (Open tag book) = omega arith
+
+run-back : (run : Run) (bytes : List ℕ) → runSound run bytes ≡ true → runIn (isOpen run) (tagOf run) (runBook run .«aiou_plus_one» - 1) (runBook run .count) ≡ run
+unfolding runIn
+run-back Closed bytes e = refl
+run-back (Open tag book) bytes e = ap (λ (b : Book). Open tag b) (book-back book (sound-head book bytes (both-right (ltb tag tags) (sound book bytes) e)))
+
+-- whatever lies behind the nine numbers
+pub reads-back : (desk : Desk) (live run lent : List ℕ) → deskSound desk live run ≡ true → deskIn (laid (deskOf desk) lent) ≡ desk
+unfolding deskIn deskOf laid
+reads-back desk live run lent e =
+    let source = sound-source desk live run e in
+    let a = solution-back (desk .solution) (desk .constellation) (desk .run) (ltb-true (desk .solution) 128 (both-left (ltb (desk .solution) 128) (ltb (desk .processor) 16) source)) in
+    let b = most-under 16 (desk .processor) (ltb-true (desk .processor) 16 (both-right (ltb (desk .solution) 128) (ltb (desk .processor) 16) source)) in
+    let c = constellation-back (desk .constellation) in
+    let d = book-back (desk .book) (sound-head (desk .book) live (sound-live desk live run e)) in
+    let f = run-back (desk .run) run (sound-run desk live run e) in
+    rw (a, b, c, d, f)
+
+-- ---- calls one after the other
+
+module _ (s live run : List ℕ) (given : Given) where
+  abbrev held : Held
+  held = record { desk = deskIn s; live = live; run = run }
+
+  next-by : (v : Verdict) → Fits (deskIn s) live run v → (heldSound held ≡ true → heldSound (heldBy held v) ≡ true)
+      → deskIn (laid (toldTaken (takenBy (deskIn s) live run v) .numbers) s) ≡ deskBy (deskIn s) v
+  unfolding toldTaken toldSaid laid
+  next-by (refused why) f h = refl
+  next-by (defines book bytes) (new-areas r w) h = reads-back (deskBy (deskIn s) (defines book bytes)) bytes run s (h (r .state))
+  next-by (continues book message) (same-run r e) h = reads-back (deskBy (deskIn s) (continues book message)) live run s (h (r .state))
+  next-by (opens tag message) (new-run r t) h = reads-back (deskBy (deskIn s) (opens tag message)) live (copied (deskIn s .book) live run) s (h (r .state))
+
+  next : deskIn (laid (toldTaken (takenBy (deskIn s) live run (verdictOn held given)) .numbers) s) ≡ deskBy (deskIn s) (verdictOn held given)
+  next = next-by (verdictOn held given) (fits-on held given) (stays-sound held given)
+
+-- The next call reads the desk that `desk::take` answered, refused frames included; so what the theorems on desk say of frames in a row holds of calls in a row.
+pub next-desk : (frame desk live run log : List ℕ) → deskIn (laid (toldTaken (takeOf frame desk live run log) .numbers) desk) ≡ takeOf frame desk live run log .desk
+unfolding takeOf frameTaken
+next-desk frame desk live run log = next desk live run (frameWith frame log)
+
+-- and the one that `desk::take_book` answered
+pub next-desk-book : (desk live run book bytes : List ℕ) → deskIn (laid (toldTaken (takeBookOf desk live run book bytes) .numbers) desk) ≡ takeBookOf desk live run book bytes .desk
+unfolding takeBookOf bookTaken
+next-desk-book desk live run book bytes = next desk live run (keptBook (bookIn book) bytes)

@@ -1,0 +1,5 @@
+// The calls of `desk`, `book::find` and `prepare` for C and for other languages that can call C (include/homralgyu.h says what each does).
+pub mod desks;
+pub mod finds;
+pub mod prepares;
+pub mod states;

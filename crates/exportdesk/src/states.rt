@@ -1,0 +1,140 @@
+// A desk as nine numbers. Internal: the calls have tested ROOM.
+ghost use mathlib.Core.Path.{_≡_};
+ghost use Prim.Native.Nat.{_≤_};
+ghost use lib.ListN.{length};
+ghost use Rattle.export.specs.Numbers.{laid, atMost};
+ghost use Rattle.exportdesk.specs.States.{deskRoom, constellationIn, solutionIn, runIn, deskIn, isOpen, tagOf, runBook, deskOf};
+use book::Book;
+use codes::Constellation;
+use desk::Desk;
+use desk::Run;
+use export::books::aiou_of;
+use export::books::book_in;
+use export::numbers::count;
+use export::numbers::put;
+use export::numbers::wide;
+use message::Subtype;
+
+// 128 is no solution, 16 no processor.
+const NO_SOLUTION: u8 = 128;
+
+const NO_PROCESSOR: u8 = 16;
+
+// A number, or the highest that counts.
+fn at_most(most: u8, x: u64) -> u8
+    ensures { λ r. ⌜ r ≡ atMost most x ⌝ }
+{
+    if x < wide(most) {
+        return x as u8;
+    }
+    most
+}
+
+fn constellation_in(x: u64) -> Constellation
+    ensures { λ r. ⌜ r ≡ constellationIn x ⌝ }
+{
+    match message::constellation_of(at_most(5, x)) {
+        Subtype::Known(constellation) => constellation,
+        Subtype::Unknown => Constellation::Gps,
+    }
+}
+
+// The solution, if constellation and flag are in range.
+fn solution_in(solution: u64, constellation: u64, flag: u64) -> u8
+    ensures { λ r. ⌜ r ≡ solutionIn solution constellation flag ⌝ }
+{
+    if 4 < constellation {
+        return NO_SOLUTION;
+    }
+    if 1 < flag {
+        return NO_SOLUTION;
+    }
+    at_most(NO_SOLUTION, solution)
+}
+
+fn run_in(flag: u64, tag: u64, aiou: u64, areas: u64) -> Run
+    ensures { λ r. ⌜ r ≡ runIn flag tag aiou areas ⌝ }
+{
+    if flag == 0 {
+        return Run::Closed;
+    }
+    let numbers = [aiou, areas];
+    Run::Open {
+        tag: tag,
+        book: book_in(&numbers),
+    }
+}
+
+// The desk that nine numbers say.
+pub fn desk_in(desk: &[u64]) -> Desk
+    requires { ⌜ deskRoom ≤ length (now desk) ⌝ }
+    ensures { λ r. ⌜ r ≡ deskIn (now (desk .entry)) ⌝ }
+{
+    let numbers = [desk[3], desk[4]];
+    Desk {
+        solution: solution_in(desk[0], desk[2], desk[5]),
+        processor: at_most(NO_PROCESSOR, desk[1]),
+        constellation: constellation_in(desk[2]),
+        book: book_in(&numbers),
+        run: run_in(desk[5], desk[6], desk[7], desk[8]),
+    }
+}
+
+fn is_open(run: Run) -> u64
+    ensures { λ r. ⌜ r ≡ isOpen run ⌝ }
+{
+    match run {
+        Run::Closed => 0,
+        Run::Open { tag: _, book: _ } => 1,
+    }
+}
+
+fn tag_of(run: Run) -> u64
+    ensures { λ r. ⌜ r ≡ tagOf run ⌝ }
+{
+    match run {
+        Run::Closed => 0,
+        Run::Open { tag, book: _ } => tag,
+    }
+}
+
+fn run_book(run: Run) -> Book
+    ensures { λ r. ⌜ r ≡ runBook run ⌝ }
+{
+    match run {
+        Run::Closed => Book {
+            aiou_plus_one: 0,
+            count: 0,
+        },
+        Run::Open { tag: _, book } => book,
+    }
+}
+
+fn desk_of(held: Desk) -> [u64; 9]
+    ensures { λ r. ⌜ r ≡ deskOf held ⌝ }
+{
+    let book = held.book;
+    let run = held.run;
+    let open = run_book(run);
+    let constellation = held.constellation;
+    [
+        wide(held.solution),
+        wide(held.processor),
+        wide(desk::subtype_of(constellation)),
+        aiou_of(book.aiou_plus_one),
+        count(book.count),
+        is_open(run),
+        tag_of(run),
+        aiou_of(open.aiou_plus_one),
+        count(open.count),
+    ]
+}
+
+// The numbers of a desk into the places from the start on.
+pub fn put_desk(held: Desk, desk: &mut [u64])
+    requires { ⌜ deskRoom ≤ length (now desk) ⌝ }
+    ensures { λ _. ⌜ now (desk .exit) ≡ laid (deskOf held) (now (desk .entry)) ⌝ }
+{
+    let numbers = desk_of(held);
+    put(&numbers, desk);
+}
