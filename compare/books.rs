@@ -1,4 +1,4 @@
-//! Books: GADs taken, kept books written and read.
+//! Books: GADs taken, areas looked up, kept books written and read.
 
 use crate::judge::{hex, Input, Judge};
 use crate::lent;
@@ -7,10 +7,11 @@ use second::answer::{number, Refusal};
 use second::book::{self, Book};
 use second::generate::*;
 use second::payload::Message;
+use second::views::AreaId;
 use second::{kept, sheet};
 
 /// AIOU and count; the AIOU of an empty book is 0.
-fn numbers_of(book: &Book) -> [u64; 2] {
+pub fn numbers_of(book: &Book) -> [u64; 2] {
     [if book.count == 0 { 0 } else { book.aiou.unwrap_or(0) }, book.count]
 }
 
@@ -19,11 +20,16 @@ fn as_numbers(rng: &mut Rng, made: &Book) -> (Book, [u64; 2]) {
     if made.count == 0 {
         return (Book::default(), [rng.pick(&[0, 7, 15, 16, u64::MAX]), 0]);
     }
-    let aiou = made.aiou.unwrap_or(16);
-    (Book { aiou: Some(aiou), count: made.count }, [aiou, made.count])
+    let (mut aiou, mut count) = (made.aiou.unwrap_or(16), made.count);
+    match rng.below(60) {
+        0 => aiou = aiou.wrapping_add(1 << 8),
+        1 => count = count.wrapping_add(1 << 32),
+        _ => {}
+    }
+    (Book { aiou: Some(aiou), count }, [aiou, count])
 }
 
-fn some_book(rng: &mut Rng) -> (Book, [u64; 2], Vec<u8>) {
+pub fn some_book(rng: &mut Rng) -> (Book, [u64; 2], Vec<u8>) {
     let (made, mut bytes) = if rng.one_in(4) { unsound_book(rng) } else { book(rng) };
     if rng.one_in(20) {
         let size = buffer_size(rng, 192);
@@ -33,8 +39,15 @@ fn some_book(rng: &mut Rng) -> (Book, [u64; 2], Vec<u8>) {
     (made, numbers, bytes)
 }
 
-fn places(rng: &mut Rng) -> usize {
+pub fn places(rng: &mut Rng) -> usize {
     rng.pick(&[0, 1, 2, 2, 2, 2, 2, 2, 2, 2, 2, 2, 2, 3])
+}
+
+/// A book's numbers as they are lent in so many places.
+pub fn lent_numbers(rng: &mut Rng, numbers: &[u64; 2], places: usize) -> Vec<u64> {
+    let mut state = vec![numbers[0], numbers[1], rng.draw()];
+    state.truncate(places);
+    state
 }
 
 /// A payload that is taken as a GAD.
@@ -79,8 +92,7 @@ fn take_step(
     let said =
         || format!("book {old:?} in {places} places, bytes {}, payload {}", hex(&old_bytes), hex(payload));
     let input = Input { call: "book_take", said: &said };
-    let mut state = vec![numbers[0], numbers[1], rng.draw()];
-    state.truncate(places);
+    let mut state = lent_numbers(rng, numbers, places);
     let (mut our_book, mut our_bytes) = (lent::numbers(&state), lent::bytes(bytes));
     let answer = raw::book_take(our_book.part(), our_bytes.part(), payload);
     if places < 2 {
@@ -132,8 +144,7 @@ pub fn keep(rng: &mut Rng, judge: &mut Judge) {
     let said =
         || format!("book {numbers:?} in {places} places, bytes {}, room of {room} and {counts}", hex(&bytes));
     let input = Input { call: "kept_write", said: &said };
-    let mut state = vec![numbers[0], numbers[1], rng.draw()];
-    state.truncate(places);
+    let state = lent_numbers(rng, &numbers, places);
     let (our_book, our_bytes) = (lent::numbers(&state), lent::bytes(&bytes));
     let (mut our_out, mut our_written) = (lent::bytes(&out), lent::numbers(&written));
     let answer = raw::kept_write(our_book.now(), our_bytes.now(), our_out.part(), our_written.part());
@@ -156,25 +167,72 @@ pub fn keep(rng: &mut Rng, judge: &mut Judge) {
 pub fn read(rng: &mut Rng, judge: &mut Judge) {
     let bytes = if rng.one_in(3) { second::generate::kept(rng) } else { broken_kept(rng) };
     let room = buffer_size(rng, 192);
-    let book = lent_bytes(rng, room);
     let places = places(rng);
-    let state = lent_entries(rng, places);
-    let said = || format!("kept book {}, room of {room} and {places}", hex(&bytes));
+    read_kept(rng, judge, &bytes, room, places);
+}
+
+/// A kept book read: the book, its numbers and its bytes.
+pub fn read_kept(
+    rng: &mut Rng,
+    judge: &mut Judge,
+    bytes: &[u8],
+    room: usize,
+    places: usize,
+) -> Option<(Book, [u64; 2], Vec<u8>)> {
+    let mut book = lent_bytes(rng, room);
+    let mut state = lent_entries(rng, places);
+    let said = || format!("kept book {}, room of {room} and {places}", hex(bytes));
     let input = Input { call: "kept_read", said: &said };
-    let lent_kept = lent::bytes(&bytes);
+    let lent_kept = lent::bytes(bytes);
     let (mut our_book, mut our_bytes) = (lent::numbers(&state), lent::bytes(&book));
     let answer = raw::kept_read(lent_kept.now(), our_book.part(), our_bytes.part());
-    let (mut book, mut state) = (book, state);
-    if places < 2 {
-        judge.number(&input, answer, 9);
-    } else {
-        let result = kept::read(&bytes, &mut book);
-        judge.number(&input, answer, number(&result));
-        if let Ok(now) = result {
-            state[..2].copy_from_slice(&numbers_of(&now));
-        }
+    let result = if places < 2 { Err(Refusal::Room) } else { kept::read(bytes, &mut book) };
+    judge.number(&input, answer, number(&result));
+    if let Ok(now) = result {
+        state[..2].copy_from_slice(&numbers_of(&now));
     }
     judge.lent(&input, "the book's numbers", &our_book, &state);
     judge.lent(&input, "the book's bytes", &our_bytes, &book);
-    judge.lent(&input, "the kept book", &lent_kept, &bytes);
+    judge.lent(&input, "the kept book", &lent_kept, bytes);
+    result.ok().map(|now| (now, numbers_of(&now), book))
+}
+
+/// The room for six bytes and for a count, mostly enough.
+pub fn find_room(rng: &mut Rng) -> (Vec<u8>, Vec<u64>) {
+    let (area, found) = (rng.pick(&[6, 6, 6, 6, 6, 6, 7, 5, 0]), rng.pick(&[1, 1, 1, 1, 1, 1, 1, 2, 0]));
+    (lent_bytes(rng, area), lent_entries(rng, found))
+}
+
+/// What a lookup tells: ROOM, or the six bytes and 6, or 0 alone.
+pub fn tell_found(part: &[u8], area: &mut [u8], found: &mut [u64]) -> u8 {
+    if area.len() < 6 || found.is_empty() {
+        return 9;
+    }
+    area[..part.len()].copy_from_slice(part);
+    found[0] = part.len() as u64;
+    0
+}
+
+/// An area looked up in a book by itself.
+pub fn find(rng: &mut Rng, judge: &mut Judge) {
+    let (held, numbers, bytes) = some_book(rng);
+    let id = match book::areas(&held, &bytes) {
+        Some(areas) if !areas.is_empty() && !rng.one_in(4) => rng.pick(&areas).id,
+        _ => rng.below(256),
+    };
+    let places = places(rng);
+    let numbers = lent_numbers(rng, &numbers, places);
+    let (mut area, mut found) = find_room(rng);
+    let rooms = (area.len(), found.len());
+    let said = || format!("book {numbers:?}, bytes {}, ID {id}, rooms of {rooms:?}", hex(&bytes));
+    let input = Input { call: "book_find", said: &said };
+    let (our_book, our_bytes) = (lent::numbers(&numbers), lent::bytes(&bytes));
+    let (mut our_area, mut our_found) = (lent::bytes(&area), lent::numbers(&found));
+    let answer = raw::book_find(our_book.now(), our_bytes.now(), id as u8, our_area.part(), our_found.part());
+    let part = if numbers.len() < 2 { 0..0 } else { book::find(&held, &bytes, AreaId(id)) };
+    judge.number(&input, answer, tell_found(&bytes[part], &mut area, &mut found));
+    judge.lent(&input, "the area", &our_area, &area);
+    judge.lent(&input, "the bytes found", &our_found, &found);
+    judge.lent(&input, "the book's numbers", &our_book, &numbers);
+    judge.lent(&input, "the book's bytes", &our_bytes, &bytes);
 }

@@ -9,6 +9,7 @@ pub struct Judge {
     pub seed: u64,
     pub calls: u64,
     counts: BTreeMap<&'static str, [u64; 19]>,
+    marks: BTreeMap<&'static str, u64>,
 }
 
 /// One call on one input: its name, and the input as it is printed if the answers differ.
@@ -19,14 +20,24 @@ pub struct Input<'a> {
 
 impl Judge {
     pub fn new(seed: u64) -> Judge {
-        Judge { seed, calls: 0, counts: BTreeMap::new() }
+        Judge { seed, calls: 0, counts: BTreeMap::new(), marks: BTreeMap::new() }
     }
 
     /// Both numbers, which must agree; counted.
     pub fn number(&mut self, input: &Input, ours: u8, second: u8) {
         self.calls += 1;
-        self.counts.entry(input.call).or_insert([0; 19])[(second as usize).min(18)] += 1;
+        self.count(input.call, second);
         self.same(input, "the answer number", &ours, &second);
+    }
+
+    /// A number that a call answered.
+    pub fn count(&mut self, call: &'static str, number: u8) {
+        self.counts.entry(call).or_insert([0; 19])[(number as usize).min(18)] += 1;
+    }
+
+    /// Something worth meeting was met.
+    pub fn mark(&mut self, what: &'static str) {
+        *self.marks.entry(what).or_insert(0) += 1;
     }
 
     pub fn same<T: PartialEq + Debug>(&self, input: &Input, what: &str, ours: &T, second: &T) {
@@ -60,24 +71,44 @@ impl Judge {
         std::process::exit(1);
     }
 
-    /// A line a call: how often it answered each number.
+    /// A line a call: how often it answered each number; all calls together; and how often each mark was met.
     pub fn tell(&self) {
         for (call, counts) in &self.counts {
-            let line: Vec<String> = counts
-                .iter()
-                .enumerate()
-                .filter(|(_, n)| **n > 0)
-                .map(|(number, n)| format!("{number}:{n}"))
-                .collect();
-            println!("  {call:15} {}", line.join(" "));
+            println!("  {call:20} {}", line(counts));
+        }
+        println!("  {:20} {}", "all calls", line(&self.all()));
+        for (what, count) in &self.marks {
+            println!("  {what:50} {count}");
         }
     }
 
-    /// The numbers of a call that were never answered, of those that it can answer.
-    pub fn missed(&self, call: &'static str, can: &[usize]) -> Vec<usize> {
-        let counts = self.counts.get(call).copied().unwrap_or([0; 19]);
-        can.iter().copied().filter(|&number| counts[number] == 0).collect()
+    fn all(&self) -> [u64; 19] {
+        let mut all = [0; 19];
+        for counts in self.counts.values() {
+            (0..19).for_each(|number| all[number] += counts[number]);
+        }
+        all
     }
+
+    /// What was never met: document 01's numbers 0 to 18, those that each call can answer, the marks.
+    pub fn missed(&self, can: &[(&str, &[usize])], marks: &[&str]) -> Vec<String> {
+        let all = self.all();
+        let mut missed: Vec<String> =
+            (0..19).filter(|&number| all[number] == 0).map(|number| format!("number {number}")).collect();
+        for (call, numbers) in can {
+            let counts = self.counts.get(call).copied().unwrap_or([0; 19]);
+            let never = numbers.iter().filter(|&&number| counts[number] == 0);
+            missed.extend(never.map(|number| format!("{call} {number}")));
+        }
+        missed
+            .extend(marks.iter().filter(|mark| !self.marks.contains_key(*mark)).map(|mark| mark.to_string()));
+        missed
+    }
+}
+
+fn line(counts: &[u64; 19]) -> String {
+    let met = counts.iter().enumerate().filter(|(_, n)| **n > 0);
+    met.map(|(number, n)| format!("{number}:{n}")).collect::<Vec<_>>().join(" ")
 }
 
 /// Bytes in hexadecimal digits.

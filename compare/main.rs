@@ -1,22 +1,27 @@
 //! compare [COUNT [SEED]]: the desk and the second program answer the same inputs, made up from a
 //! seed. The first difference ends it, with the input and the seed. An input is a call with its buffers, or a whole
-//! stream or history of a book, call by call.
+//! stream, history of a book or of a desk, or both together, call by call.
 
 mod books;
+mod desks;
 mod frames;
 mod judge;
 mod lent;
+mod logs;
+mod marks;
 mod meanings;
 mod payloads;
+mod prepares;
 mod streams;
+mod tables;
 
 use judge::Judge;
 use second::generate::Rng;
 
 type Case = fn(&mut Rng, &mut Judge);
 
-/// What is tried, and how often among a hundred turns.
-const CASES: [(u64, Case); 11] = [
+/// What is tried, and its share of the turns.
+const CASES: [(u64, Case); 18] = [
     (18, frames::check),
     (8, frames::write),
     (20, payloads::read),
@@ -28,10 +33,17 @@ const CASES: [(u64, Case); 11] = [
     (6, books::history),
     (5, books::keep),
     (5, books::read),
+    (4, books::find),
+    (2, desks::new),
+    (12, desks::odd),
+    (10, desks::history),
+    (1, desks::full),
+    (12, prepares::odd),
+    (10, prepares::whole),
 ];
 
 /// The answer numbers that each call can give.
-const CAN: [(&str, &[usize]); 13] = [
+const CAN: [(&str, &[usize]); 22] = [
     ("frame_check", &[0, 1, 2, 3, 4, 5, 9]),
     ("frame_write", &[0, 4, 8, 9]),
     ("payload_judge", &[0, 1, 4, 6, 7, 8, 9]),
@@ -45,6 +57,15 @@ const CAN: [(&str, &[usize]); 13] = [
     ("kept_read", &[0, 1, 9, 16, 18]),
     ("value", &[0, 8, 9]),
     ("orbit", &[0, 8, 9]),
+    ("book_find", &[0, 9]),
+    ("desk_new", &[0, 8, 9]),
+    ("desk_is_sound", &[0, 9, 17]),
+    ("desk_take", &[0, 1, 2, 3, 4, 5, 7, 8, 9, 10, 11, 12, 13, 14, 15, 17]),
+    ("desk_find", &[0, 9]),
+    ("desk_take_book", &[0, 9, 17]),
+    ("prepare_call", &[0, 9, 17]),
+    ("prepare_finish", &[0, 9, 17]),
+    ("prepare, of a frame", &[0, 1, 7, 8, 10, 11, 12, 13, 14, 15]),
 ];
 
 /// One turn from its own seed: a case by chance, now and then a stream with much noise.
@@ -53,6 +74,9 @@ fn turn(seed: u64, judge: &mut Judge) {
     judge.seed = seed;
     if rng.one_in(4000) {
         return streams::noisy(&mut rng, judge);
+    }
+    if rng.one_in(4000) {
+        return prepares::noisy(&mut rng, judge);
     }
     let mut place = rng.below(CASES.iter().map(|(share, _)| share).sum());
     for (share, case) in CASES {
@@ -77,15 +101,9 @@ fn main() {
         judge.calls
     );
     judge.tell();
-    if count >= 100_000 {
-        let missed: Vec<_> = CAN
-            .iter()
-            .map(|(call, can)| (call, judge.missed(call, can)))
-            .filter(|(_, m)| !m.is_empty())
-            .collect();
-        if !missed.is_empty() {
-            println!("compare: answer numbers that were never reached: {missed:?}");
-            std::process::exit(1);
-        }
+    let missed = judge.missed(&CAN, &[&marks::MARKS[..], &marks::TYPES[..]].concat());
+    if count >= 100_000 && !missed.is_empty() {
+        println!("compare: never met: {}", missed.join(", "));
+        std::process::exit(1);
     }
 }

@@ -1,16 +1,14 @@
-//! A frame written, found in a stream behind three bytes of noise, and its payload read: the wrapper in use.
+//! The wrapper in use: a frame written, found in a stream behind three bytes of noise, and its payload read; then a desk that takes two messages.
 
-use homralgyu::{Event, Parts, Refusal, Stream};
+use homralgyu::{Desk, Event, Parts, Refusal, Stream};
 
-fn main() -> Result<(), Refusal> {
-    // document 01, measured case 4: a GPS OCB with one unused satellite has 50 bits, 7 bytes
-    let sheet = [0, 0, 0, 0, 0, 0, 0, 1 << 31, 1];
+/// A sheet of GPS as a plain frame.
+fn frame_of(message_type: u8, sheet: &[u64]) -> Result<Vec<u8>, Refusal> {
     let mut payload = [0; 1023];
-    let (bits, bytes) = homralgyu::write_sheet(0, 0, &sheet, &mut payload)?;
+    let (bits, bytes) = homralgyu::write_sheet(message_type, 0, sheet, &mut payload)?;
     println!("payload of {bits} bits in {bytes} bytes");
-
     let parts = Parts {
-        message_type: 0,
+        message_type,
         check_type: 2,
         subtype: 0,
         tag_kind: 0,
@@ -18,11 +16,18 @@ fn main() -> Result<(), Refusal> {
         solution: 5,
         processor: 11,
     };
-    let mut frame = [0; 1103];
+    let mut frame = vec![0; 1103];
     let length = homralgyu::write(&parts, &payload[..bytes], &mut frame)?;
+    frame.truncate(length);
+    Ok(frame)
+}
 
+fn find_and_read() -> Result<(), Refusal> {
+    // document 01, measured case 4: a GPS OCB with one unused satellite has 50 bits, 7 bytes
+    let sheet = [0, 0, 0, 0, 0, 0, 0, 1 << 31, 1];
+    let frame = frame_of(0, &sheet)?;
     let mut input = vec![0x00, 0x73, 0x00];
-    input.extend_from_slice(&frame[..length]);
+    input.extend_from_slice(&frame);
     let mut stream = Stream::new();
     let mut rest = &input[..];
     loop {
@@ -47,6 +52,26 @@ fn main() -> Result<(), Refusal> {
     }
     println!("end: {:?}", stream.finish()?);
     println!("SF020 at 0: {:?}", homralgyu::value(20, 0)?);
-    println!("a frame that is cut: {:?}", homralgyu::check(&frame[..length - 1]));
+    println!("a frame that is cut: {:?}", homralgyu::check(&frame[..frame.len() - 1]));
     Ok(())
+}
+
+fn desk() -> Result<(), Refusal> {
+    // document 01, measured case 10: the first HPAC, without a book, one area 5
+    let message = frame_of(1, &[0, 3, 0, 0, 5, 9, 0, 0])?;
+    let definition = frame_of(2, &[0, 3, 0, 0, 5, 900, 0, 1, 0, 0, 0])?;
+    let mut desk = Desk::new(5, 11, 0)?;
+    let mut log = [0; 4096];
+    let written = desk.take(&message, &mut log)?;
+    println!("log {:02X?}", &log[..written]);
+    desk.take(&definition, &mut log)?;
+    // a GAD does not reach the open run
+    println!("area 5: {:02X?} in the open run, {:02X?} in the live book", desk.find(5), desk.book().find(5));
+    println!("a frame that is cut: {:?}", desk.take(&message[..5], &mut log));
+    Ok(())
+}
+
+fn main() -> Result<(), Refusal> {
+    find_and_read()?;
+    desk()
 }

@@ -1,0 +1,254 @@
+//! Desks: frames taken one after the other, areas looked up, kept books taken in.
+
+use crate::books;
+use crate::judge::{hex, Input, Judge};
+use crate::lent;
+use crate::marks;
+use crate::tables::{self, LentTable, Table};
+use homralgyu::raw;
+use second::answer::{number, Refusal};
+use second::desk::{self, Of};
+use second::frame::{assemble, Plain};
+use second::generate::*;
+use second::kept;
+use second::payload::GadArea;
+use second::views::AreaId;
+
+/// The desk's numbers and both books afterwards.
+pub fn same_table(judge: &Judge, input: &Input, ours: &LentTable, second: &Table) {
+    judge.lent(input, "the desk's numbers", &ours.numbers, &second.numbers);
+    judge.lent(input, "the live book", &ours.live, &second.live);
+    judge.lent(input, "the run's book", &ours.run, &second.run);
+}
+
+pub fn new(rng: &mut Rng, judge: &mut Judge) {
+    let any = [rng.draw() as u8, rng.draw() as u8, rng.draw() as u8];
+    let solution = rng.pick(&[0, 127, 128, 255, any[0], any[0] & 127, any[0] & 127]);
+    let processor = rng.pick(&[0, 15, 16, 255, any[1], any[1] & 15, any[1] & 15]);
+    let constellation = rng.pick(&[0, 1, 2, 3, 4, 4, 5, 255, any[2]]);
+    let places = rng.pick(&[0, 8, 9, 9, 9, 9, 9, 10]);
+    let mut desk = lent_entries(rng, places);
+    let said = || format!("{solution} {processor} {constellation}, {places} places");
+    let input = Input { call: "desk_new", said: &said };
+    let mut ours = lent::numbers(&desk);
+    let answer = raw::desk_new(solution, processor, constellation, ours.part());
+    let made = if places < 9 {
+        Err(Refusal::Room)
+    } else {
+        desk::new(solution as u64, processor as u64, constellation as u64)
+    };
+    judge.number(&input, answer, number(&made));
+    if let Ok(made) = made {
+        desk[..9].copy_from_slice(&made.numbers());
+    }
+    judge.lent(&input, "the desk's numbers", &ours, &desk);
+}
+
+pub fn sound(judge: &mut Judge, table: &Table) {
+    let said = || table.said();
+    let input = Input { call: "desk_is_sound", said: &said };
+    let ours = table.lend();
+    let answer = raw::desk_is_sound(ours.numbers.now(), ours.live.now(), ours.run.now());
+    let second = match table.desk() {
+        Some(desk) if table.live.len() >= 192 && table.run.len() >= 192 => {
+            if desk::sound(&desk, &table.live, &table.run) {
+                0
+            } else {
+                judge.mark(marks::unsound_by(&desk, table));
+                17
+            }
+        }
+        _ => 9,
+    };
+    judge.number(&input, answer, second);
+    same_table(judge, &input, &ours, table);
+}
+
+pub fn find(rng: &mut Rng, judge: &mut Judge, table: &Table) {
+    let id = table.id(rng);
+    let (mut area, mut found) = books::find_room(rng);
+    let rooms = (area.len(), found.len());
+    let said = || format!("{}, ID {id}, rooms of {rooms:?}", table.said());
+    let input = Input { call: "desk_find", said: &said };
+    let (ours, mut our_area, mut our_found) = (table.lend(), lent::bytes(&area), lent::numbers(&found));
+    let answer = raw::desk_find(
+        ours.numbers.now(),
+        ours.live.now(),
+        ours.run.now(),
+        id,
+        our_area.part(),
+        our_found.part(),
+    );
+    let part = match table.desk() {
+        None => &[][..],
+        Some(desk) => match desk::look_up(&desk, &table.live, &table.run, AreaId(id as u64)) {
+            (Of::Live, part) => &table.live[part],
+            (Of::Run, part) => &table.run[part],
+        },
+    };
+    let second = books::tell_found(part, &mut area, &mut found);
+    judge.number(&input, answer, second);
+    judge.lent(&input, "the area", &our_area, &area);
+    judge.lent(&input, "the bytes found", &our_found, &found);
+    same_table(judge, &input, &ours, table);
+    let open = table.desk().is_some_and(|desk| desk.run.is_some());
+    judge.mark(match (second == 0 && !part.is_empty(), open) {
+        (true, true) => "find: an area of the run's book",
+        (true, false) => "find: an area of the live book",
+        (false, true) => "find: none with a run open",
+        (false, false) => "find: none with no run open",
+    });
+}
+
+/// A frame taken. The table goes on.
+pub fn take(
+    rng: &mut Rng,
+    judge: &mut Judge,
+    table: &mut Table,
+    frame: &[u8],
+    log_size: usize,
+    places: usize,
+) {
+    let old = table.clone();
+    let said = || format!("{}, frame {}, log of {log_size}, {places} places", old.said(), hex(frame));
+    let input = Input { call: "desk_take", said: &said };
+    let (mut log, mut written) = (vec![rng.draw() as u8; log_size], lent_entries(rng, places));
+    let (mut ours, our_frame) = (table.lend(), lent::bytes(frame));
+    let (mut our_log, mut our_written) = (lent::bytes(&log), lent::numbers(&written));
+    let answer = raw::desk_take(
+        our_frame.now(),
+        ours.numbers.part(),
+        ours.live.part(),
+        ours.run.part(),
+        our_log.part(),
+        our_written.part(),
+    );
+    let result = match table.desk() {
+        Some(desk) if places >= 1 => desk::take(&desk, frame, &mut table.live, &mut table.run, &mut log),
+        _ => Err(Refusal::Room),
+    };
+    judge.number(&input, answer, number(&result));
+    marks::frame_given(judge, frame);
+    if let Ok(taken) = result {
+        table.put(&taken.desk);
+        written[0] = taken.logged as u64;
+        let before = old.desk().expect("a desk that took a frame");
+        marks::frame_taken(judge, frame, &before, &taken.desk, &log[..taken.logged]);
+    }
+    same_table(judge, &input, &ours, table);
+    judge.lent(&input, "the log", &our_log, &log);
+    judge.lent(&input, "the bytes written", &our_written, &written);
+    judge.lent(&input, "the frame", &our_frame, frame);
+}
+
+/// A kept book for the desk: that of its own live book, another, or a broken one.
+fn some_kept(rng: &mut Rng, table: &Table) -> Vec<u8> {
+    let mut out = vec![0; 227];
+    let own = table.desk().map(|desk| kept::write(&desk.live, &table.live, &mut out));
+    match (rng.below(3), own) {
+        (0, Some(Ok(size))) => out[..size].to_vec(),
+        (1, _) => broken_kept(rng),
+        _ => second::generate::kept(rng),
+    }
+}
+
+/// A book taken in as the live one: read from its kept form, or any.
+pub fn take_book(rng: &mut Rng, judge: &mut Judge, table: &mut Table) {
+    let kept = some_kept(rng, table);
+    let read = if rng.one_in(2) { books::read_kept(rng, judge, &kept, 192, 2) } else { None };
+    let (held, numbers, bytes) = read.unwrap_or_else(|| books::some_book(rng));
+    let places = books::places(rng);
+    let numbers = books::lent_numbers(rng, &numbers, places);
+    let old = table.clone();
+    let said = || format!("{}, book {numbers:?}, bytes {}", old.said(), hex(&bytes));
+    let input = Input { call: "desk_take_book", said: &said };
+    let (mut ours, our_book, our_bytes) = (table.lend(), lent::numbers(&numbers), lent::bytes(&bytes));
+    let answer = raw::desk_take_book(
+        ours.numbers.part(),
+        ours.live.part(),
+        ours.run.now(),
+        our_book.now(),
+        our_bytes.now(),
+    );
+    let result = match table.desk() {
+        Some(desk) if numbers.len() >= 2 => {
+            desk::take_book(&desk, &held, &bytes, &mut table.live, &table.run)
+        }
+        _ => Err(Refusal::Room),
+    };
+    judge.number(&input, answer, number(&result));
+    if let Ok(desk) = result {
+        table.put(&desk);
+    }
+    same_table(judge, &input, &ours, table);
+    judge.lent(&input, "the book's numbers", &our_book, &numbers);
+    judge.lent(&input, "the book's bytes", &our_bytes, &bytes);
+}
+
+/// A new desk and the frames of a day, with lookups and kept books between them.
+pub fn history(rng: &mut Rng, judge: &mut Judge) {
+    let scene = scene(rng);
+    let made = desk::new(scene.solution, scene.processor, scene.constellation).expect("in range");
+    let mut table = tables::fresh(rng, &made);
+    for frame in &scene.frames {
+        // now and then, instead, a frame for the desk as it stands: of the run's book, which may no longer be live
+        let own = if rng.one_in(3) { table.frame(rng) } else { frame.clone() };
+        take(rng, judge, &mut table, &own, 4096, 1);
+        match rng.below(12) {
+            0..=3 => find(rng, judge, &table),
+            4 => sound(judge, &table),
+            5 if rng.one_in(3) => take_book(rng, judge, &mut table),
+            _ => {}
+        }
+    }
+}
+
+/// A message that fills its payload with residuals of four bits, for an area of 64 nodes: the longest logs.
+pub fn full(rng: &mut Rng, judge: &mut Judge) {
+    let made = desk::new(rng.below(128), rng.below(16), rng.below(5)).expect("in range");
+    let mut table = tables::fresh(rng, &made);
+    let (id, aiou) = (rng.below(256), rng.below(16));
+    let grid = GadArea { latitude_count: 7, longitude_count: 7, latitude: 900, ..area(rng, id) };
+    let wanted = |sf, codes: &[u64]| (sf, codes.iter().copied().collect());
+    let hpac = (0..20)
+        .map(|_| {
+            let residuals = wanted(63, &[0; 64]);
+            let codes = vec![
+                wanted(68, &[aiou]),
+                wanted(30, &[0]),
+                wanted(31, &[id]),
+                wanted(39, &[64]),
+                wanted(40, &[0, 2]),
+                residuals,
+            ];
+            rich_sheet(rng, 1, made.constellation, 3, codes).payload()
+        })
+        .find(|payload| payload.len() <= 1023);
+    let parts = Plain {
+        type_: 2,
+        check_type: rng.below(4),
+        subtype: 0,
+        tag_kind: 1,
+        tag: rng.below(1 << 32),
+        solution: made.solution,
+        processor: made.processor,
+    };
+    let gad = assemble(&parts, None, &gad_sheet(rng, aiou, &[grid]).payload(), &[]);
+    take(rng, judge, &mut table, &gad, 4096, 1);
+    if let Some(payload) = hpac {
+        let parts = Plain { type_: 1, subtype: made.constellation, ..parts };
+        take(rng, judge, &mut table, &assemble(&parts, None, &payload, &[]), 4096, 1);
+    }
+}
+
+/// Each call on a desk of any kind, with buffers of any size.
+pub fn odd(rng: &mut Rng, judge: &mut Judge) {
+    let table = tables::any(rng);
+    sound(judge, &table);
+    find(rng, judge, &table);
+    take_book(rng, judge, &mut table.clone());
+    let frame = if rng.one_in(6) { odd_frame(rng) } else { table.frame(rng) };
+    let log = if rng.one_in(6) { buffer_size(rng, 4096) } else { 4096 };
+    let places = rng.pick(&[1, 1, 1, 1, 1, 1, 1, 1, 1, 2, 0]);
+    take(rng, judge, &mut table.clone(), &frame, log, places);
+}

@@ -1,0 +1,228 @@
+//! Stream and desk together: portion by portion, with trays and desks of every kind.
+
+use crate::desks::same_table;
+use crate::frames::header_of;
+use crate::judge::{hex, Input, Judge};
+use crate::lent;
+use crate::marks;
+use crate::tables::{self, Table};
+use homralgyu::raw;
+use second::answer::{number, Refusal};
+use second::desk;
+use second::frame::{self, assemble};
+use second::generate::*;
+use second::prepare::{self, Event, Prepared, State};
+use second::stream::Tray;
+
+/// The sizes of a call's buffers beside the tray's bytes and the desk.
+struct Places {
+    tray: usize,
+    log: usize,
+    told: usize,
+    header: usize,
+}
+
+const ENOUGH: Places = Places { tray: 3, log: 4096, told: 5, header: 15 };
+
+/// What goes on from call to call.
+struct Job {
+    tray: Tray,
+    bytes: Vec<u8>,
+    table: Table,
+}
+
+/// One call on both sides: the job goes on. None if it was refused.
+fn step(
+    rng: &mut Rng,
+    judge: &mut Judge,
+    job: &mut Job,
+    portion: Option<&[u8]>,
+    places: &Places,
+) -> Option<Prepared> {
+    let (old_tray, old_bytes, old_table) = (job.tray, job.bytes.clone(), job.table.clone());
+    let said = || {
+        let portion = portion.map_or("finish".to_string(), |p| format!("portion {}", hex(p)));
+        let (t, l, o, h) = (places.tray, places.log, places.told, places.header);
+        let table = old_table.said();
+        format!("{old_tray:?} bytes {}, {table}, {portion}, places {t} {l} {o} {h}", hex(&old_bytes))
+    };
+    let call = if portion.is_some() { "prepare_call" } else { "prepare_finish" };
+    let input = Input { call, said: &said };
+    let mut numbers = vec![job.tray.held, job.tray.shown, job.tray.noise, rng.draw()];
+    numbers.truncate(places.tray);
+    let mut log = vec![rng.draw() as u8; places.log];
+    let (mut told, mut header) = (lent_entries(rng, places.told), lent_entries(rng, places.header));
+    let (mut our_bytes, mut our_tray) = (lent::bytes(&job.bytes), lent::numbers(&numbers));
+    let (mut ours, mut our_log) = (job.table.lend(), lent::bytes(&log));
+    let (mut our_told, mut our_header) = (lent::numbers(&told), lent::numbers(&header));
+    let answer = match portion {
+        Some(portion) => raw::prepare_call(
+            our_bytes.part(),
+            our_tray.part(),
+            ours.numbers.part(),
+            ours.live.part(),
+            ours.run.part(),
+            our_log.part(),
+            portion,
+            our_told.part(),
+            our_header.part(),
+        ),
+        None => raw::prepare_finish(
+            our_bytes.part(),
+            our_tray.part(),
+            ours.numbers.part(),
+            ours.live.part(),
+            ours.run.part(),
+            our_log.part(),
+            our_told.part(),
+            our_header.part(),
+        ),
+    };
+    let result = match job.table.desk() {
+        Some(desk) if places.tray >= 3 && places.told >= 5 && places.header >= 15 => {
+            let state = State { tray: job.tray, desk };
+            let mut lent = prepare::Lent {
+                tray: &mut job.bytes,
+                live: &mut job.table.live,
+                run: &mut job.table.run,
+                log: &mut log,
+            };
+            match portion {
+                Some(portion) => prepare::call(&state, &mut lent, portion),
+                None => prepare::finish(&state, &mut lent),
+            }
+        }
+        _ => Err(Refusal::Room),
+    };
+    judge.number(&input, answer, number(&result));
+    if let Ok(done) = &result {
+        marks::event(judge, &done.event);
+        job.tray = done.state.tray;
+        job.table.put(&done.state.desk);
+        numbers[..3].copy_from_slice(&[job.tray.held, job.tray.shown, job.tray.noise]);
+        told[..5].copy_from_slice(&told_of(done));
+        if let Event::Frame { length, answer, logged, .. } = done.event {
+            let shown = frame::check(&job.bytes).expect("a shown frame is accepted");
+            judge.same(&input, "the length of the frame shown", &(shown.length as u64), &length);
+            header[..15].copy_from_slice(&header_of(&shown));
+            judge.count("prepare, of a frame", answer);
+            if answer == 0 {
+                let before = old_table.desk().expect("a desk that took a frame");
+                marks::frame_taken(judge, &job.bytes, &before, &done.state.desk, &log[..logged]);
+            }
+        }
+    }
+    judge.lent(&input, "the tray's bytes", &our_bytes, &job.bytes);
+    judge.lent(&input, "the tray's numbers", &our_tray, &numbers);
+    same_table(judge, &input, &ours, &job.table);
+    judge.lent(&input, "the log", &our_log, &log);
+    judge.lent(&input, "what was told", &our_told, &told);
+    judge.lent(&input, "the header", &our_header, &header);
+    result.ok()
+}
+
+/// Event, bytes used, noise, what the desk said, bytes of the log.
+fn told_of(done: &Prepared) -> [u64; 5] {
+    let used = done.used as u64;
+    match done.event {
+        Event::Hungry => [0, used, 0, 0, 0],
+        Event::Frame { answer, logged, .. } => [1, used, 0, answer as u64, logged as u64],
+        Event::Noise { count } => [2, used, count, 0, 0],
+        Event::Done => [3, used, 0, 0, 0],
+    }
+}
+
+/// Frames for one desk as a stream, with noise, nested and cut frames between them.
+pub fn whole(rng: &mut Rng, judge: &mut Judge) {
+    let most = rng.pick(&[3, 10, 25]);
+    let count = rng.between(1, most);
+    let mut scene = scene_of(rng, count);
+    for frame in &mut scene.frames {
+        if rng.one_in(10) && frame.len() <= 1000 {
+            *frame = around(rng, frame);
+        }
+    }
+    let input = joined(rng, &scene.frames);
+    prepare_all(rng, judge, &scene, &input);
+}
+
+/// Noise beyond 65,535 before the desk's frames.
+pub fn noisy(rng: &mut Rng, judge: &mut Judge) {
+    let scene = scene_of(rng, 3);
+    let mut input = noisy_stream(rng);
+    input.extend(joined(rng, &scene.frames));
+    prepare_all(rng, judge, &scene, &input);
+}
+
+/// A frame around a frame: found inside if the outer check is wrong, passed over if it is right.
+fn around(rng: &mut Rng, inner: &[u8]) -> Vec<u8> {
+    let parts = parts(rng);
+    let mut outer = assemble(&parts, None, inner, &[]);
+    if !rng.one_in(4) {
+        let last = outer.len() - 1;
+        outer[last] ^= 1;
+    }
+    outer
+}
+
+/// A stream cut anyhow, from a fresh tray and a new desk to done.
+fn prepare_all(rng: &mut Rng, judge: &mut Judge, scene: &Scene, input: &[u8]) {
+    let made = desk::new(scene.solution, scene.processor, scene.constellation).expect("in range");
+    let mut job = Job { tray: Tray::default(), bytes: vec![0; 1103], table: tables::fresh(rng, &made) };
+    let cuts = cutting(rng, input.len());
+    let mut rest = input;
+    for size in cuts.into_iter().chain([usize::MAX]) {
+        let (mut portion, behind) = rest.split_at(size.min(rest.len()));
+        rest = behind;
+        loop {
+            let went = step(rng, judge, &mut job, Some(portion), &ENOUGH).expect("a sound job");
+            portion = &portion[went.used..];
+            if went.event == Event::Hungry {
+                break;
+            }
+        }
+    }
+    while step(rng, judge, &mut job, None, &ENOUGH).expect("a sound job").event != Event::Done {}
+}
+
+/// One call on a tray and a desk of any kind, with buffers of any size.
+pub fn odd(rng: &mut Rng, judge: &mut Judge) {
+    let table = tables::any(rng);
+    let (tray, bytes) = match rng.below(4) {
+        0 => unsound_tray(rng),
+        1 => {
+            // a frame of the desk is held, not shown yet
+            let frame = table.frame(rng);
+            let mut bytes = frame.clone();
+            bytes.resize(1103, 0);
+            (Tray { held: frame.len().min(1103) as u64, shown: 0, noise: rng.below(2) }, bytes)
+        }
+        _ => tray(rng),
+    };
+    let mut job = Job { tray, bytes, table };
+    if rng.one_in(12) {
+        let size = buffer_size(rng, 1103);
+        job.bytes.resize(size, 0);
+    }
+    let places = if rng.one_in(8) {
+        Places {
+            tray: rng.pick(&[0, 2, 3, 3, 4]),
+            log: buffer_size(rng, 4096),
+            told: rng.pick(&[0, 4, 5, 5, 6]),
+            header: rng.pick(&[0, 14, 15, 15, 16]),
+        }
+    } else {
+        ENOUGH
+    };
+    let mut portion = match rng.below(4) {
+        0 => Vec::new(),
+        1 => odd_frame(rng),
+        _ => job.table.frame(rng),
+    };
+    if rng.one_in(4) {
+        let more = rng.below(20) as usize;
+        portion.extend(noise(rng, more));
+    }
+    let portion = if rng.one_in(3) { None } else { Some(&portion[..]) };
+    step(rng, judge, &mut job, portion, &places);
+}
