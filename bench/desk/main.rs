@@ -1,6 +1,5 @@
 //! `take` of the crate `desk` beside a Rust desk with the same promises: the same frames, one run, and every answer, state, book and log compared.
 mod desk;
-#[path = "../frame.rs"]
 mod frame;
 mod made;
 

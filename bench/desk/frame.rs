@@ -1,4 +1,4 @@
-//! Frames for the Rust sides: checked by byte tables where they lie, and plain ones written.
+//! Frames for the Rust desk: checked by byte tables where they lie, and plain ones written.
 
 const fn table(width: u32, polynomial: u32) -> [u32; 256] {
     let mut table = [0; 256];
@@ -53,7 +53,6 @@ fn header_check(header: [u8; 3]) -> u8 {
 
 /// The refusals that a desk gives, by their numbers in document 01.
 #[derive(Clone, Copy, Debug, PartialEq)]
-#[allow(dead_code)]
 pub enum Refusal {
     Short = 1,
     Preamble = 2,
@@ -72,10 +71,8 @@ pub enum Refusal {
     State = 17,
 }
 
-/// What a caller wants of a header. The tag is of 16 bits, or of 32.
-#[allow(dead_code)]
+/// What the desk wants of a header. The tag is of 16 bits, or of 32.
 pub struct Frame<'a> {
-    pub length: usize,
     pub message_type: u8,
     pub subtype: u8,
     pub long_tag: bool,
@@ -120,7 +117,6 @@ pub fn check(bytes: &[u8]) -> Result<Frame<'_>, Refusal> {
     // TF007 to TF011 end with the description's first four or six bytes
     let described = bytes[4..8 + 2 * long_tag as usize].iter().fold(0u64, |number, &byte| number << 8 | byte as u64);
     Ok(Frame {
-        length,
         message_type: (start >> 17 & 127) as u8,
         subtype: fifth >> 4,
         long_tag,
