@@ -23,7 +23,7 @@ use Rattle.export.proofs.Laws.{laid-none}
 use Rattle.exportdesk.specs.States.{deskIn, deskOf}
 use Rattle.exportdesk.specs.Prepares.{Lent, lends, noRoom, callResult, finishResult, eventOf, toldSaid, toldAnswer, headerSaid, stateSaid, numberBy, lentBy, callNumber, callLeaves, finishNumber, finishLeaves}
 use Rattle.exportdesk.specs.Refusals.{neither}
-use Rattle.exportdesk.specs.Tells.{Tells, results}
+use Rattle.exportdesk.specs.Puts.{Puts, results}
 
 -- ---- lacks_room
 
@@ -56,17 +56,17 @@ told-put event used noise number log u n l lent now p q r e =
 
 module _ (a : Answer) (tray desk told header tray′ desk′ told′ : List ℕ) where
   module _ (t : tray′ ≡ laid (trayOf (a .tray)) tray) (d : desk′ ≡ laid (deskOf (a .desk)) desk) where
-    pub tells-hungry : a .said ≡ said.Hungry → told′ ≡ laid (eventOf 0 (a .used) 0 0 (a .log)) told → Tells a tray desk told header 0 tray′ desk′ told′ header
+    pub puts-hungry : a .said ≡ said.Hungry → told′ ≡ laid (eventOf 0 (a .used) 0 0 (a .log)) told → Puts a tray desk told header 0 tray′ desk′ told′ header
     unfolding toldAnswer toldSaid stateSaid headerSaid
-    tells-hungry e p = record { number-is = rw e; tray-is = rw e t; desk-is = rw e d; told-is = rw e p; header-is = rw e (laid-none header) }
+    puts-hungry e p = record { number-is = rw e; tray-is = rw e t; desk-is = rw e d; told-is = rw e p; header-is = rw e (laid-none header) }
 
-    pub tells-done : a .said ≡ said.Done → told′ ≡ laid (eventOf 3 (a .used) 0 0 (a .log)) told → Tells a tray desk told header 0 tray′ desk′ told′ header
+    pub puts-done : a .said ≡ said.Done → told′ ≡ laid (eventOf 3 (a .used) 0 0 (a .log)) told → Puts a tray desk told header 0 tray′ desk′ told′ header
     unfolding toldAnswer toldSaid stateSaid headerSaid
-    tells-done e p = record { number-is = rw e; tray-is = rw e t; desk-is = rw e d; told-is = rw e p; header-is = rw e (laid-none header) }
+    puts-done e p = record { number-is = rw e; tray-is = rw e t; desk-is = rw e d; told-is = rw e p; header-is = rw e (laid-none header) }
 
-    pub tells-noise : (m n : ℕ) → a .said ≡ said.Noise m → n ≡ m → told′ ≡ laid (eventOf 2 (a .used) n 0 (a .log)) told → Tells a tray desk told header 0 tray′ desk′ told′ header
+    pub puts-noise : (m n : ℕ) → a .said ≡ said.Noise m → n ≡ m → told′ ≡ laid (eventOf 2 (a .used) n 0 (a .log)) told → Puts a tray desk told header 0 tray′ desk′ told′ header
     unfolding toldAnswer toldSaid stateSaid headerSaid
-    tells-noise m n e q p = record {
+    puts-noise m n e q p = record {
       number-is = rw e;
       tray-is = rw e t;
       desk-is = rw e d;
@@ -74,16 +74,16 @@ module _ (a : Answer) (tray desk told header tray′ desk′ told′ : List ℕ)
       header-is = rw e (laid-none header);
     }
 
-    pub tells-accepted : (f : Frame) (header′ : List ℕ) → a .said ≡ said.Accepted f → told′ ≡ laid (eventOf 1 (a .used) 0 0 (a .log)) told → header′ ≡ laid (headerOf f) header
-        → Tells a tray desk told header 0 tray′ desk′ told′ header′
+    pub puts-accepted : (f : Frame) (header′ : List ℕ) → a .said ≡ said.Accepted f → told′ ≡ laid (eventOf 1 (a .used) 0 0 (a .log)) told → header′ ≡ laid (headerOf f) header
+        → Puts a tray desk told header 0 tray′ desk′ told′ header′
     unfolding toldAnswer toldSaid stateSaid headerSaid
-    tells-accepted f header′ e p h = record { number-is = rw e; tray-is = rw e t; desk-is = rw e d; told-is = rw e p; header-is = rw e h }
+    puts-accepted f header′ e p h = record { number-is = rw e; tray-is = rw e t; desk-is = rw e d; told-is = rw e p; header-is = rw e h }
 
-    pub tells-refused-frame : (f : Frame) (w : Refusal) (n : ℕ) (header′ : List ℕ) → a .said ≡ said.FrameRefused f w → n ≡ numberOf w
+    pub puts-refused-frame : (f : Frame) (w : Refusal) (n : ℕ) (header′ : List ℕ) → a .said ≡ said.FrameRefused f w → n ≡ numberOf w
         → told′ ≡ laid (eventOf 1 (a .used) 0 n (a .log)) told → header′ ≡ laid (headerOf f) header
-        → Tells a tray desk told header 0 tray′ desk′ told′ header′
+        → Puts a tray desk told header 0 tray′ desk′ told′ header′
     unfolding toldAnswer toldSaid stateSaid headerSaid
-    tells-refused-frame f w n header′ e q p h = record {
+    puts-refused-frame f w n header′ e q p h = record {
       number-is = rw e;
       tray-is = rw e t;
       desk-is = rw e d;
@@ -91,10 +91,10 @@ module _ (a : Answer) (tray desk told header tray′ desk′ told′ : List ℕ)
       header-is = rw e h;
     }
 
-pub tells-refused : (a : Answer) (tray desk told header : List ℕ) (w : Refusal) (n : ℕ) → a .said ≡ said.Refused w → n ≡ numberOf w
-    → Tells a tray desk told header n tray desk told header
+pub puts-refused : (a : Answer) (tray desk told header : List ℕ) (w : Refusal) (n : ℕ) → a .said ≡ said.Refused w → n ≡ numberOf w
+    → Puts a tray desk told header n tray desk told header
 unfolding toldAnswer toldSaid stateSaid headerSaid
-tells-refused a tray desk told header w n e q =
+puts-refused a tray desk told header w n e q =
     record { number-is = rw e q; tray-is = rw e (laid-none tray); desk-is = rw e (laid-none desk); told-is = rw e (laid-none told); header-is = rw e (laid-none header) }
 
 -- ---- call and finish: the tray and the desk are those that the numbers say
@@ -155,7 +155,7 @@ module _ (bytes tray desk live run log told header : List ℕ) (b : Bool) (e : b
   unfolding finishNumber finishLeaves
   finish-short h = short-by (finishResult lent) h
 
-  module _ (h : b ≡ false) (a : Answer) (bytes′ tray′ desk′ live′ run′ log′ told′ header′ : List ℕ) (n : ℕ) (t : Tells a tray desk told header n tray′ desk′ told′ header′) where
+  module _ (h : b ≡ false) (a : Answer) (bytes′ tray′ desk′ live′ run′ log′ told′ header′ : List ℕ) (n : ℕ) (t : Puts a tray desk told header n tray′ desk′ told′ header′) where
     abbrev lent′ : Lent
     lent′ = lends bytes′ tray′ desk′ live′ run′ log′ told′ header′
 

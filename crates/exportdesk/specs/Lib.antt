@@ -6,6 +6,7 @@ pub mod Theorems
 pub mod FindTheorems
 pub mod Determined
 pub mod Prepares
-pub mod Tells
+pub mod Puts
 pub mod DeterminedPrepares
 pub mod Refusals
+pub mod NextState

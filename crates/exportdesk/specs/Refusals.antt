@@ -6,6 +6,7 @@ use Prim.Native.Nat.{ℕ, _≤_}
 use lib.Dec.{ltb}
 use lib.ListN.{length}
 use borrow.Author.Tests.{ltb-false}
+use Rattle.area.specs.Laws.{both-right}
 use Rattle.answer.specs.declared.Refusal.the-variants as refusal
 use Rattle.frame.specs.Fields.{longest}
 use Rattle.stream.specs.Tray.{sound, Outcome, refused, told, hungry, done, stop, called, finished, bytesOf}
@@ -43,10 +44,7 @@ pub neither : (a b : Bool) → (a || b) ≡ false → (a ≡ false) × (b ≡ fa
 neither false b e = (refl, e)
 neither true b e = (e, cc)
 
-second : (a b : Bool) → (a && b) ≡ true → b ≡ true
-second true b e = e
-second false b e = cc
-
+-- an event of the call, so its number is 0
 told-zero : (t : uncut.Told) (used log : ℕ) → toldSaid (saidOf t) used log .number ≡ 0
 unfolding toldSaid
 told-zero (uncut.accepted header bytes entries) used log = refl
@@ -54,7 +52,7 @@ told-zero (uncut.refused header bytes why) used log = refl
 told-zero (uncut.noise count) used log = refl
 
 module _ (lent : Lent) where
-  abbrev resultOf : Outcome → Result
+  abbrev pub resultOf : Outcome → Result
   resultOf o = record {
     answer = answerOf (trayIn (lent .tray)) (booksLent lent) o;
     bytes = bytesOf (lent .bytes) o;
@@ -81,7 +79,7 @@ module _ (lent : Lent) where
       go false true s p q r = refl
       go false false false p q r = refl
       go false false true p q r =
-          good-zero o (w (ltb-false (length (lent .bytes)) longest (neither _ _ q .0)) (second (deskSound (deskIn (lent .desk)) (lent .live) (lent .run)) _ r))
+          good-zero o (w (ltb-false (length (lent .bytes)) longest (neither _ _ q .0)) (both-right (deskSound (deskIn (lent .desk)) (lent .live) (lent .run)) _ r))
 
   kept-by : (o : Outcome) → (numberBy lent (resultOf o) ≡ 0 → ⊥) → lentBy lent (resultOf o) ≡ lent
   unfolding numberBy lentBy laid stateSaid headerSaid toldAnswer toldSaid

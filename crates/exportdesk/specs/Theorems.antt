@@ -35,7 +35,7 @@ most-over : (most x : ℕ) → most ≤ x → atMost most x ≡ most
 unfolding atMost
 most-over most x h = let z : ltb x most ≡ false = le-ltb _ _ h in rw z
 
-most-under : (most x : ℕ) → x < most → atMost most x ≡ x
+pub most-under : (most x : ℕ) → x < most → atMost most x ≡ x
 unfolding atMost
 most-under most x h = let z : ltb x most ≡ true = lt-ltb _ _ h in rw z
 

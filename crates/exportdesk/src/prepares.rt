@@ -8,7 +8,7 @@ ghost use Rattle.export.specs.Frames.{headerRoom};
 ghost use Rattle.export.specs.Streams.{trayRoom, trayIn, trayOf};
 ghost use Rattle.exportdesk.specs.States.{deskRoom, deskIn, deskOf};
 ghost use Rattle.exportdesk.specs.Prepares.{lends, toldRoom, noRoom, eventOf, callNumber, callLeaves, finishNumber, finishLeaves};
-ghost use Rattle.exportdesk.specs.Tells.{Tells, results};
+ghost use Rattle.exportdesk.specs.Puts.{Puts, results};
 use crate::states::desk_in;
 use crate::states::put_desk;
 use export::frames::put_header;
@@ -92,7 +92,7 @@ fn tell(
     header: &mut [u64],
 ) -> u8
     requires { ⌜ (trayRoom ≤ length (now tray)) × (deskRoom ≤ length (now desk)) × (toldRoom ≤ length (now told)) × (headerRoom ≤ length (now header)) ⌝ }
-    ensures { λ r. ⌜ Tells answer (now (tray .entry)) (now (desk .entry)) (now (told .entry)) (now (header .entry)) r (now (tray .exit)) (now (desk .exit)) (now (told .exit)) (now (header .exit)) ⌝ }
+    ensures { λ r. ⌜ Puts answer (now (tray .entry)) (now (desk .entry)) (now (told .entry)) (now (header .entry)) r (now (tray .exit)) (now (desk .exit)) (now (told .exit)) (now (header .exit)) ⌝ }
 {
     let said = answer.said;
     match said {

@@ -13,7 +13,7 @@ abbrev pub results : Answer → (bytes live run log : List ℕ) → Result
 results answer bytes live run log = record { answer = answer; bytes = bytes; live = live; run = run; log = log }
 
 -- the number, and the slices of numbers, are these
-pub record Tells (answer : Answer) (tray desk told header : List ℕ) (number : ℕ) (tray′ desk′ told′ header′ : List ℕ) : Type 0 where
+pub record Puts (answer : Answer) (tray desk told header : List ℕ) (number : ℕ) (tray′ desk′ told′ header′ : List ℕ) : Type 0 where
   pub number-is : number ≡ toldAnswer answer .number
   pub tray-is : tray′ ≡ laid (stateSaid (answer .said) (trayOf (answer .tray))) tray
   pub desk-is : desk′ ≡ laid (stateSaid (answer .said) (deskOf (answer .desk))) desk
