@@ -93,11 +93,11 @@ pub fn any(rng: &mut Rng) -> Table {
         let place = rng.below(9) as usize;
         table.numbers[place] = wild(rng, table.numbers[place]);
     }
-    match rng.below(24) {
+    match rng.below(20) {
         0 => table.numbers.truncate(rng.pick(&[0, 3, 8])),
-        1 => table.live.resize(buffer_size(rng, 192), 0),
-        2 => table.run.resize(buffer_size(rng, 192), 0),
-        3 | 4 => table.numbers.push(rng.draw()),
+        1 => table.live.truncate(rng.pick(&[0, 6, 191])),
+        2 => table.run.truncate(rng.pick(&[0, 6, 191])),
+        3 => table.numbers.push(rng.draw()),
         _ => {}
     }
     table

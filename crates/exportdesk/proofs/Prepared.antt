@@ -1,6 +1,6 @@
 -- Laws: what the calls of `prepare` tell and leave, worded as the code makes it.
 use mathlib.Core.Path.{_≡_, refl, sym, ap, ap₂, _∙_, subst}
-use mathlib.Core.Bool.{Bool, true, false, cond, _||_}
+use mathlib.Core.Bool.{Bool, true, false}
 use mathlib.Core.List.{List, [], _∷_}
 use Prim.Native.Nat.{ℕ, _≤_, _<_}
 use lib.Dec.{ltb}
@@ -54,43 +54,36 @@ told-put event used noise number log u n l lent now p q r e =
 
 -- ---- tell: a case for each thing that is said
 
-module _ (a : Answer) (tray desk told header tray′ desk′ told′ : List ℕ) where
-  module _ (t : tray′ ≡ laid (trayOf (a .tray)) tray) (d : desk′ ≡ laid (deskOf (a .desk)) desk) where
-    pub puts-hungry : a .said ≡ said.Hungry → told′ ≡ laid (eventOf 0 (a .used) 0 0 (a .log)) told → Puts a tray desk told header 0 tray′ desk′ told′ header
-    unfolding toldAnswer toldSaid stateSaid headerSaid
-    puts-hungry e p = record { number-is = rw e; tray-is = rw e t; desk-is = rw e d; told-is = rw e p; header-is = rw e (laid-none header) }
+module _ (a : Answer) (tray desk told header tray′ desk′ told′ : List ℕ) (t : tray′ ≡ laid (trayOf (a .tray)) tray) (d : desk′ ≡ laid (deskOf (a .desk)) desk) where
+  event : (s : Said) (header′ : List ℕ) → a .said ≡ s → 0 ≡ toldSaid s (a .used) (a .log) .number → ((numbers : List ℕ) → stateSaid s numbers ≡ numbers)
+      → told′ ≡ laid (toldSaid s (a .used) (a .log) .numbers) told → header′ ≡ laid (headerSaid s) header → Puts a tray desk told header 0 tray′ desk′ told′ header′
+  unfolding toldAnswer
+  event s header′ e z i p h = record { number-is = rw e z; tray-is = rw (e, i) t; desk-is = rw (e, i) d; told-is = rw e p; header-is = rw e h }
 
-    pub puts-done : a .said ≡ said.Done → told′ ≡ laid (eventOf 3 (a .used) 0 0 (a .log)) told → Puts a tray desk told header 0 tray′ desk′ told′ header
-    unfolding toldAnswer toldSaid stateSaid headerSaid
-    puts-done e p = record { number-is = rw e; tray-is = rw e t; desk-is = rw e d; told-is = rw e p; header-is = rw e (laid-none header) }
+  pub puts-hungry : a .said ≡ said.Hungry → told′ ≡ laid (eventOf 0 (a .used) 0 0 (a .log)) told → Puts a tray desk told header 0 tray′ desk′ told′ header
+  unfolding toldSaid stateSaid headerSaid
+  puts-hungry e p = event said.Hungry header e refl (λ _. refl) p (laid-none header)
 
-    pub puts-noise : (m n : ℕ) → a .said ≡ said.Noise m → n ≡ m → told′ ≡ laid (eventOf 2 (a .used) n 0 (a .log)) told → Puts a tray desk told header 0 tray′ desk′ told′ header
-    unfolding toldAnswer toldSaid stateSaid headerSaid
-    puts-noise m n e q p = record {
-      number-is = rw e;
-      tray-is = rw e t;
-      desk-is = rw e d;
-      told-is = rw e (p ∙ ap (λ n. laid (eventOf 2 (a .used) n 0 (a .log)) told) q);
-      header-is = rw e (laid-none header);
-    }
+  pub puts-done : a .said ≡ said.Done → told′ ≡ laid (eventOf 3 (a .used) 0 0 (a .log)) told → Puts a tray desk told header 0 tray′ desk′ told′ header
+  unfolding toldSaid stateSaid headerSaid
+  puts-done e p = event said.Done header e refl (λ _. refl) p (laid-none header)
 
-    pub puts-accepted : (f : Frame) (header′ : List ℕ) → a .said ≡ said.Accepted f → told′ ≡ laid (eventOf 1 (a .used) 0 0 (a .log)) told → header′ ≡ laid (headerOf f) header
-        → Puts a tray desk told header 0 tray′ desk′ told′ header′
-    unfolding toldAnswer toldSaid stateSaid headerSaid
-    puts-accepted f header′ e p h = record { number-is = rw e; tray-is = rw e t; desk-is = rw e d; told-is = rw e p; header-is = rw e h }
+  pub puts-noise : (m n : ℕ) → a .said ≡ said.Noise m → n ≡ m → told′ ≡ laid (eventOf 2 (a .used) n 0 (a .log)) told → Puts a tray desk told header 0 tray′ desk′ told′ header
+  unfolding toldSaid stateSaid headerSaid
+  puts-noise m n e q p = event (said.Noise m) header e refl (λ _. refl) (p ∙ ap (λ n. laid (eventOf 2 (a .used) n 0 (a .log)) told) q) (laid-none header)
 
-    pub puts-refused-frame : (f : Frame) (w : Refusal) (n : ℕ) (header′ : List ℕ) → a .said ≡ said.FrameRefused f w → n ≡ numberOf w
-        → told′ ≡ laid (eventOf 1 (a .used) 0 n (a .log)) told → header′ ≡ laid (headerOf f) header
-        → Puts a tray desk told header 0 tray′ desk′ told′ header′
-    unfolding toldAnswer toldSaid stateSaid headerSaid
-    puts-refused-frame f w n header′ e q p h = record {
-      number-is = rw e;
-      tray-is = rw e t;
-      desk-is = rw e d;
-      told-is = rw e (p ∙ ap (λ n. laid (eventOf 1 (a .used) 0 n (a .log)) told) q);
-      header-is = rw e h;
-    }
+  pub puts-accepted : (f : Frame) (header′ : List ℕ) → a .said ≡ said.Accepted f → told′ ≡ laid (eventOf 1 (a .used) 0 0 (a .log)) told → header′ ≡ laid (headerOf f) header
+      → Puts a tray desk told header 0 tray′ desk′ told′ header′
+  unfolding toldSaid stateSaid headerSaid
+  puts-accepted f header′ e p h = event (said.Accepted f) header′ e refl (λ _. refl) p h
 
+  pub puts-refused-frame : (f : Frame) (w : Refusal) (n : ℕ) (header′ : List ℕ) → a .said ≡ said.FrameRefused f w → n ≡ numberOf w
+      → told′ ≡ laid (eventOf 1 (a .used) 0 n (a .log)) told → header′ ≡ laid (headerOf f) header
+      → Puts a tray desk told header 0 tray′ desk′ told′ header′
+  unfolding toldSaid stateSaid headerSaid
+  puts-refused-frame f w n header′ e q p h = event (said.FrameRefused f w) header′ e refl (λ _. refl) (p ∙ ap (λ n. laid (eventOf 1 (a .used) 0 n (a .log)) told) q) h
+
+-- a refusal of the call
 pub puts-refused : (a : Answer) (tray desk told header : List ℕ) (w : Refusal) (n : ℕ) → a .said ≡ said.Refused w → n ≡ numberOf w
     → Puts a tray desk told header n tray desk told header
 unfolding toldAnswer toldSaid stateSaid headerSaid
@@ -117,27 +110,18 @@ module _ (bytes live run log bytes′ live′ run′ log′ ts ds : List ℕ) (t
 
 -- ---- the calls for other languages
 
-record Rooms (tray desk told header : List ℕ) : Type 0 where
-  tray-room : 3 ≤ length tray
-  desk-room : 9 ≤ length desk
-  told-room : 5 ≤ length told
-  header-room : 15 ≤ length header
-
 module _ (tray desk told header : List ℕ) (b : Bool) (e : b ≡ noRoom tray desk told header) (h : b ≡ false) where
-  rooms : Rooms tray desk told header
+  -- what telling wants, and what the call below wants
+  pub all-there : (3 ≤ length tray) × (9 ≤ length desk) × (5 ≤ length told) × (15 ≤ length header)
   unfolding noRoom
-  rooms =
+  all-there =
       let x = neither (ltb (length tray) 3) _ (sym e ∙ h) in
       let y = neither (ltb (length desk) 9) _ (x .1) in
       let z = neither (ltb (length told) 5) _ (y .1) in
-      record { tray-room = ltb-false _ _ (x .0); desk-room = ltb-false _ _ (y .0); told-room = ltb-false _ _ (z .0); header-room = ltb-false _ _ (z .1) }
+      (ltb-false _ _ (x .0), ltb-false _ _ (y .0), ltb-false _ _ (z .0), ltb-false _ _ (z .1))
 
-  -- what the call below wants, and what telling wants
   pub states-there : (3 ≤ length tray) × (9 ≤ length desk)
-  states-there = (rooms .tray-room, rooms .desk-room)
-
-  pub all-there : (3 ≤ length tray) × (9 ≤ length desk) × (5 ≤ length told) × (15 ≤ length header)
-  all-there = (rooms .tray-room, rooms .desk-room, rooms .told-room, rooms .header-room)
+  states-there = (all-there .0, all-there .1)
 
 module _ (bytes tray desk live run log told header : List ℕ) (b : Bool) (e : b ≡ noRoom tray desk told header) where
   abbrev lent : Lent

@@ -26,7 +26,7 @@ use Rattle.prepare.specs.Prepare.{booksIn, answerOf, booksOf, logOf, callOutcom
 use Rattle.prepare.specs.Driver.{Sound}
 use Rattle.prepare.specs.Steps.{guarded-is, back, itself, Hears}
 use Rattle.prepare.specs.Stays.{sound-after}
-use Rattle.prepare.specs.Theorems as prepared
+use Rattle.prepare.specs.Theorems as theorems
 use Rattle.runlog.specs.declared.hearing.Heard.{Heard}
 use Rattle.runlog.specs.Events.{isEvent, Prepared, IsNew}
 
@@ -78,11 +78,17 @@ module _ (bytes live run log : List ℕ) (tray : Tray) (desk : Desk) (p : Prepar
   stays : streaming.Ready (stream.bytesOf bytes o′) (stream.answerOf tray o′ .tray) → length log′ ≡ length log → Prepared bytes′ (a .tray) (a .desk) live′ run′ log′
   stays r l = record { tray-ready = along (λ b t u. streaming.Ready b t) r; books-sound = books-stay; log-room = rw l (p .log-room) }
 
-  log-in : a .log ≤ length log′
-  log-in = rw (ea, eg) (entries-in tray (booksIn desk live run) log o)
+  entries-fit : a .log ≤ length log′
+  entries-fit = rw (ea, eg) (entries-in tray (booksIn desk live run) log o)
 
   event : Good o′ → isEvent (a .said) ≡ true → (e : Event) × Hears bytes tray o′ e
   event g n = the-event tray (booksIn desk live run) bytes o′ g (rw (ea, q) at n)
+
+-- what a call or a finish leaves, with so many events to tell before and after it
+pub record Step (before : ℕ) (bytes live run log : List ℕ) (a : Answer) (after : ℕ) : Type 0 where
+  pub prepared : Prepared bytes (a .tray) (a .desk) live run log
+  pub log-in : a .log ≤ length log
+  pub fewer : isEvent (a .said) ≡ true → after < before
 
 -- ---- a call on the rest of a portion
 
@@ -105,24 +111,26 @@ module _ (bytes live run log portion : List ℕ) (tray : Tray) (desk : Desk) (us
         → R (stream.callBytes bytes tray input) (stream.callAnswer bytes tray input .tray) (stream.callAnswer bytes tray input .used) → R bytes′ (a .tray) (a .used)
     of-call = along bytes live run log tray desk p _ _ call-is bytes′ live′ run′ log′ a ea eb el er eg
 
-    pub call-prepared : length log′ ≡ length log → Prepared bytes′ (a .tray) (a .desk) live′ run′ log′
-    call-prepared = stays bytes live run log tray desk p _ _ call-is bytes′ live′ run′ log′ a ea eb el er eg (call-sound (p .tray-ready) input)
-
-    pub call-inside : used + a .used ≤ length portion
-    call-inside =
-        let u : a .used ≤ length input = of-call (λ b t u. u ≤ length input) (call-used bytes tray input) in
-        omega (arith, ap length rest, length-drop used portion)
-
-    pub call-log : a .log ≤ length log′
-    call-log = log-in bytes live run log tray desk p _ _ call-is bytes′ live′ run′ log′ a ea eb el er eg
-
-    pub call-fewer : isEvent (a .said) ≡ true → length (left bytes′ (a .tray) (drop (used + a .used) portion)) < length (left bytes tray (drop used portion))
+    call-fewer : isEvent (a .said) ≡ true → length (left bytes′ (a .tray) (drop (used + a .used) portion)) < length (left bytes tray (drop used portion))
     call-fewer n =
         let w = event bytes live run log tray desk p _ _ call-is bytes′ live′ run′ log′ a ea eb el er eg (call-kept bytes tray input (p .tray-ready)) n in
         let l = ap length (call-event (p .tray-ready) input (w .0) (w .1)) in
         let x : length (left bytes′ (a .tray) (drop (a .used) input)) < length (left bytes tray input)
         = of-call (λ b t u. length (left b t (drop u input)) < length (left bytes tray input)) (omega arith) in
         rw (← drop-drop (a .used) used portion) (rw rest at x)
+
+    pub call-inside : used + a .used ≤ length portion
+    call-inside =
+        let u : a .used ≤ length input = of-call (λ b t u. u ≤ length input) (call-used bytes tray input) in
+        omega (arith, ap length rest, length-drop used portion)
+
+    pub call-step : length log′ ≡ length log
+        → Step (length (left bytes tray (drop used portion))) bytes′ live′ run′ log′ a (length (left bytes′ (a .tray) (drop (used + a .used) portion)))
+    call-step l = record {
+      prepared = stays bytes live run log tray desk p _ _ call-is bytes′ live′ run′ log′ a ea eb el er eg (call-sound (p .tray-ready) input) l;
+      log-in = entries-fit bytes live run log tray desk p _ _ call-is bytes′ live′ run′ log′ a ea eb el er eg;
+      fewer = call-fewer;
+    }
 
 -- ---- a finish
 
@@ -134,18 +142,19 @@ module _ (bytes live run log : List ℕ) (tray : Tray) (desk : Desk) (p : Prepar
   module _ (ea : a ≡ finishAnswer bytes tray desk live run log) (eb : bytes′ ≡ finishBytes bytes tray desk live run log)
       (el : live′ ≡ finishLive bytes tray desk live run log) (er : run′ ≡ finishRun bytes tray desk live run log)
       (eg : log′ ≡ finishLog bytes tray desk live run log) where
-    pub finish-prepared : length log′ ≡ length log → Prepared bytes′ (a .tray) (a .desk) live′ run′ log′
-    finish-prepared = stays bytes live run log tray desk p _ _ finish-is bytes′ live′ run′ log′ a ea eb el er eg (finish-sound (p .tray-ready))
-
-    pub finish-log : a .log ≤ length log′
-    finish-log = log-in bytes live run log tray desk p _ _ finish-is bytes′ live′ run′ log′ a ea eb el er eg
-
-    pub finish-fewer : isEvent (a .said) ≡ true → length (left bytes′ (a .tray) []) < length (left bytes tray [])
+    finish-fewer : isEvent (a .said) ≡ true → length (left bytes′ (a .tray) []) < length (left bytes tray [])
     finish-fewer n =
         let w = event bytes live run log tray desk p _ _ finish-is bytes′ live′ run′ log′ a ea eb el er eg (end-kept bytes tray (p .tray-ready)) n in
         let l = ap length (finish-event (p .tray-ready) (w .0) (w .1)) in
         along bytes live run log tray desk p _ _ finish-is bytes′ live′ run′ log′ a ea eb el er eg
         (λ b t u. length (left b t []) < length (left bytes tray [])) (omega arith)
+
+    pub finish-step : length log′ ≡ length log → Step (length (left bytes tray [])) bytes′ live′ run′ log′ a (length (left bytes′ (a .tray) []))
+    finish-step l = record {
+      prepared = stays bytes live run log tray desk p _ _ finish-is bytes′ live′ run′ log′ a ea eb el er eg (finish-sound (p .tray-ready)) l;
+      log-in = entries-fit bytes live run log tray desk p _ _ finish-is bytes′ live′ run′ log′ a ea eb el er eg;
+      fewer = finish-fewer;
+    }
 
 -- ---- the buffers keep their lengths from turn to turn
 
@@ -184,6 +193,6 @@ new-prepared desk log n h =
     let room : 192 ≤ length (replicate {A = ℕ} 192 0) = omega (arith, length-replicate {A = ℕ} 192 0) in
     record {
       tray-ready = fresh-sound (zeros-clear 1103 (omega arith));
-      books-sound = prepared.fresh-sound (n .solution) (n .processor) (n .constellation) desk (n .is-made) (replicate 192 0) (replicate 192 0) room room .0;
+      books-sound = theorems.fresh-sound (n .solution) (n .processor) (n .constellation) desk (n .is-made) (replicate 192 0) (replicate 192 0) room room .0;
       log-room = omega arith;
     }

@@ -53,7 +53,7 @@ fn byte_of(word: &[u8]) -> Byte
     Byte::Is(n as u8)
 }
 
-// A word of the command line as such a number. No number is as long as the buffer.
+// A word of the command line as such a number. Of a word that is longer than its buffer, `os::arg` hands out nothing.
 fn number_at(place: usize) -> Byte {
     let mut word = [0u8; 16];
     let n = os::arg(place, &mut word);
@@ -81,8 +81,8 @@ fn raw_at(place: usize) -> bool {
     is_raw(&word[..n])
 }
 
-// The form that is asked for by so many words, if it is one.
-fn form_at(place: usize) -> Form {
+// The form that is asked for: in words, if nothing more is said. The program's own name is counted too.
+fn read_form() -> Form {
     let count = os::arg_count();
     if count == 4 {
         return Form::Words;
@@ -90,7 +90,7 @@ fn form_at(place: usize) -> Form {
     if count != 5 {
         return Form::Unknown;
     }
-    if raw_at(place) {
+    if raw_at(4) {
         return Form::Raw;
     }
     Form::Unknown
@@ -124,7 +124,7 @@ pub fn read_command() -> Wanted {
     let Byte::Is(constellation) = number_at(3) else {
         return Wanted::Nothing;
     };
-    logged(solution, processor, constellation, form_at(4))
+    logged(solution, processor, constellation, read_form())
 }
 
 // What is wanted, in one line.
