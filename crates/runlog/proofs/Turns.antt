@@ -193,6 +193,6 @@ new-prepared desk log n h =
     let room : 192 ≤ length (replicate {A = ℕ} 192 0) = omega (arith, length-replicate {A = ℕ} 192 0) in
     record {
       tray-ready = fresh-sound (zeros-clear 1103 (omega arith));
-      books-sound = theorems.fresh-sound (n .solution) (n .processor) (n .constellation) desk (n .is-made) (replicate 192 0) (replicate 192 0) room room .0;
+      books-sound = theorems.fresh-sound (n .solution) (n .processor) (n .constellation) desk (n .is-made) (replicate 192 0) (replicate 192 0) room room;
       log-room = omega arith;
     }
