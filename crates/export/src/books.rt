@@ -44,6 +44,7 @@ pub fn aiou_of(x: u8) -> u64
     (x - 1) as u64
 }
 
+// The book that two numbers say. Internal, as `put_book`: the calls here and in crate exportdesk have tested ROOM.
 pub fn book_in(book: &[u64]) -> Book
     requires { ⌜ bookRoom ≤ length (now book) ⌝ }
     ensures { λ r. ⌜ r ≡ bookIn (now (book .entry)) ⌝ }
@@ -61,6 +62,7 @@ pub fn book_in(book: &[u64]) -> Book
     }
 }
 
+// A book's numbers into the places from the start on.
 pub fn put_book(held: Book, book: &mut [u64])
     requires { ⌜ bookRoom ≤ length (now book) ⌝ }
     ensures { λ _. ⌜ now (book .exit) ≡ laid (bookOf held) (now (book .entry)) ⌝ }

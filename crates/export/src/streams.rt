@@ -44,6 +44,7 @@ fn size(x: u64) -> usize
     x as usize
 }
 
+// The tray that three numbers say. Internal, as `put_tray`: the calls here and in crate exportdesk have tested ROOM.
 pub fn tray_in(tray: &[u64]) -> Tray
     requires { ⌜ trayRoom ≤ length (now tray) ⌝ }
     ensures { λ r. ⌜ r ≡ trayIn (now (tray .entry)) ⌝ }
@@ -55,6 +56,7 @@ pub fn tray_in(tray: &[u64]) -> Tray
     }
 }
 
+// A tray's numbers into the places from the start on.
 pub fn put_tray(held: Tray, tray: &mut [u64])
     requires { ⌜ trayRoom ≤ length (now tray) ⌝ }
     ensures { λ _. ⌜ now (tray .exit) ≡ laid (trayOf held) (now (tray .entry)) ⌝ }

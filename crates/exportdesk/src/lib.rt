@@ -2,4 +2,4 @@
 pub mod desks;
 pub mod finds;
 pub mod prepares;
-pub mod states;
+mod states;

@@ -65,7 +65,7 @@ fn run_in(flag: u64, tag: u64, aiou: u64, areas: u64) -> Run
     }
 }
 
-// The desk that nine numbers say.
+// The desk that nine numbers say. Of this crate alone, as `put_desk`: the calls have tested ROOM.
 pub fn desk_in(desk: &[u64]) -> Desk
     requires { ⌜ deskRoom ≤ length (now desk) ⌝ }
     ensures { λ r. ⌜ r ≡ deskIn (now (desk .entry)) ⌝ }
