@@ -15,6 +15,13 @@ mostAreas = 32
 abbrev pub bookBytes : ℕ
 bookBytes = 6 * mostAreas
 
+-- A book says AIOU + 1, and 0 where it has none; a book without areas says 0 and 0.
+abbrev pub bookOf : (aiou-plus-one count : ℕ) → Book
+bookOf aiou-plus-one count = record { «aiou_plus_one» = aiou-plus-one; count = count }
+
+abbrev pub noBook : Book
+noBook = bookOf 0 0
+
 -- the area that the first six bytes hold, and the areas that the first n times six bytes hold
 abbrev pub areaIn : List ℕ → ℕ
 areaIn s = numberIn s / 2

@@ -4,10 +4,16 @@ use mathlib.Core.Path.{_≡_, sym, _∙_}
 use mathlib.Core.List.{List}
 use Prim.Native.Nat.{ℕ}
 use Rattle.area.specs.declared.AreaId.{AreaId}
-use Rattle.book.specs.Book.{headSound, sound, found}
+use Rattle.book.specs.Book.{bookOf, noBook, headSound, sound, found}
 use Rattle.book.specs.Take.{takenOf, bytesAfter, numberOfTaken}
 use Rattle.book.specs.declared.Book.{Book}
 use Rattle.book.specs.declared.Taken.{Taken}
+
+pub book-of-determined : (aiou count : ℕ) (a b : Book) → a ≡ bookOf aiou count → b ≡ bookOf aiou count → a ≡ b
+book-of-determined aiou count a b p q = p ∙ sym q
+
+pub no-book-determined : (a b : Book) → a ≡ noBook → b ≡ noBook → a ≡ b
+no-book-determined a b p q = p ∙ sym q
 
 pub head-is-sound-determined : (book : Book) (a b : Bool) → a ≡ headSound book → b ≡ headSound book → a ≡ b
 head-is-sound-determined book a b p q = p ∙ sym q

@@ -7,7 +7,7 @@ ghost use lib.Dec.{eqb};
 ghost use lib.ListN.{length, drop};
 ghost use Rattle.bits.specs.Part.{PartOf};
 ghost use Rattle.area.specs.Area.{sf031};
-ghost use Rattle.book.specs.Book.{areasIn, bytesOfAll, headSound, areasSound, sound, placeOf, found, foundAt};
+ghost use Rattle.book.specs.Book.{bookOf, noBook, areasIn, bytesOfAll, headSound, areasSound, sound, placeOf, found, foundAt};
 ghost use Rattle.book.specs.Take.{lookup, insert, takeAll, answerOf, leftBy, takenOf, bytesAfter, numberOfTaken};
 ghost use Rattle.book.specs.Payload.{aiouOf, blockCount, blockAt, blocksFrom, blocksOf, blockVerdict, blocksVerdict, payloadVerdict, takeBits};
 ghost use Rattle.book.specs.TakeLaws.{orElse};
@@ -46,6 +46,22 @@ enum Judged {
 pub enum Taken {
     Holds(Book),
     Refused(Refusal),
+}
+
+// The book with this AIOU + 1 and so many areas, and the one without areas. Every book is made by one of the two.
+pub fn book_of(aiou_plus_one: u8, count: usize) -> Book
+    ensures { λ r. ⌜ r ≡ bookOf «aiou_plus_one» count ⌝ }
+{
+    Book {
+        aiou_plus_one: aiou_plus_one,
+        count: count,
+    }
+}
+
+pub fn no_book() -> Book
+    ensures { λ r. ⌜ r ≡ noBook ⌝ }
+{
+    book_of(0, 0)
 }
 
 fn wide(x: u8) -> usize
