@@ -11,6 +11,7 @@ use borrow.Author.Tests.{lt-ltb, le-ltb, eq-eqb, ne-eqb}
 use Rattle.answer.specs.declared.Refusal.the-variants.{AreaOff, Conflict, BookFull}
 use Rattle.bits.specs.Bits.{field, got}
 use Rattle.bits.specs.Laws.{got-there, field-lt}
+use Rattle.sizes.specs.Sizes.{mostAreas}
 use Rattle.area.specs.Area.{sf031, areaOff, numberIn, numberAt}
 use Rattle.book.specs.Book.{areasIn}
 use Rattle.book.specs.Take.{lookup}
@@ -105,11 +106,11 @@ module _ (a n : ℕ) (f : Found) where
   pub found-other : (b : ℕ) → f ≡ Area b → (a ≡ b → ⊥) → Refused Conflict ≡ judgeFound a f n
   found-other b e q = rw (e, ne-eqb a b q)
 
-  pub found-new : f ≡ Nothing → n < 32 → Held (n + 1) ≡ judgeFound a f n
-  found-new e h = rw (e, lt-ltb n 32 h)
+  pub found-new : f ≡ Nothing → n < mostAreas → Held (n + 1) ≡ judgeFound a f n
+  found-new e h = rw (e, lt-ltb n mostAreas h)
 
-  pub found-full : f ≡ Nothing → 32 ≤ n → Refused BookFull ≡ judgeFound a f n
-  found-full e h = rw (e, le-ltb n 32 h)
+  pub found-full : f ≡ Nothing → mostAreas ≤ n → Refused BookFull ≡ judgeFound a f n
+  found-full e h = rw (e, le-ltb n mostAreas h)
 
 module _ (p l m : List ℕ) (i n x : ℕ) (ex : x ≡ blockAt p i) (b : Bool) (eb : b ≡ areaOff x) where
   pub block-off : b ≡ true → Refused AreaOff ≡ judgeBlock (blockAt p i) (orElse (lookup (sf031 (blockAt p i)) l) (lookup (sf031 (blockAt p i)) m)) n

@@ -10,10 +10,12 @@ use lib.ListN.{length, getD, take, drop, length-append, length-drop, take-append
 use lib.Seq.{drop-cons, drop-drop, drop-at, take-at}
 use borrow.Author.Tests.{lt-ltb, le-ltb, le-leb, eq-eqb, ne-eqb}
 use Rattle.answer.specs.declared.Refusal.{Refusal}
-use Rattle.bits.specs.Bits.{Bytes}
+use mir.Syntax.{w8}
+use mir.Val.{Fits}
+use Rattle.sizes.specs.Sizes.{mostAreas, bookBytes}
 use Rattle.area.specs.Area.{sf031, bytesOf, numberIn, numberAt, putAt}
 use Rattle.area.specs.Laws.{number-bytes, half-number}
-use Rattle.book.specs.Book.{areasIn, bytesOfAll, sound}
+use Rattle.book.specs.Book.{bookOf, areasIn, bytesOfAll, sound}
 use Rattle.book.specs.Laws.{Ascending, length-areas, length-bytes, bytes-join, areas-bytes, small-at}
 use Rattle.book.specs.Payload.{aiouOf, blockCount, blockAt, blocksFrom, blocksOf, takeBits}
 use Rattle.book.specs.Take.{lookup, insert, Outcome, taken, refused, andThen, takeBlock, takeAll, before, answerOf, leftBy}
@@ -277,7 +279,7 @@ pub record Filling (s p : List ℕ) (count n i held : ℕ) (b : List ℕ) : Type
   pub ends : takeAll (blocksFrom (n - i) i p) areas ≡ taken final
   pub all : takeAll (blocksOf p) (areasIn count s) ≡ taken final
   pub many : length areas ≡ held
-  pub few : held ≤ 32
+  pub few : held ≤ mostAreas
   pub ascending : Ascending 0 areas
   pub bytes : b ≡ bytesOfAll areas ++ drop (6 * held) s
 
@@ -290,7 +292,7 @@ unfolding count-of
 taken-some (taken l) e = record { list = l; is = refl; many = refl }
 taken-some (refused r) e = absurd (mathlib.Core.Bool.false≢true e)
 
-pub fill-start : (s p : List ℕ) (count n : ℕ) → n ≡ blockCount p → Image count s → count ≤ 32 → isTaken (takeAll (blocksOf p) (areasIn count s)) ≡ true → Filling s p count n 0 count s
+pub fill-start : (s p : List ℕ) (count n : ℕ) → n ≡ blockCount p → Image count s → count ≤ mostAreas → isTaken (takeAll (blocksOf p) (areasIn count s)) ≡ true → Filling s p count n 0 count s
 fill-start s p count n e q h t =
     let w : IsHeld (takeAll (blocksOf p) (areasIn count s)) _ = taken-some _ t in
     record {
@@ -305,7 +307,7 @@ fill-start s p count n e q h t =
       bytes = sym (take-append-drop (6 * count) s) ∙ ap (λ l. l ++ drop (6 * count) s) (q .image);
     }
 
-module _ (s p : List ℕ) (count n i held : ℕ) (b : List ℕ) (long : 192 ≤ length s) (q : Filling s p count n i held b) where
+module _ (s p : List ℕ) (count n i held : ℕ) (b : List ℕ) (long : bookBytes ≤ length s) (q : Filling s p count n i held b) where
   pub fill-length : length b ≡ length s
   fill-length =
       ap length (q .bytes) ∙ length-append (bytesOfAll (q .areas)) (drop (6 * held) s)
@@ -345,12 +347,12 @@ module _ (s p : List ℕ) (count n i held : ℕ) (b : List ℕ) (long : 192 ≤ 
         go m (Took.new o e k) r = let w : Area y ≡ Nothing = sym z ∙ asked ∙ e in let w′ : _≡_ {A = ℕ} 0 1 = cc in absurd (omega arith)
 
     -- there is a place for a new one
-    pub fill-room : v ≡ Nothing → held < 32
+    pub fill-room : v ≡ Nothing → held < mostAreas
     fill-room z = go (opened-fill .next) (opened-fill .first)
       where
-        go : (m : List ℕ) → Took (blockAt p i) (q .areas) m → held < 32
+        go : (m : List ℕ) → Took (blockAt p i) (q .areas) m → held < mostAreas
         go m (Took.held o e) = let w : Nothing ≡ Area (blockAt p i) = sym z ∙ asked ∙ e in let w′ : _≡_ {A = ℕ} 0 1 = cc in absurd (omega arith)
-        go m (Took.new o e k) = subst (λ k. k < 32) (q .many) k
+        go m (Took.new o e k) = subst (λ k. k < mostAreas) (q .many) k
 
     pub fill-new : v ≡ Nothing → x < 2 ^ 47 → (z : List ℕ) → z ≡ bytesOfAll (insert x (areasIn held b)) ++ drop (6 * held + 6) b → Filling s p count n (i + 1) (held + 1) z
     fill-new z small b′ eb = go (opened-fill .next) (opened-fill .first) (opened-fill .rest)
@@ -369,7 +371,7 @@ module _ (s p : List ℕ) (count n i held : ℕ) (b : List ℕ) (long : 192 ≤ 
               ends = r;
               all = q .all;
               many = length-insert (blockAt p i) (q .areas) ∙ omega (arith, q .many);
-              few = omega (arith, subst (λ k. k < 32) (q .many) k);
+              few = omega (arith, subst (λ k. k < mostAreas) (q .many) k);
               ascending = ascending-insert (blockAt p i) (q .areas) 0 (subst (λ x. x < 2 ^ 47) ex small) (omega arith) e (q .ascending);
               bytes = eb ∙ ap₂ (λ l t. bytesOfAll l ++ t) (ap₂ insert ex areas-are) back;
             }
@@ -395,22 +397,22 @@ module _ (book : Book) (s p : List ℕ) (w : sound book s ≡ true) (aiou n : �
   outcome-is : takeBits book s p ≡ takeAll (blocksOf p) (areasIn n s)
   outcome-is = ap (takeAll (blocksOf p)) (sym areas-before)
 
-  pub count-few : n ≤ 32
-  count-few = subst (λ n. n ≤ 32) (sym en) (go (eqb (book .«aiou_plus_one») aiou))
+  pub count-few : n ≤ mostAreas
+  count-few = subst (λ n. n ≤ mostAreas) (sym en) (go (eqb (book .«aiou_plus_one») aiou))
     where
-      go : (t : Bool) → cond t (book .count) 0 ≤ 32
+      go : (t : Bool) → cond t (book .count) 0 ≤ mostAreas
       go true = sound-count book s w
       go false = omega arith
 
-  pub count-fits : 192 ≤ length s → 6 * n ≤ length s
+  pub count-fits : bookBytes ≤ length s → 6 * n ≤ length s
   count-fits h = omega (arith, count-few)
 
-  pub count-image : Bytes s → Image n s
+  pub count-image : ((i : ℕ) → Fits w8 (getD s i 0)) → Image n s
   unfolding areasIn bytesOfAll
-  count-image y = subst (λ n. Image n s) (sym en) (go (eqb (book .«aiou_plus_one») aiou))
+  count-image known = subst (λ n. Image n s) (sym en) (go (eqb (book .«aiou_plus_one») aiou))
     where
       go : (t : Bool) → Image (cond t (book .count) 0) s
-      go true = sound-image book s w y
+      go true = sound-image book s w (record { byte = λ i. known i .fits })
       go false = record { ascending = Ascending.none; image = refl }
 
   module _ (v : Judged) (ev : v ≡ judgedBy (takeAll (blocksOf p) (areasIn n s))) where
@@ -426,10 +428,11 @@ module _ (book : Book) (s p : List ℕ) (w : sound book s ≡ true) (aiou n : �
     pub is-taken : (m : ℕ) → v ≡ Held m → isTaken (takeAll (blocksOf p) (areasIn n s)) ≡ true
     is-taken m q = ap isTaken (is-held (takeAll (blocksOf p) (areasIn n s)) m (sym q ∙ ev) .is)
 
-    pub take-held : (m : ℕ) → v ≡ Held m → Taken.Holds (record { «aiou_plus_one» = aiou; count = m }) ≡ answerOf (takeBits book s p) (aiouOf p)
-    take-held m q =
+    pub take-held : (m : ℕ) → v ≡ Held m → (r : Book) → r ≡ bookOf aiou m
+        → Taken.Holds r ≡ answerOf (takeBits book s p) (aiouOf p)
+    take-held m q r er =
         let w : IsHeld (takeAll (blocksOf p) (areasIn n s)) m = is-held _ m (sym q ∙ ev) in
-        ap₂ (λ a m. Taken.Holds (record { «aiou_plus_one» = a; count = m })) ea (sym (w .many)) ∙ ap (λ o. answerOf o (aiouOf p)) (sym (w .is) ∙ sym outcome-is)
+        ap Taken.Holds er ∙ ap₂ (λ a m. Taken.Holds (bookOf a m)) ea (sym (w .many)) ∙ ap (λ o. answerOf o (aiouOf p)) (sym (w .is) ∙ sym outcome-is)
 
   pub left-held : (z : List ℕ) → z ≡ leftBy (takeAll (blocksOf p) (areasIn n s)) s → z ≡ leftBy (takeBits book s p) s
   left-held z ez = ez ∙ ap (λ o. leftBy o s) (sym outcome-is)
