@@ -2,7 +2,7 @@
 use mathlib.Core.Path.{_≡_, refl, ap, ap₂, sym, _∙_, subst}
 use mathlib.Core.Bool.{Bool, true, false, cond, not, _&&_, Bool·beq}
 use mathlib.Core.List.{List, []}
-use Prim.Native.Nat.{ℕ, zero, suc, _+_, _-_, _*_, _/_, _%_, _≤_, _<_}
+use Prim.Native.Nat.{ℕ, zero, suc, _+_, _-_, _*_, _/_, _%_, _^_, _≤_, _<_}
 use native.Mathlib.Omega.{arith}
 use lib.Dec.{leb, ltb, eqb}
 use lib.ListN.{length, getD, take, drop}
@@ -42,8 +42,13 @@ module _ (book : Book) where
       unfolding headSound
       head-rest k = rw (ne-eqb _ _ some, ne-eqb _ _ h, le-leb _ _ k)
 
-pub head-count : (book : Book) (b : Bool) → b ≡ headSound book → not b ≡ false → book .count ≤ mostAreas
-head-count book b e k = head-parts book (sym e ∙ not-false b k) .1
+-- with a sound head, the areas lie inside the bytes, and there are no more than IDs
+module _ (book : Book) (b : Bool) (e : b ≡ headSound book) (k : not b ≡ false) where
+  pub head-few : book .count ≤ 256
+  head-few = omega (arith, head-parts book (sym e ∙ not-false b k) .1)
+
+  pub head-fits : (s : List ℕ) → bookBytes ≤ length s → 6 * book .count ≤ length s
+  head-fits s h = omega (arith, head-parts book (sym e ∙ not-false b k) .1)
 
 -- ---- the areas, one after the other
 
@@ -168,6 +173,17 @@ module _ (book : Book) (s : List ℕ) (b : Bool) (e : b ≡ sound book s) (k : n
 
   pub find-fits : 6 * book .count ≤ length s
   find-fits = let m : bookBytes ≤ length s = sound-room book s (sym e ∙ not-false b k) in omega (arith, find-count)
+
+  -- the part of the i-th area
+  module _ (i : ℕ) (h : i < book .count) where
+    pub find-at : 6 * i < 2 ^ 64
+    find-at = omega (arith, find-count)
+
+    pub find-end : 6 * i + 6 < 2 ^ 64
+    find-end = omega (arith, find-count)
+
+    pub find-inside : 6 * i + 6 ≤ length s
+    find-inside = omega (arith, find-fits)
 
 module _ (book : Book) (s : List ℕ) (id : AreaId) where
   none : isHeld book s id ≡ false → [] ≡ found book s id

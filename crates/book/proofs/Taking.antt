@@ -188,10 +188,20 @@ insert-start s n a p h =
     }
 
 module _ (s : List ℕ) (n a i c : ℕ) (b : List ℕ) (p : Image n s) (fits : 6 * n + 6 ≤ length s) (q : Inserting s n a i c b) where
-  pub insert-length : length b ≡ length s
-  insert-length =
-      ap length (q .bytes) ∙ length-append (bytesOfAll (q .down)) _
-      ∙ omega (arith, length-append (bytesOfAll (drop i (areasIn n s))) (drop (6 * n) s), length-bytes (q .down), length-bytes (drop i (areasIn n s)), length-drop i (areasIn n s), length-drop (6 * n) s, length-areas n s, q .many, q .inside)
+  pub insert-length : (z : List ℕ) → length z ≡ length b → length z ≡ length s
+  insert-length z e =
+      e ∙ ap length (q .bytes) ∙ length-append (bytesOfAll (q .down)) _
+      ∙ omega (
+        arith,
+        length-append (bytesOfAll (drop i (areasIn n s))) (drop (6 * n) s),
+        length-bytes (q .down),
+        length-bytes (drop i (areasIn n s)),
+        length-drop i (areasIn n s),
+        length-drop (6 * n) s,
+        length-areas n s,
+        q .many,
+        q .inside,
+      )
 
   pub insert-end : n ≤ i → (z : List ℕ) → z ≡ putAt b (6 * n) c → z ≡ bytesOfAll (insert a (areasIn n s)) ++ drop (6 * n + 6) s
   unfolding carry bytesOfAll
@@ -280,6 +290,7 @@ pub record Filling (s p : List ℕ) (count n i held : ℕ) (b : List ℕ) : Type
   pub all : takeAll (blocksOf p) (areasIn count s) ≡ taken final
   pub many : length areas ≡ held
   pub few : held ≤ mostAreas
+  pub long : bookBytes ≤ length s
   pub ascending : Ascending 0 areas
   pub bytes : b ≡ bytesOfAll areas ++ drop (6 * held) s
 
@@ -292,8 +303,9 @@ unfolding count-of
 taken-some (taken l) e = record { list = l; is = refl; many = refl }
 taken-some (refused r) e = absurd (mathlib.Core.Bool.false≢true e)
 
-pub fill-start : (s p : List ℕ) (count n : ℕ) → n ≡ blockCount p → Image count s → count ≤ mostAreas → isTaken (takeAll (blocksOf p) (areasIn count s)) ≡ true → Filling s p count n 0 count s
-fill-start s p count n e q h t =
+pub fill-start : (s p : List ℕ) (count n : ℕ) → n ≡ blockCount p → Image count s → count ≤ mostAreas → bookBytes ≤ length s
+    → isTaken (takeAll (blocksOf p) (areasIn count s)) ≡ true → Filling s p count n 0 count s
+fill-start s p count n e q h long t =
     let w : IsHeld (takeAll (blocksOf p) (areasIn count s)) _ = taken-some _ t in
     record {
       areas = areasIn count s;
@@ -303,15 +315,19 @@ fill-start s p count n e q h t =
       all = w .is;
       many = length-areas count s;
       few = h;
+      long = long;
       ascending = q .ascending;
       bytes = sym (take-append-drop (6 * count) s) ∙ ap (λ l. l ++ drop (6 * count) s) (q .image);
     }
 
-module _ (s p : List ℕ) (count n i held : ℕ) (b : List ℕ) (long : bookBytes ≤ length s) (q : Filling s p count n i held b) where
+module _ (s p : List ℕ) (count n i held : ℕ) (b : List ℕ) (q : Filling s p count n i held b) where
   pub fill-length : length b ≡ length s
   fill-length =
       ap length (q .bytes) ∙ length-append (bytesOfAll (q .areas)) (drop (6 * held) s)
-      ∙ omega (arith, length-bytes (q .areas), length-drop (6 * held) s, q .many, q .few)
+      ∙ omega (arith, length-bytes (q .areas), length-drop (6 * held) s, q .many, q .few, q .long)
+
+  pub fill-fits : 6 * held ≤ length b
+  fill-fits = omega (arith, fill-length, q .few, q .long)
 
   areas-are : areasIn held b ≡ q .areas
   areas-are =
@@ -343,7 +359,7 @@ module _ (s p : List ℕ) (count n i held : ℕ) (b : List ℕ) (long : bookByte
       where
         go : (m : List ℕ) → Took (blockAt p i) (q .areas) m → takeAll (blocksFrom (n - (i + 1)) (i + 1) p) m ≡ taken (q .final) → Filling s p count n (i + 1) held b
         go m (Took.held o e) r =
-            record { areas = q .areas; final = q .final; inside = omega arith; ends = r; all = q .all; many = q .many; few = q .few; ascending = q .ascending; bytes = q .bytes }
+            record { areas = q .areas; final = q .final; inside = omega arith; ends = r; all = q .all; many = q .many; few = q .few; long = q .long; ascending = q .ascending; bytes = q .bytes }
         go m (Took.new o e k) r = let w : Area y ≡ Nothing = sym z ∙ asked ∙ e in let w′ : _≡_ {A = ℕ} 0 1 = cc in absurd (omega arith)
 
     -- there is a place for a new one
@@ -353,6 +369,9 @@ module _ (s p : List ℕ) (count n i held : ℕ) (b : List ℕ) (long : bookByte
         go : (m : List ℕ) → Took (blockAt p i) (q .areas) m → held < mostAreas
         go m (Took.held o e) = let w : Nothing ≡ Area (blockAt p i) = sym z ∙ asked ∙ e in let w′ : _≡_ {A = ℕ} 0 1 = cc in absurd (omega arith)
         go m (Took.new o e k) = subst (λ k. k < mostAreas) (q .many) k
+
+    pub fill-more : v ≡ Nothing → 6 * held + 6 ≤ length b
+    fill-more z = omega (arith, fill-room z, fill-length, q .long)
 
     pub fill-new : v ≡ Nothing → x < 2 ^ 47 → (z : List ℕ) → z ≡ bytesOfAll (insert x (areasIn held b)) ++ drop (6 * held + 6) b → Filling s p count n (i + 1) (held + 1) z
     fill-new z small b′ eb = go (opened-fill .next) (opened-fill .first) (opened-fill .rest)
@@ -372,6 +391,7 @@ module _ (s p : List ℕ) (count n i held : ℕ) (b : List ℕ) (long : bookByte
               all = q .all;
               many = length-insert (blockAt p i) (q .areas) ∙ omega (arith, q .many);
               few = omega (arith, subst (λ k. k < mostAreas) (q .many) k);
+              long = q .long;
               ascending = ascending-insert (blockAt p i) (q .areas) 0 (subst (λ x. x < 2 ^ 47) ex small) (omega arith) e (q .ascending);
               bytes = eb ∙ ap₂ (λ l t. bytesOfAll l ++ t) (ap₂ insert ex areas-are) back;
             }
