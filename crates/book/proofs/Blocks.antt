@@ -11,10 +11,11 @@ use borrow.Author.Tests.{lt-ltb, le-ltb, eq-eqb, ne-eqb}
 use Rattle.answer.specs.declared.Refusal.the-variants.{AreaOff, Conflict, BookFull}
 use Rattle.bits.specs.Bits.{field, got}
 use Rattle.bits.specs.Laws.{got-there, field-lt}
+use Rattle.sizes.specs.Sizes.{mostAreas}
 use Rattle.area.specs.Area.{sf031, areaOff, numberIn, numberAt}
 use Rattle.book.specs.Book.{areasIn}
 use Rattle.book.specs.Take.{lookup}
-use Rattle.book.specs.Payload.{blockAt, blocksFrom}
+use Rattle.book.specs.Payload.{blockCount, mostBlocks, blockAt, blocksFrom}
 use Rattle.book.specs.TakeLaws.{orElse}
 use Rattle.book.specs.Judge.{judgeFound, judgeBlock}
 use Rattle.book.specs.declared.Found.{Found}
@@ -29,6 +30,35 @@ pub read-field : (s : List ℕ) (pos w r : ℕ) → r ≡ got s pos w → w ≤ 
 read-field s pos w r e h k =
     let q : r ≡ field s pos w = e ∙ got-there s pos w h k in
     (q, subst (λ r. r < 2 ^ w) (sym q) (field-lt s pos w))
+
+-- AIOU and the count of blocks, of a payload that has them
+module _ (s : List ℕ) (there : 3 ≤ length s) (r : ℕ) where
+  module _ (e : r ≡ got s 9 4) where
+    pub aiou-small : r + 1 < 256
+    aiou-small = let z = read-field s 9 4 r e (omega arith) (omega arith) in omega arith
+
+    pub aiou-fits : r + 1 < 2 ^ 64
+    aiou-fits = omega (arith, aiou-small)
+
+    pub aiou-is : (o : ℕ) → o ≡ r + 1 → o ≡ field s 9 4 + 1
+    aiou-is o q = let z = read-field s 9 4 r e (omega arith) (omega arith) in omega arith
+
+  module _ (e : r ≡ got s 14 5) where
+    pub count-fits : r + 1 < 2 ^ 64
+    count-fits = let z = read-field s 14 5 r e (omega arith) (omega arith) in omega arith
+
+    pub count-is : (o : ℕ) → o ≡ r + 1 → o ≡ blockCount s
+    count-is o q = let z = read-field s 14 5 r e (omega arith) (omega arith) in omega arith
+
+    pub count-few : (o : ℕ) → o ≡ r + 1 → o ≤ mostBlocks
+    count-few o q = let z = read-field s 14 5 r e (omega arith) (omega arith) in omega arith
+
+module _ (s : List ℕ) (i : ℕ) (there : 19 + 47 * (i + 1) ≤ 8 * length s) (r : ℕ) (e : r ≡ got s (19 + 47 * i) 47) where
+  pub block-is : r ≡ blockAt s i
+  block-is = read-field s (19 + 47 * i) 47 r e (omega arith) (omega arith) .0
+
+  pub block-small : r < 2 ^ 47
+  block-small = read-field s (19 + 47 * i) 47 r e (omega arith) (omega arith) .1
 
 -- ---- looking an ID up, among areas and among blocks
 
@@ -105,11 +135,11 @@ module _ (a n : ℕ) (f : Found) where
   pub found-other : (b : ℕ) → f ≡ Area b → (a ≡ b → ⊥) → Refused Conflict ≡ judgeFound a f n
   found-other b e q = rw (e, ne-eqb a b q)
 
-  pub found-new : f ≡ Nothing → n < 32 → Held (n + 1) ≡ judgeFound a f n
-  found-new e h = rw (e, lt-ltb n 32 h)
+  pub found-new : f ≡ Nothing → n < mostAreas → Held (n + 1) ≡ judgeFound a f n
+  found-new e h = rw (e, lt-ltb n mostAreas h)
 
-  pub found-full : f ≡ Nothing → 32 ≤ n → Refused BookFull ≡ judgeFound a f n
-  found-full e h = rw (e, le-ltb n 32 h)
+  pub found-full : f ≡ Nothing → mostAreas ≤ n → Refused BookFull ≡ judgeFound a f n
+  found-full e h = rw (e, le-ltb n mostAreas h)
 
 module _ (p l m : List ℕ) (i n x : ℕ) (ex : x ≡ blockAt p i) (b : Bool) (eb : b ≡ areaOff x) where
   pub block-off : b ≡ true → Refused AreaOff ≡ judgeBlock (blockAt p i) (orElse (lookup (sf031 (blockAt p i)) l) (lookup (sf031 (blockAt p i)) m)) n

@@ -10,6 +10,7 @@ use lib.ListN.{length}
 use borrow.Author.Tests.{lt-ltb, le-ltb, eq-eqb, ne-eqb, not-true, not-false}
 use Rattle.answer.specs.declared.Refusal.{Refusal}
 use Rattle.answer.specs.declared.Refusal.the-variants as refusal
+use Rattle.sizes.specs.Sizes.{bookBytes, longestPayload}
 use Rattle.bits.specs.Bits.{field, got}
 use Rattle.layout.specs.declared.Verdict.{Verdict}
 use Rattle.layout.specs.declared.Verdict.the-variants.{Taken, Fault}
@@ -108,41 +109,41 @@ module _ (p : List ℕ) where
   payload-none h = rw (eq-eqb (length p) 0 h)
 
   module _ (some : length p ≡ 0 → ⊥) where
-    pub payload-long : 1023 < length p → Fault refusal.Length ≡ payloadVerdict p
+    pub payload-long : longestPayload < length p → Fault refusal.Length ≡ payloadVerdict p
     unfolding payloadVerdict
-    payload-long h = rw (ne-eqb (length p) 0 some, lt-ltb 1023 (length p) h)
+    payload-long h = rw (ne-eqb (length p) 0 some, lt-ltb longestPayload (length p) h)
 
-    module _ (few : length p ≤ 1023) where
+    module _ (few : length p ≤ longestPayload) where
       pub payload-head : length p < 3 → Fault refusal.Short ≡ payloadVerdict p
       unfolding payloadVerdict verdictOf
-      payload-head h = let z : ltb (8 * length p) 19 ≡ true = lt-ltb (8 * length p) 19 (omega arith) in rw (ne-eqb (length p) 0 some, le-ltb 1023 (length p) few, z)
+      payload-head h = let z : ltb (8 * length p) 19 ≡ true = lt-ltb (8 * length p) 19 (omega arith) in rw (ne-eqb (length p) 0 some, le-ltb longestPayload (length p) few, z)
 
       pub payload-blocks : 3 ≤ length p → (n : ℕ) → n ≡ blockCount p → (r : Verdict) → r ≡ blocksVerdict n 0 p → r ≡ payloadVerdict p
       unfolding payloadVerdict verdictOf
       payload-blocks h n e r q =
           let z : ltb (8 * length p) 19 ≡ false = le-ltb (8 * length p) 19 (omega arith) in
-          rw (ne-eqb (length p) 0 some, le-ltb 1023 (length p) few, z) (q ∙ ap (λ n. blocksVerdict n 0 p) e)
+          rw (ne-eqb (length p) 0 some, le-ltb longestPayload (length p) few, z) (q ∙ ap (λ n. blocksVerdict n 0 p) e)
 
 -- ---- a GAD
 
 module _ (book : Book) (s p : List ℕ) where
   -- no room, or no sound book
-  pub take-room : length s < 192 → taking.Refused refusal.Room ≡ takenOf book s p
+  pub take-room : length s < bookBytes → taking.Refused refusal.Room ≡ takenOf book s p
   unfolding outcome
-  take-room h = rw (lt-ltb (length s) 192 h)
+  take-room h = rw (lt-ltb (length s) bookBytes h)
 
-  pub left-room : length s < 192 → s ≡ bytesAfter book s p
+  pub left-room : length s < bookBytes → s ≡ bytesAfter book s p
   unfolding outcome
-  left-room h = rw (lt-ltb (length s) 192 h)
+  left-room h = rw (lt-ltb (length s) bookBytes h)
 
-  module _ (h : 192 ≤ length s) (b : Bool) (eb : b ≡ sound book s) where
+  module _ (h : bookBytes ≤ length s) (b : Bool) (eb : b ≡ sound book s) where
     pub take-state : not b ≡ true → taking.Refused refusal.State ≡ takenOf book s p
     unfolding outcome
-    take-state k = let y : sound book s ≡ false = sym eb ∙ not-true b k in rw (le-ltb (length s) 192 h, y)
+    take-state k = let y : sound book s ≡ false = sym eb ∙ not-true b k in rw (le-ltb (length s) bookBytes h, y)
 
     pub left-state : not b ≡ true → s ≡ bytesAfter book s p
     unfolding outcome
-    left-state k = let y : sound book s ≡ false = sym eb ∙ not-true b k in rw (le-ltb (length s) 192 h, y)
+    left-state k = let y : sound book s ≡ false = sym eb ∙ not-true b k in rw (le-ltb (length s) bookBytes h, y)
 
     module _ (k : not b ≡ false) where
       pub take-sound : sound book s ≡ true

@@ -2,12 +2,13 @@
 use mathlib.Core.Path.{_≡_, refl, ap, ap₂, sym, _∙_, subst}
 use mathlib.Core.Bool.{Bool, true, false, cond, not, _&&_, Bool·beq}
 use mathlib.Core.List.{List, []}
-use Prim.Native.Nat.{ℕ, zero, suc, _+_, _-_, _*_, _/_, _%_, _≤_, _<_}
+use Prim.Native.Nat.{ℕ, zero, suc, _+_, _-_, _*_, _/_, _%_, _^_, _≤_, _<_}
 use native.Mathlib.Omega.{arith}
 use lib.Dec.{leb, ltb, eqb}
 use lib.ListN.{length, getD, take, drop}
 use lib.Seq.{drop-drop, getD-drop}
 use borrow.Author.Tests.{lt-ltb, le-ltb, le-leb, lt-leb, eq-eqb, ne-eqb, not-true, not-false}
+use Rattle.sizes.specs.Sizes.{mostAreas, bookBytes}
 use Rattle.area.specs.Area.{sf031, isArea, numberIn, numberAt}
 use Rattle.area.specs.declared.AreaId.{AreaId}
 use Rattle.book.specs.Book.{areaIn, headSound, areasSound, sound, placeOf, isHeld, found, foundAt}
@@ -23,9 +24,9 @@ module _ (book : Book) where
   unfolding headSound
   head-none e = rw e (go (eqb (book .count) 0) refl)
     where
-      go : (b : Bool) → eqb (book .count) 0 ≡ b → b ≡ (Bool·beq true b && (true && leb (book .count) 32))
+      go : (b : Bool) → eqb (book .count) 0 ≡ b → b ≡ (Bool·beq true b && (true && leb (book .count) mostAreas))
       go false z = refl
-      go true z = sym (le-leb (book .count) 32 (omega (arith, borrow.Author.Tests.eqb-true (book .count) 0 z)))
+      go true z = sym (le-leb (book .count) mostAreas (omega (arith, borrow.Author.Tests.eqb-true (book .count) 0 z)))
 
   module _ (some : book .«aiou_plus_one» ≡ 0 → ⊥) where
     pub head-bare : book .count ≡ 0 → false ≡ headSound book
@@ -37,12 +38,17 @@ module _ (book : Book) where
       unfolding headSound
       head-over k = rw (ne-eqb _ _ some, ne-eqb _ _ h, lt-leb _ _ k)
 
-      pub head-rest : book .«aiou_plus_one» ≤ 16 → leb (book .count) 32 ≡ headSound book
+      pub head-rest : book .«aiou_plus_one» ≤ 16 → leb (book .count) mostAreas ≡ headSound book
       unfolding headSound
       head-rest k = rw (ne-eqb _ _ some, ne-eqb _ _ h, le-leb _ _ k)
 
-pub head-count : (book : Book) (b : Bool) → b ≡ headSound book → not b ≡ false → book .count ≤ 32
-head-count book b e k = head-parts book (sym e ∙ not-false b k) .1
+-- with a sound head, the areas lie inside the bytes, and there are no more than IDs
+module _ (book : Book) (b : Bool) (e : b ≡ headSound book) (k : not b ≡ false) where
+  pub head-few : book .count ≤ 256
+  head-few = omega (arith, head-parts book (sym e ∙ not-false b k) .1)
+
+  pub head-fits : (s : List ℕ) → bookBytes ≤ length s → 6 * book .count ≤ length s
+  head-fits s h = omega (arith, head-parts book (sym e ∙ not-false b k) .1)
 
 -- ---- the areas, one after the other
 
@@ -105,22 +111,22 @@ module _ (s : List ℕ) (n i least x d w : ℕ) (p : Judging s n i least) (h : i
 -- ---- the whole book
 
 module _ (book : Book) (s : List ℕ) where
-  pub sound-short : length s < 192 → false ≡ sound book s
+  pub sound-short : length s < bookBytes → false ≡ sound book s
   unfolding sound
-  sound-short h = rw (lt-leb 192 (length s) h)
+  sound-short h = rw (lt-leb bookBytes (length s) h)
 
-  module _ (h : 192 ≤ length s) (b : Bool) (e : b ≡ headSound book) where
+  module _ (h : bookBytes ≤ length s) (b : Bool) (e : b ≡ headSound book) where
     pub sound-bare : not b ≡ true → false ≡ sound book s
     unfolding sound
-    sound-bare k = let z : headSound book ≡ false = sym e ∙ not-true b k in rw (le-leb 192 (length s) h, z)
+    sound-bare k = let z : headSound book ≡ false = sym e ∙ not-true b k in rw (le-leb bookBytes (length s) h, z)
 
     pub sound-rest : not b ≡ false → (r : Bool) → r ≡ areasSound (book .count) 0 s → r ≡ sound book s
     unfolding sound
-    sound-rest k r f = let z : headSound book ≡ true = sym e ∙ not-false b k in rw (le-leb 192 (length s) h, z) f
+    sound-rest k r f = let z : headSound book ≡ true = sym e ∙ not-false b k in rw (le-leb bookBytes (length s) h, z) f
 
 -- what a sound book has
 module _ (book : Book) (s : List ℕ) (e : sound book s ≡ true) where
-  pub sound-count : book .count ≤ 32
+  pub sound-count : book .count ≤ mostAreas
   sound-count = head-parts book (sound-head book s e) .1
 
   pub sound-aiou : book .«aiou_plus_one» ≤ 16
@@ -162,11 +168,22 @@ module _ (s : List ℕ) (id : ℕ) where
 -- ---- finding
 
 module _ (book : Book) (s : List ℕ) (b : Bool) (e : b ≡ sound book s) (k : not b ≡ false) where
-  pub find-count : book .count ≤ 32
+  pub find-count : book .count ≤ mostAreas
   find-count = sound-count book s (sym e ∙ not-false b k)
 
   pub find-fits : 6 * book .count ≤ length s
-  find-fits = let m : 192 ≤ length s = sound-room book s (sym e ∙ not-false b k) in omega (arith, find-count)
+  find-fits = let m : bookBytes ≤ length s = sound-room book s (sym e ∙ not-false b k) in omega (arith, find-count)
+
+  -- the part of the i-th area
+  module _ (i : ℕ) (h : i < book .count) where
+    pub find-at : 6 * i < 2 ^ 64
+    find-at = omega (arith, find-count)
+
+    pub find-end : 6 * i + 6 < 2 ^ 64
+    find-end = omega (arith, find-count)
+
+    pub find-inside : 6 * i + 6 ≤ length s
+    find-inside = omega (arith, find-fits)
 
 module _ (book : Book) (s : List ℕ) (id : AreaId) where
   none : isHeld book s id ≡ false → [] ≡ found book s id

@@ -10,10 +10,12 @@ use lib.ListN.{length, getD, take, drop, length-append, length-drop, take-append
 use lib.Seq.{drop-cons, drop-drop, drop-at, take-at}
 use borrow.Author.Tests.{lt-ltb, le-ltb, le-leb, eq-eqb, ne-eqb}
 use Rattle.answer.specs.declared.Refusal.{Refusal}
-use Rattle.bits.specs.Bits.{Bytes}
+use mir.Syntax.{w8}
+use mir.Val.{Fits}
+use Rattle.sizes.specs.Sizes.{mostAreas, bookBytes}
 use Rattle.area.specs.Area.{sf031, bytesOf, numberIn, numberAt, putAt}
 use Rattle.area.specs.Laws.{number-bytes, half-number}
-use Rattle.book.specs.Book.{areasIn, bytesOfAll, sound}
+use Rattle.book.specs.Book.{bookOf, areasIn, bytesOfAll, sound}
 use Rattle.book.specs.Laws.{Ascending, length-areas, length-bytes, bytes-join, areas-bytes, small-at}
 use Rattle.book.specs.Payload.{aiouOf, blockCount, blockAt, blocksFrom, blocksOf, takeBits}
 use Rattle.book.specs.Take.{lookup, insert, Outcome, taken, refused, andThen, takeBlock, takeAll, before, answerOf, leftBy}
@@ -186,10 +188,20 @@ insert-start s n a p h =
     }
 
 module _ (s : List ℕ) (n a i c : ℕ) (b : List ℕ) (p : Image n s) (fits : 6 * n + 6 ≤ length s) (q : Inserting s n a i c b) where
-  pub insert-length : length b ≡ length s
-  insert-length =
-      ap length (q .bytes) ∙ length-append (bytesOfAll (q .down)) _
-      ∙ omega (arith, length-append (bytesOfAll (drop i (areasIn n s))) (drop (6 * n) s), length-bytes (q .down), length-bytes (drop i (areasIn n s)), length-drop i (areasIn n s), length-drop (6 * n) s, length-areas n s, q .many, q .inside)
+  pub insert-length : (z : List ℕ) → length z ≡ length b → length z ≡ length s
+  insert-length z e =
+      e ∙ ap length (q .bytes) ∙ length-append (bytesOfAll (q .down)) _
+      ∙ omega (
+        arith,
+        length-append (bytesOfAll (drop i (areasIn n s))) (drop (6 * n) s),
+        length-bytes (q .down),
+        length-bytes (drop i (areasIn n s)),
+        length-drop i (areasIn n s),
+        length-drop (6 * n) s,
+        length-areas n s,
+        q .many,
+        q .inside,
+      )
 
   pub insert-end : n ≤ i → (z : List ℕ) → z ≡ putAt b (6 * n) c → z ≡ bytesOfAll (insert a (areasIn n s)) ++ drop (6 * n + 6) s
   unfolding carry bytesOfAll
@@ -277,7 +289,8 @@ pub record Filling (s p : List ℕ) (count n i held : ℕ) (b : List ℕ) : Type
   pub ends : takeAll (blocksFrom (n - i) i p) areas ≡ taken final
   pub all : takeAll (blocksOf p) (areasIn count s) ≡ taken final
   pub many : length areas ≡ held
-  pub few : held ≤ 32
+  pub few : held ≤ mostAreas
+  pub long : bookBytes ≤ length s
   pub ascending : Ascending 0 areas
   pub bytes : b ≡ bytesOfAll areas ++ drop (6 * held) s
 
@@ -290,8 +303,9 @@ unfolding count-of
 taken-some (taken l) e = record { list = l; is = refl; many = refl }
 taken-some (refused r) e = absurd (mathlib.Core.Bool.false≢true e)
 
-pub fill-start : (s p : List ℕ) (count n : ℕ) → n ≡ blockCount p → Image count s → count ≤ 32 → isTaken (takeAll (blocksOf p) (areasIn count s)) ≡ true → Filling s p count n 0 count s
-fill-start s p count n e q h t =
+pub fill-start : (s p : List ℕ) (count n : ℕ) → n ≡ blockCount p → Image count s → count ≤ mostAreas → bookBytes ≤ length s
+    → isTaken (takeAll (blocksOf p) (areasIn count s)) ≡ true → Filling s p count n 0 count s
+fill-start s p count n e q h long t =
     let w : IsHeld (takeAll (blocksOf p) (areasIn count s)) _ = taken-some _ t in
     record {
       areas = areasIn count s;
@@ -301,15 +315,19 @@ fill-start s p count n e q h t =
       all = w .is;
       many = length-areas count s;
       few = h;
+      long = long;
       ascending = q .ascending;
       bytes = sym (take-append-drop (6 * count) s) ∙ ap (λ l. l ++ drop (6 * count) s) (q .image);
     }
 
-module _ (s p : List ℕ) (count n i held : ℕ) (b : List ℕ) (long : 192 ≤ length s) (q : Filling s p count n i held b) where
+module _ (s p : List ℕ) (count n i held : ℕ) (b : List ℕ) (q : Filling s p count n i held b) where
   pub fill-length : length b ≡ length s
   fill-length =
       ap length (q .bytes) ∙ length-append (bytesOfAll (q .areas)) (drop (6 * held) s)
-      ∙ omega (arith, length-bytes (q .areas), length-drop (6 * held) s, q .many, q .few)
+      ∙ omega (arith, length-bytes (q .areas), length-drop (6 * held) s, q .many, q .few, q .long)
+
+  pub fill-fits : 6 * held ≤ length b
+  fill-fits = omega (arith, fill-length, q .few, q .long)
 
   areas-are : areasIn held b ≡ q .areas
   areas-are =
@@ -341,16 +359,19 @@ module _ (s p : List ℕ) (count n i held : ℕ) (b : List ℕ) (long : 192 ≤ 
       where
         go : (m : List ℕ) → Took (blockAt p i) (q .areas) m → takeAll (blocksFrom (n - (i + 1)) (i + 1) p) m ≡ taken (q .final) → Filling s p count n (i + 1) held b
         go m (Took.held o e) r =
-            record { areas = q .areas; final = q .final; inside = omega arith; ends = r; all = q .all; many = q .many; few = q .few; ascending = q .ascending; bytes = q .bytes }
+            record { areas = q .areas; final = q .final; inside = omega arith; ends = r; all = q .all; many = q .many; few = q .few; long = q .long; ascending = q .ascending; bytes = q .bytes }
         go m (Took.new o e k) r = let w : Area y ≡ Nothing = sym z ∙ asked ∙ e in let w′ : _≡_ {A = ℕ} 0 1 = cc in absurd (omega arith)
 
     -- there is a place for a new one
-    pub fill-room : v ≡ Nothing → held < 32
+    pub fill-room : v ≡ Nothing → held < mostAreas
     fill-room z = go (opened-fill .next) (opened-fill .first)
       where
-        go : (m : List ℕ) → Took (blockAt p i) (q .areas) m → held < 32
+        go : (m : List ℕ) → Took (blockAt p i) (q .areas) m → held < mostAreas
         go m (Took.held o e) = let w : Nothing ≡ Area (blockAt p i) = sym z ∙ asked ∙ e in let w′ : _≡_ {A = ℕ} 0 1 = cc in absurd (omega arith)
-        go m (Took.new o e k) = subst (λ k. k < 32) (q .many) k
+        go m (Took.new o e k) = subst (λ k. k < mostAreas) (q .many) k
+
+    pub fill-more : v ≡ Nothing → 6 * held + 6 ≤ length b
+    fill-more z = omega (arith, fill-room z, fill-length, q .long)
 
     pub fill-new : v ≡ Nothing → x < 2 ^ 47 → (z : List ℕ) → z ≡ bytesOfAll (insert x (areasIn held b)) ++ drop (6 * held + 6) b → Filling s p count n (i + 1) (held + 1) z
     fill-new z small b′ eb = go (opened-fill .next) (opened-fill .first) (opened-fill .rest)
@@ -369,7 +390,8 @@ module _ (s p : List ℕ) (count n i held : ℕ) (b : List ℕ) (long : 192 ≤ 
               ends = r;
               all = q .all;
               many = length-insert (blockAt p i) (q .areas) ∙ omega (arith, q .many);
-              few = omega (arith, subst (λ k. k < 32) (q .many) k);
+              few = omega (arith, subst (λ k. k < mostAreas) (q .many) k);
+              long = q .long;
               ascending = ascending-insert (blockAt p i) (q .areas) 0 (subst (λ x. x < 2 ^ 47) ex small) (omega arith) e (q .ascending);
               bytes = eb ∙ ap₂ (λ l t. bytesOfAll l ++ t) (ap₂ insert ex areas-are) back;
             }
@@ -395,22 +417,22 @@ module _ (book : Book) (s p : List ℕ) (w : sound book s ≡ true) (aiou n : �
   outcome-is : takeBits book s p ≡ takeAll (blocksOf p) (areasIn n s)
   outcome-is = ap (takeAll (blocksOf p)) (sym areas-before)
 
-  pub count-few : n ≤ 32
-  count-few = subst (λ n. n ≤ 32) (sym en) (go (eqb (book .«aiou_plus_one») aiou))
+  pub count-few : n ≤ mostAreas
+  count-few = subst (λ n. n ≤ mostAreas) (sym en) (go (eqb (book .«aiou_plus_one») aiou))
     where
-      go : (t : Bool) → cond t (book .count) 0 ≤ 32
+      go : (t : Bool) → cond t (book .count) 0 ≤ mostAreas
       go true = sound-count book s w
       go false = omega arith
 
-  pub count-fits : 192 ≤ length s → 6 * n ≤ length s
+  pub count-fits : bookBytes ≤ length s → 6 * n ≤ length s
   count-fits h = omega (arith, count-few)
 
-  pub count-image : Bytes s → Image n s
+  pub count-image : ((i : ℕ) → Fits w8 (getD s i 0)) → Image n s
   unfolding areasIn bytesOfAll
-  count-image y = subst (λ n. Image n s) (sym en) (go (eqb (book .«aiou_plus_one») aiou))
+  count-image known = subst (λ n. Image n s) (sym en) (go (eqb (book .«aiou_plus_one») aiou))
     where
       go : (t : Bool) → Image (cond t (book .count) 0) s
-      go true = sound-image book s w y
+      go true = sound-image book s w (record { byte = λ i. known i .fits })
       go false = record { ascending = Ascending.none; image = refl }
 
   module _ (v : Judged) (ev : v ≡ judgedBy (takeAll (blocksOf p) (areasIn n s))) where
@@ -426,10 +448,11 @@ module _ (book : Book) (s p : List ℕ) (w : sound book s ≡ true) (aiou n : �
     pub is-taken : (m : ℕ) → v ≡ Held m → isTaken (takeAll (blocksOf p) (areasIn n s)) ≡ true
     is-taken m q = ap isTaken (is-held (takeAll (blocksOf p) (areasIn n s)) m (sym q ∙ ev) .is)
 
-    pub take-held : (m : ℕ) → v ≡ Held m → Taken.Holds (record { «aiou_plus_one» = aiou; count = m }) ≡ answerOf (takeBits book s p) (aiouOf p)
-    take-held m q =
+    pub take-held : (m : ℕ) → v ≡ Held m → (r : Book) → r ≡ bookOf aiou m
+        → Taken.Holds r ≡ answerOf (takeBits book s p) (aiouOf p)
+    take-held m q r er =
         let w : IsHeld (takeAll (blocksOf p) (areasIn n s)) m = is-held _ m (sym q ∙ ev) in
-        ap₂ (λ a m. Taken.Holds (record { «aiou_plus_one» = a; count = m })) ea (sym (w .many)) ∙ ap (λ o. answerOf o (aiouOf p)) (sym (w .is) ∙ sym outcome-is)
+        ap Taken.Holds er ∙ ap₂ (λ a m. Taken.Holds (bookOf a m)) ea (sym (w .many)) ∙ ap (λ o. answerOf o (aiouOf p)) (sym (w .is) ∙ sym outcome-is)
 
   pub left-held : (z : List ℕ) → z ≡ leftBy (takeAll (blocksOf p) (areasIn n s)) s → z ≡ leftBy (takeBits book s p) s
   left-held z ez = ez ∙ ap (λ o. leftBy o s) (sym outcome-is)

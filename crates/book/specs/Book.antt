@@ -4,16 +4,17 @@ use mathlib.Core.List.{List, [], _∷_, _++_}
 use Prim.Native.Nat.{ℕ, zero, suc, _*_, _/_, _%_}
 use lib.Dec.{leb, ltb, eqb}
 use lib.ListN.{length, getD, take, drop}
+use Rattle.sizes.specs.Sizes as sizes
 use Rattle.area.specs.Area.{sf031, isArea, bytesOf, numberIn}
 use Rattle.area.specs.declared.AreaId.{AreaId}
 use Rattle.book.specs.declared.Book.{Book}
 
--- "The book holds one AIOU and up to 32 areas, ascending by ID, six bytes each: the 47 bits of the GAD block and a zero bit, 192 bytes."
+-- for crates that have not moved yet
 abbrev pub mostAreas : ℕ
-mostAreas = 32
+mostAreas = sizes.mostAreas
 
 abbrev pub bookBytes : ℕ
-bookBytes = 6 * mostAreas
+bookBytes = sizes.bookBytes
 
 -- A book says AIOU + 1, and 0 where it has none; a book without areas says 0 and 0.
 abbrev pub bookOf : (aiou-plus-one count : ℕ) → Book
@@ -22,7 +23,7 @@ bookOf aiou-plus-one count = record { «aiou_plus_one» = aiou-plus-one; count =
 abbrev pub noBook : Book
 noBook = bookOf 0 0
 
--- the area that the first six bytes hold, and the areas that the first n times six bytes hold
+-- ".. ascending by ID, six bytes each: the 47 bits of the GAD block and a zero bit": the area that the first six bytes hold, and the areas that the first n times six bytes hold
 abbrev pub areaIn : List ℕ → ℕ
 areaIn s = numberIn s / 2
 
@@ -37,7 +38,7 @@ bytesOfAll (a ∷ l) = bytesOf a ++ bytesOfAll l
 
 -- "A book has an AIOU exactly when it has an area, at most 32, .." AIOU is 0 to 15. A book says AIOU + 1, and 0 where it has none.
 unfoldable pub headSound : Book → Bool
-headSound book = Bool·beq (eqb (book .«aiou_plus_one») 0) (eqb (book .count) 0) && (leb (book .«aiou_plus_one») 16 && leb (book .count) mostAreas)
+headSound book = Bool·beq (eqb (book .«aiou_plus_one») 0) (eqb (book .count) 0) && (leb (book .«aiou_plus_one») 16 && leb (book .count) sizes.mostAreas)
 
 -- ".. ascending, each with fields in range, the last bit zero and no AREA_OFF": n areas whose IDs are `least` and more
 unfoldable pub areasSound : ℕ → ℕ → List ℕ → Bool
@@ -45,9 +46,9 @@ areasSound zero least s = true
 areasSound (suc n) least s =
     eqb (numberIn s % 2) 0 && (leb least (sf031 (areaIn s)) && (isArea (areaIn s) && areasSound n (suc (sf031 (areaIn s))) (drop 6 s)))
 
--- "bytes past them do not count". Fewer than 192 bytes hold no sound book.
+-- "bytes past them do not count". Fewer bytes than those of a book hold no sound one.
 unfoldable pub sound : Book → List ℕ → Bool
-sound book s = leb bookBytes (length s) && (headSound book && areasSound (book .count) 0 s)
+sound book s = leb sizes.bookBytes (length s) && (headSound book && areasSound (book .count) 0 s)
 
 -- how many of n areas come before the first with this ID: n where none has it
 unfoldable pub placeOf : ℕ → ℕ → List ℕ → ℕ

@@ -1,47 +1,43 @@
 -- Computed and proved: the one-area GAD of measured case 6 and a book without areas.
 use mathlib.Core.Path.{_≡_, refl}
-use mathlib.Core.List.{List, [], _∷_, replicate}
+use mathlib.Core.List.{List, [], _∷_}
 use Prim.Native.Nat.{ℕ}
-use lib.ListN.{take}
+use lib.ListN.{take, replicate}
 use Rattle.answer.specs.declared.Refusal.the-variants as refusal
 use Rattle.bits.specs.Bits.{bitsOf, toBits, number}
 use Rattle.layout.specs.Layout.{judge, readL}
 use Rattle.area.specs.Area.{areaOff, isArea}
-use Rattle.book.specs.Book.{areasIn, bytesOfAll, headSound, areasSound, sound, placeOf, found}
+use Rattle.sizes.specs.Sizes.{bookBytes}
+use Rattle.book.specs.Book.{bookOf, noBook, areasIn, bytesOfAll, headSound, areasSound, sound, placeOf, found}
 use Rattle.book.specs.Take.{gadOf, lookup, insert, takeBlock, takeAll, before, outcome, takenOf, bytesAfter}
-use Rattle.book.specs.declared.Book.{Book}
 use Rattle.book.specs.declared.Taken.the-variants.{Holds, Refused}
 
-abbrev empty : Book
-empty = record { «aiou_plus_one» = 0; count = 0 }
-
--- 192 bytes
 abbrev lent : List ℕ
-lent = replicate 192 0
+lent = replicate bookBytes 0
 
 -- AIOU 3 and area 7, with a latitude of 1234
 abbrev oneArea : List ℕ
 oneArea = 2 ∷ 152 ∷ 0 ∷ 243 ∷ 73 ∷ 244 ∷ 28 ∷ 74 ∷ 64 ∷ []
 
-pub one-taken : takenOf empty lent oneArea ≡ Holds (record { «aiou_plus_one» = 4; count = 1 })
+pub one-taken : takenOf noBook lent oneArea ≡ Holds (bookOf 4 1)
 unfolding outcome gadOf readL judge toBits bitsOf number sound headSound areasSound before areasIn takeAll takeBlock areaOff lookup insert
 one-taken = refl
 
 -- its six bytes lie first, and what is behind them is as lent
-pub one-left : take 8 (bytesAfter empty lent oneArea) ≡ 7 ∷ 154 ∷ 79 ∷ 160 ∷ 226 ∷ 82 ∷ 0 ∷ 0 ∷ []
+pub one-left : take 8 (bytesAfter noBook lent oneArea) ≡ 7 ∷ 154 ∷ 79 ∷ 160 ∷ 226 ∷ 82 ∷ 0 ∷ 0 ∷ []
 unfolding outcome gadOf readL judge toBits bitsOf number sound headSound areasSound before areasIn takeAll takeBlock areaOff lookup insert bytesOfAll
 one-left = refl
 
-pub one-found : found (record { «aiou_plus_one» = 4; count = 1 }) (bytesAfter empty lent oneArea) (record { 0 = 7 }) ≡ 7 ∷ 154 ∷ 79 ∷ 160 ∷ 226 ∷ 82 ∷ []
+pub one-found : found (bookOf 4 1) (bytesAfter noBook lent oneArea) (record { 0 = 7 }) ≡ 7 ∷ 154 ∷ 79 ∷ 160 ∷ 226 ∷ 82 ∷ []
 unfolding found placeOf isArea outcome gadOf readL judge toBits bitsOf number sound headSound areasSound before areasIn takeAll takeBlock areaOff lookup insert bytesOfAll
 one-found = refl
 
 -- the first fault in reading order: a latitude of 1801 is FIELD, though the payload ends before its block does
-pub range-first : takenOf empty lent (2 ∷ 152 ∷ 0 ∷ 252 ∷ 37 ∷ []) ≡ Refused refusal.Field
+pub range-first : takenOf noBook lent (2 ∷ 152 ∷ 0 ∷ 252 ∷ 37 ∷ []) ≡ Refused refusal.Field
 unfolding outcome gadOf readL judge toBits bitsOf number sound headSound areasSound
 range-first = refl
 
 -- another definition of area 7 in the same GAD is CONFLICT
-pub other-definition : takenOf empty lent (2 ∷ 152 ∷ 32 ∷ 243 ∷ 73 ∷ 244 ∷ 28 ∷ 74 ∷ 65 ∷ 230 ∷ 155 ∷ 232 ∷ 56 ∷ 148 ∷ 128 ∷ []) ≡ Refused refusal.Conflict
+pub other-definition : takenOf noBook lent (2 ∷ 152 ∷ 32 ∷ 243 ∷ 73 ∷ 244 ∷ 28 ∷ 74 ∷ 65 ∷ 230 ∷ 155 ∷ 232 ∷ 56 ∷ 148 ∷ 128 ∷ []) ≡ Refused refusal.Conflict
 unfolding outcome gadOf readL judge toBits bitsOf number sound headSound areasSound before areasIn takeAll takeBlock areaOff lookup insert
 other-definition = refl

@@ -8,7 +8,8 @@ use lib.Dec.{ltb, eqb}
 use lib.ListN.{length, take}
 use Rattle.answer.specs.declared.Refusal.the-variants.{AreaOff, Conflict, BookFull}
 use Rattle.area.specs.Area.{sf031, areaOff}
-use Rattle.book.specs.Book.{mostAreas, areasIn, bytesOfAll}
+use Rattle.sizes.specs.Sizes.{mostAreas}
+use Rattle.book.specs.Book.{areasIn, bytesOfAll}
 use Rattle.book.specs.Laws.{Ascending}
 use Rattle.book.specs.Take.{lookup, insert, Outcome, taken, refused, stop, placed, takeBlock}
 use Rattle.book.specs.TakeLaws.{length-insert}

@@ -12,7 +12,8 @@ use Rattle.bits.specs.Bits.{Bytes}
 use Rattle.bits.specs.Laws.{bytes-drop, bytes-append, bytes-none}
 use Rattle.area.specs.Area.{sf031, isArea, bytesOf, numberIn}
 use Rattle.area.specs.Laws.{bytes-area, number-bytes, bytes-number, area-lt, half-number, both-left, both-right}
-use Rattle.book.specs.Book.{mostAreas, bookBytes, areaIn, areasIn, bytesOfAll, headSound, areasSound, sound}
+use Rattle.sizes.specs.Sizes.{mostAreas, bookBytes}
+use Rattle.book.specs.Book.{areaIn, areasIn, bytesOfAll, headSound, areasSound, sound}
 use Rattle.book.specs.declared.Book.{Book}
 
 -- ---- areas in a row

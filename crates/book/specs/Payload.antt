@@ -21,7 +21,8 @@ use Rattle.layout.specs.Layout.{Layout, done, field, pick, judge, enough, judge
 use Rattle.layout.specs.Layout as layout
 use Rattle.layout.specs.Parts.{upTo, free, times}
 use Rattle.gad.specs.Gad.{Block, Gad, block}
-use Rattle.book.specs.Take.{gadOf, reading, mostPayload, Outcome, takeAll, before}
+use Rattle.sizes.specs.Sizes.{longestPayload}
+use Rattle.book.specs.Take.{gadOf, reading, Outcome, takeAll, before}
 use Rattle.book.specs.declared.Book.{Book}
 
 -- 9 bits of SIOU, SF068 AIOU 4 bits, a reserved bit, SF030 5 bits, which means code plus one, and so many blocks of 47 bits
@@ -30,6 +31,10 @@ aiouOf payload = bits.field payload 9 4
 
 abbrev pub blockCount : List ℕ → ℕ
 blockCount payload = bits.field payload 14 5 + 1
+
+-- what those 5 bits can count: a fact of the layout, whatever a book can hold
+abbrev pub mostBlocks : ℕ
+mostBlocks = 2 ^ 5
 
 abbrev pub blockAt : List ℕ → ℕ → ℕ
 blockAt payload i = bits.field payload (19 + 47 * i) 47
@@ -72,7 +77,7 @@ verdictOf payload = faults (endsBefore payload 19) refusal.Short (blocksVerdict 
 
 -- LENGTH comes before
 unfoldable pub payloadVerdict : List ℕ → Verdict
-payloadVerdict payload = faults (eqb (length payload) 0) refusal.Length (faults (ltb mostPayload (length payload)) refusal.Length (verdictOf payload))
+payloadVerdict payload = faults (eqb (length payload) 0) refusal.Length (faults (ltb longestPayload (length payload)) refusal.Length (verdictOf payload))
 
 -- what is there, field by field
 abbrev pub codesAt : List ℕ → ℕ → Block

@@ -16,7 +16,8 @@ use Rattle.layout.specs.declared.Verdict.the-variants.{Taken, Fault}
 use Rattle.layout.specs.Layout.{accepted, refused}
 use Rattle.gad.specs.Gad.{Gad}
 use Rattle.area.specs.Area.{sf032, sf033, inRange}
-use Rattle.book.specs.Take.{gadOf, reading, areaOf, areasOf, mostPayload}
+use Rattle.book.specs.Take.{gadOf, reading, areaOf, areasOf}
+use Rattle.sizes.specs.Sizes.{longestPayload}
 use Rattle.book.specs.TakeLaws.{InRange}
 use Rattle.book.specs.Payload.{aiouOf, blockCount, blocksFrom, blocksOf, faults, endsBefore, blockVerdict, unlessFault, blocksVerdict, verdictOf, payloadVerdict, codesAt, codesFrom, gadAt, byVerdict, gad-reads}
 
@@ -165,5 +166,5 @@ as-refused payload why e = sym (ap (λ o. reading o (λ _. Taken) (λ w. Fault w
 pub payload-reads : (payload : List ℕ) → payloadVerdict payload ≡ Taken → verdictOf payload ≡ Taken
 unfolding payloadVerdict
 payload-reads payload e =
-    no-fault (ltb mostPayload (length payload)) refusal.Length (verdictOf payload)
-    (no-fault (eqb (length payload) 0) refusal.Length (faults (ltb mostPayload (length payload)) refusal.Length (verdictOf payload)) e .1) .1
+    no-fault (ltb longestPayload (length payload)) refusal.Length (verdictOf payload)
+    (no-fault (eqb (length payload) 0) refusal.Length (faults (ltb longestPayload (length payload)) refusal.Length (verdictOf payload)) e .1) .1

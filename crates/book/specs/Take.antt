@@ -12,7 +12,8 @@ use Rattle.layout.specs.Layout.{done, readL}
 use Rattle.layout.specs.Layout as layout
 use Rattle.gad.specs.Gad.{Block, Gad, gad}
 use Rattle.area.specs.Area.{sf031, areaOff}
-use Rattle.book.specs.Book.{mostAreas, bookBytes, areasIn, bytesOfAll, sound}
+use Rattle.sizes.specs.Sizes.{mostAreas, bookBytes, longestPayload}
+use Rattle.book.specs.Book.{bookOf, areasIn, bytesOfAll, sound}
 use Rattle.book.specs.declared.Book.{Book}
 use Rattle.book.specs.declared.Found.{Found}
 use Rattle.book.specs.declared.Found.the-variants.{Area, Nothing}
@@ -78,22 +79,18 @@ takeAll (a ∷ blocks) l = andThen (takeBlock a l) (λ l. takeAll blocks l)
 unfoldable pub before : Book → List ℕ → ℕ → List ℕ
 before book s aiou = cond (eqb (book .«aiou_plus_one») (aiou + 1)) (areasIn (book .count) s) []
 
--- LENGTH: "payload of 0 or over 1,023 bytes"
-abbrev pub mostPayload : ℕ
-mostPayload = 1023
-
 -- "Order: ROOM, STATE, .. payload refusals, .. for GAD the book's refusals"
 unfoldable pub outcome : Book → List ℕ → List ℕ → Outcome
 outcome book s payload =
     stop (ltb (length s) bookBytes) Room
     (stop (not (sound book s)) State
     (stop (eqb (length payload) 0) Length
-    (stop (ltb mostPayload (length payload)) Length
+    (stop (ltb longestPayload (length payload)) Length
     (reading (gadOf payload) (λ m. takeAll (areasOf (m .blocks)) (before book s (m .aiou))) (λ why. refused why)))))
 
 -- what `take` answers, and what it leaves of the lent bytes: "only bytes of areas held are written", and a refusal changes nothing
 abbrev pub answerOf : Outcome → ℕ → Taken
-answerOf (taken l) aiou = Holds (record { «aiou_plus_one» = aiou + 1; count = length l })
+answerOf (taken l) aiou = Holds (bookOf (aiou + 1) (length l))
 answerOf (refused r) aiou = Refused r
 
 abbrev pub leftBy : Outcome → List ℕ → List ℕ

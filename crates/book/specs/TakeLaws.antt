@@ -9,7 +9,7 @@ use lib.ListN.{length, getD}
 use borrow.Author.Tests.{lt-ltb, ltb-true, ltb-false, eq-eqb, eqb-true, eqb-false}
 use Rattle.answer.specs.declared.Refusal.the-variants.{AreaOff, Conflict, BookFull}
 use Rattle.area.specs.Area.{sf031, inRange, areaOff, isArea}
-use Rattle.book.specs.Book.{mostAreas}
+use Rattle.sizes.specs.Sizes.{mostAreas}
 use Rattle.book.specs.Take.{lookup, insert, Outcome, taken, refused, stop, placed, takeBlock, andThen, takeAll}
 use Rattle.book.specs.Laws.{Ascending, Areas}
 use Rattle.book.specs.declared.Found.{Found}
@@ -203,7 +203,7 @@ holds-each zero (a ∷ rest) l n (TookAll.more {m = m} t ts) h =
     lookup-after (sf031 a) rest m n ts ∙ ap (λ f. orElse f (lookup (sf031 a) rest)) (holds-own a l m t)
 holds-each (suc i) (a ∷ rest) l n (TookAll.more {m = m} t ts) h = holds-each i rest m n ts (omega arith)
 
--- ascending, at most 32, each an area of a sound book
+-- ascending, at most as many as a book holds, each an area of a sound book
 pub record Good (l : List ℕ) : Type 0 where
   pub ascending : Ascending 0 l
   pub few : length l ≤ mostAreas

@@ -15,9 +15,10 @@ use Rattle.layout.specs.declared.Verdict.{Verdict}
 use Rattle.layout.specs.declared.Verdict.the-variants as verdict
 use Rattle.layout.specs.Layout as layout
 use Rattle.gad.specs.Gad.{Gad}
-use Rattle.book.specs.Book.{bookBytes, areasIn, bytesOfAll, headSound, sound}
+use Rattle.sizes.specs.Sizes.{mostAreas, bookBytes, longestPayload}
+use Rattle.book.specs.Book.{bookOf, areasIn, bytesOfAll, headSound, sound}
 use Rattle.book.specs.Laws.{Ascending, Areas, length-areas, head-parts, sound-head, sound-room, sound-areas, sound-ascending, sound-each, length-bytes, sound-bytes}
-use Rattle.book.specs.Take.{gadOf, reading, areasOf, Outcome, taken, refused, stop, takeAll, before, mostPayload, outcome, answerOf, leftBy, takenOf, bytesAfter}
+use Rattle.book.specs.Take.{gadOf, reading, areasOf, Outcome, taken, refused, stop, takeAll, before, outcome, answerOf, leftBy, takenOf, bytesAfter}
 use Rattle.book.specs.Payload.{aiouOf, blockAt, blocksFrom, blocksOf, faults, verdictOf, payloadVerdict, gadAt, takeBits, byVerdict, gad-reads}
 use Rattle.book.specs.PayloadLaws.{reads-areas, reads-range, payload-reads}
 use Rattle.book.specs.TakeLaws.{TookAll, took-all, Good, stays-good, some-area}
@@ -29,8 +30,8 @@ module _ (book : Book) (s payload : List ℕ) (w : sound book s ≡ true) where
   pub outcome-judged : outcome book s payload ≡ byVerdict (payloadVerdict payload) (takeBits book s payload) (λ why. refused why)
   unfolding outcome payloadVerdict
   outcome-judged =
-      rw (le-ltb (length s) 192 (sound-room book s w), w)
-      (rw (gad-reads payload (λ m. takeAll (areasOf (m .blocks)) (before book s (m .aiou))) (λ why. refused why)) (go (eqb (length payload) 0) (ltb mostPayload (length payload)) (verdictOf payload) refl))
+      rw (le-ltb (length s) bookBytes (sound-room book s w), w)
+      (rw (gad-reads payload (λ m. takeAll (areasOf (m .blocks)) (before book s (m .aiou))) (λ why. refused why)) (go (eqb (length payload) 0) (ltb longestPayload (length payload)) (verdictOf payload) refl))
     where
       go : (a b : Bool) (v : Verdict) → verdictOf payload ≡ v
           → stop a refusal.Length (stop b refusal.Length (byVerdict v (takeAll (areasOf (gadAt payload .blocks)) (before book s (aiouOf payload))) (λ why. refused why)))
@@ -53,10 +54,10 @@ module _ (book : Book) (s payload : List ℕ) (w : sound book s ≡ true) where
           ap (answerOf (takeBits book s payload)) z
 
   -- for a caller who has read the payload: its refusal, or its blocks into the book
-  module _ (some : 1 ≤ length payload) (few : length payload ≤ mostPayload) where
+  module _ (some : 1 ≤ length payload) (few : length payload ≤ longestPayload) where
     past-length : outcome book s payload ≡ reading (gadOf payload) (λ m. takeAll (areasOf (m .blocks)) (before book s (m .aiou))) (λ why. refused why)
     unfolding outcome
-    past-length = rw (le-ltb (length s) 192 (sound-room book s w), w, ne-eqb (length payload) 0 (λ z. omega arith), le-ltb mostPayload (length payload) few)
+    past-length = rw (le-ltb (length s) bookBytes (sound-room book s w), w, ne-eqb (length payload) 0 (λ z. omega arith), le-ltb longestPayload (length payload) few)
 
     pub outcome-refused : (why : Refusal) → gadOf payload ≡ layout.refused why → outcome book s payload ≡ refused why
     outcome-refused why e = past-length ∙ ap (λ o. reading o (λ m. takeAll (areasOf (m .blocks)) (before book s (m .aiou))) (λ why. refused why)) e
@@ -88,16 +89,16 @@ module _ (book : Book) (s : List ℕ) (w : sound book s ≡ true) where
 
 -- good areas, with an AIOU of 15 at most, make a sound book
 pub made-sound : (n s : List ℕ) (aiou : ℕ) → bookBytes ≤ length s → 1 ≤ length n → aiou < 2 ^ 4 → Good n
-    → sound (record { «aiou_plus_one» = aiou + 1; count = length n }) (bytesOfAll n ++ drop (6 * length n) s) ≡ true
+    → sound (bookOf (aiou + 1) (length n)) (bytesOfAll n ++ drop (6 * length n) s) ≡ true
 unfolding sound headSound
 made-sound n s aiou room one small g =
     let long : length (bytesOfAll n ++ drop (6 * length n) s) ≡ length s
     = length-append (bytesOfAll n) (drop (6 * length n) s) ∙ omega (arith, length-bytes n, length-drop (6 * length n) s, g .few) in
-    let z₀ : leb 192 (length (bytesOfAll n ++ drop (6 * length n) s)) ≡ true = le-leb 192 (length (bytesOfAll n ++ drop (6 * length n) s)) (omega arith) in
+    let z₀ : leb bookBytes (length (bytesOfAll n ++ drop (6 * length n) s)) ≡ true = le-leb bookBytes (length (bytesOfAll n ++ drop (6 * length n) s)) (omega arith) in
     let z₁ : eqb (aiou + 1) 0 ≡ false = ne-eqb (aiou + 1) 0 (λ q. omega arith) in
     let z₂ : eqb (length n) 0 ≡ false = ne-eqb (length n) 0 (λ q. omega arith) in
     let z₃ : leb (aiou + 1) 16 ≡ true = le-leb (aiou + 1) 16 (omega arith) in
-    let z₄ : leb (length n) 32 ≡ true = le-leb (length n) 32 (g .few) in
+    let z₄ : leb (length n) mostAreas ≡ true = le-leb (length n) mostAreas (g .few) in
     rw (z₀, z₁, z₂, z₃, z₄) (sound-bytes n (drop (6 * length n) s) 0 (g .ascending) (g .areas))
 
 -- the areas held afterwards
@@ -106,7 +107,7 @@ pub record Left (book : Book) (s payload : List ℕ) (after : Book) : Type 0 whe
   pub reads : payloadVerdict payload ≡ verdict.Taken
   pub is : outcome book s payload ≡ taken areas
   pub all : TookAll (blocksOf payload) (before book s (aiouOf payload)) areas
-  pub head : after ≡ record { «aiou_plus_one» = aiouOf payload + 1; count = length areas }
+  pub head : after ≡ bookOf (aiouOf payload + 1) (length areas)
 
 pub left : (book : Book) (s payload : List ℕ) (after : Book) → sound book s ≡ true → takenOf book s payload ≡ Holds after → Left book s payload after
 left book s payload after w e =

@@ -5,24 +5,17 @@ ghost use mathlib.Core.List.{_++_};
 ghost use Prim.Native.Nat.{_+_, _*_, _^_, _<_, _≤_};
 ghost use lib.Dec.{eqb};
 ghost use lib.ListN.{length, drop};
+ghost use Rattle.sizes.specs.Sizes.{mostAreas, bookBytes, longestPayload};
 ghost use Rattle.bits.specs.Part.{PartOf};
 ghost use Rattle.area.specs.Area.{sf031};
 ghost use Rattle.book.specs.Book.{bookOf, noBook, areasIn, bytesOfAll, headSound, areasSound, sound, placeOf, found, foundAt};
 ghost use Rattle.book.specs.Take.{lookup, insert, takeAll, answerOf, leftBy, takenOf, bytesAfter, numberOfTaken};
-ghost use Rattle.book.specs.Payload.{aiouOf, blockCount, blockAt, blocksFrom, blocksOf, blockVerdict, blocksVerdict, payloadVerdict, takeBits};
+ghost use Rattle.book.specs.Payload.{mostBlocks, aiouOf, blockCount, blockAt, blocksFrom, blocksOf, blockVerdict, blocksVerdict, payloadVerdict, takeBits};
 ghost use Rattle.book.specs.TakeLaws.{orElse};
 ghost use Rattle.book.specs.Judge.{judgedBy, isTaken, judgeFound, judgeBlock, Image};
 use answer::Refusal;
 use area::AreaId;
 use layout::Verdict;
-
-// "The book holds one AIOU and up to 32 areas, .. six bytes each: .. 192 bytes."
-const AREAS: usize = 32;
-
-const BYTES: usize = 192;
-
-// "payload of 0 or over 1,023 bytes" is LENGTH.
-const LONGEST_PAYLOAD: usize = 1023;
 
 // What is known of a book besides its bytes: AIOU + 1, or 0 where it has no AIOU, and how many areas it has.
 pub struct Book {
@@ -85,7 +78,7 @@ pub fn head_is_sound(book: Book) -> bool
     if 16 < aiou {
         return false;
     }
-    count <= AREAS
+    count <= sizes::MOST_AREAS
 }
 
 fn areas_are_sound(bytes: &[u8], count: usize) -> bool
@@ -116,7 +109,7 @@ fn areas_are_sound(bytes: &[u8], count: usize) -> bool
 pub fn is_sound(book: Book, bytes: &[u8]) -> bool
     ensures { λ r. ⌜ r ≡ sound book (now (bytes .entry)) ⌝ }
 {
-    if bytes.len() < BYTES {
+    if bytes.len() < sizes::BOOK_BYTES {
         return false;
     }
     if !head_is_sound(book) {
@@ -183,14 +176,14 @@ fn aiou_plus_one(payload: &[u8]) -> u8
 // SF030 means code plus one.
 fn block_count(payload: &[u8]) -> usize
     requires { ⌜ 3 ≤ length (now payload) ⌝ }
-    ensures { λ r. ⌜ (r ≡ blockCount (now (payload .entry))) × (r ≤ 32) ⌝ }
+    ensures { λ r. ⌜ (r ≡ blockCount (now (payload .entry))) × (r ≤ mostBlocks) ⌝ }
 {
     count(bits::get(payload, 14, 5) + 1)
 }
 
 // The first fault of block i in reading order: SHORT where the payload ends inside a field, FIELD for a latitude or a longitude out of range.
 fn block_verdict(payload: &[u8], i: usize) -> Verdict
-    requires { ⌜ (i < 32) × (length (now payload) ≤ 1023) ⌝ }
+    requires { ⌜ (i < mostBlocks) × (length (now payload) ≤ longestPayload) ⌝ }
     ensures { λ r. ⌜ r ≡ blockVerdict (now (payload .entry)) (19 + 47 * i) ⌝ }
 {
     let bits = 8 * payload.len();
@@ -214,7 +207,7 @@ fn block_verdict(payload: &[u8], i: usize) -> Verdict
 }
 
 fn blocks_verdict(payload: &[u8], n: usize) -> Verdict
-    requires { ⌜ (n ≤ 32) × (length (now payload) ≤ 1023) ⌝ }
+    requires { ⌜ (n ≤ mostBlocks) × (length (now payload) ≤ longestPayload) ⌝ }
     ensures { λ r. ⌜ r ≡ blocksVerdict n 0 (now (payload .entry)) ⌝ }
 {
     let mut i: usize = 0;
@@ -239,7 +232,7 @@ fn payload_verdict(payload: &[u8]) -> Verdict
     if size == 0 {
         return Verdict::Fault(Refusal::Length);
     }
-    if LONGEST_PAYLOAD < size {
+    if sizes::LONGEST_PAYLOAD < size {
         return Verdict::Fault(Refusal::Length);
     }
     if size < 3 {
@@ -250,7 +243,7 @@ fn payload_verdict(payload: &[u8]) -> Verdict
 
 // A block's area.
 fn block(payload: &[u8], i: usize) -> u64
-    requires { ⌜ (i < 32) × (19 + 47 * (i + 1) ≤ 8 * length (now payload)) ⌝ }
+    requires { ⌜ (i < mostBlocks) × (19 + 47 * (i + 1) ≤ 8 * length (now payload)) ⌝ }
     ensures { λ r. ⌜ (r ≡ blockAt (now (payload .entry)) i) × (r < 2 ^ 47) ⌝ }
 {
     bits::get(payload, 19 + 47 * i, 47)
@@ -274,7 +267,7 @@ pub fn look(bytes: &[u8], count: usize, id: u8) -> Found
 
 // The area with this ID among the first n blocks.
 fn look_before(payload: &[u8], n: usize, id: u8) -> Found
-    requires { ⌜ (n ≤ 32) × (19 + 47 * n ≤ 8 * length (now payload)) ⌝ }
+    requires { ⌜ (n ≤ mostBlocks) × (19 + 47 * n ≤ 8 * length (now payload)) ⌝ }
     ensures { λ r. ⌜ r ≡ lookup id (blocksFrom n 0 (now (payload .entry))) ⌝ }
 {
     let mut i: usize = 0;
@@ -290,7 +283,7 @@ fn look_before(payload: &[u8], n: usize, id: u8) -> Found
 
 // The same in the book, and then among the first n blocks.
 fn known(bytes: &[u8], count: usize, payload: &[u8], n: usize, id: u8) -> Found
-    requires { ⌜ (6 * count ≤ length (now bytes)) × (n ≤ 32) × (19 + 47 * n ≤ 8 * length (now payload)) ⌝ }
+    requires { ⌜ (6 * count ≤ length (now bytes)) × (n ≤ mostBlocks) × (19 + 47 * n ≤ 8 * length (now payload)) ⌝ }
     ensures { λ r. ⌜ r ≡ orElse (lookup id (areasIn count (now (bytes .entry)))) (lookup id (blocksFrom n 0 (now (payload .entry)))) ⌝ }
 {
     match look(bytes, count, id) {
@@ -312,7 +305,7 @@ fn judge_found(area: u64, found: Found, held: usize) -> Judged
             }
         }
         Found::Nothing => {
-            if held < AREAS {
+            if held < sizes::MOST_AREAS {
                 Judged::Held(held + 1)
             } else {
                 Judged::Refused(Refusal::BookFull)
@@ -323,7 +316,7 @@ fn judge_found(area: u64, found: Found, held: usize) -> Judged
 
 // Block i against the book and the blocks before it, with which the book would hold so many areas.
 fn judge_block(bytes: &[u8], count: usize, payload: &[u8], i: usize, held: usize) -> Judged
-    requires { ⌜ (6 * count ≤ length (now bytes)) × (i < 32) × (19 + 47 * (i + 1) ≤ 8 * length (now payload)) ⌝ }
+    requires { ⌜ (6 * count ≤ length (now bytes)) × (i < mostBlocks) × (19 + 47 * (i + 1) ≤ 8 * length (now payload)) ⌝ }
     ensures { λ r. ⌜ r ≡ judgeBlock (blockAt (now (payload .entry)) i) (orElse (lookup (sf031 (blockAt (now (payload .entry)) i)) (areasIn count (now (bytes .entry)))) (lookup (sf031 (blockAt (now (payload .entry)) i)) (blocksFrom i 0 (now (payload .entry))))) held ⌝ }
 {
     let area = block(payload, i);
@@ -357,7 +350,7 @@ fn judge(bytes: &[u8], count: usize, payload: &[u8]) -> Judged
 
 // A new area takes its place among the book's: the one with the smaller ID is put down, the other is carried on.
 fn insert(bytes: &mut [u8], count: usize, area: u64)
-    requires { ⌜ Image count (now bytes) × (count < 32) × (6 * count + 6 ≤ length (now bytes)) × (area < 2 ^ 47) ⌝ }
+    requires { ⌜ Image count (now bytes) × (count < mostAreas) × (6 * count + 6 ≤ length (now bytes)) × (area < 2 ^ 47) ⌝ }
     ensures { λ _. ⌜ now (bytes .exit) ≡ bytesOfAll (insert area (areasIn count (now (bytes .entry)))) ++ drop (6 * count + 6) (now (bytes .entry)) ⌝ }
 {
     let mut carried = area;
@@ -377,7 +370,7 @@ fn insert(bytes: &mut [u8], count: usize, area: u64)
 
 // Each block that is not held yet takes its place. They have all been judged: the message is taken.
 fn insert_all(bytes: &mut [u8], count: usize, payload: &[u8])
-    requires { ⌜ Image count (now bytes) × (count ≤ 32) × (192 ≤ length (now bytes)) × (19 + 47 * blockCount (now payload) ≤ 8 * length (now payload)) ⌝ }
+    requires { ⌜ Image count (now bytes) × (count ≤ mostAreas) × (bookBytes ≤ length (now bytes)) × (19 + 47 * blockCount (now payload) ≤ 8 * length (now payload)) ⌝ }
     requires { ⌜ isTaken (takeAll (blocksOf (now payload)) (areasIn count (now bytes))) ≡ true ⌝ }
     ensures { λ _. ⌜ now (bytes .exit) ≡ leftBy (takeAll (blocksOf (now (payload .entry))) (areasIn count (now (bytes .entry)))) (now (bytes .entry)) ⌝ }
 {
@@ -411,7 +404,7 @@ fn count_under(book: Book, aiou: u8) -> usize
 
 // The blocks of a payload that reads as a GAD, taken into a sound book.
 fn take_blocks(book: Book, bytes: &mut [u8], payload: &[u8]) -> Taken
-    requires { ⌜ (192 ≤ length (now bytes)) × (sound book (now bytes) ≡ true) × (19 + 47 * blockCount (now payload) ≤ 8 * length (now payload)) ⌝ }
+    requires { ⌜ (bookBytes ≤ length (now bytes)) × (sound book (now bytes) ≡ true) × (19 + 47 * blockCount (now payload) ≤ 8 * length (now payload)) ⌝ }
     ensures { λ r. ⌜ r ≡ answerOf (takeBits book (now (bytes .entry)) (now (payload .entry))) (aiouOf (now (payload .entry))) ⌝ }
     ensures { λ _. ⌜ now (bytes .exit) ≡ leftBy (takeBits book (now (bytes .entry)) (now (payload .entry))) (now (bytes .entry)) ⌝ }
 {
@@ -421,10 +414,7 @@ fn take_blocks(book: Book, bytes: &mut [u8], payload: &[u8]) -> Taken
         Judged::Refused(refusal) => Taken::Refused(refusal),
         Judged::Held(held) => {
             insert_all(bytes, count, payload);
-            Taken::Holds(Book {
-                aiou_plus_one: aiou,
-                count: held,
-            })
+            Taken::Holds(book_of(aiou, held))
         }
     }
 }
@@ -434,7 +424,7 @@ pub fn take(book: Book, bytes: &mut [u8], payload: &[u8]) -> Taken
     ensures { λ r. ⌜ r ≡ takenOf book (now (bytes .entry)) (now (payload .entry)) ⌝ }
     ensures { λ _. ⌜ now (bytes .exit) ≡ bytesAfter book (now (bytes .entry)) (now (payload .entry)) ⌝ }
 {
-    if bytes.len() < BYTES {
+    if bytes.len() < sizes::BOOK_BYTES {
         return Taken::Refused(Refusal::Room);
     }
     if !is_sound(book, bytes) {

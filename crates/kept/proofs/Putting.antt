@@ -10,34 +10,36 @@ use lib.Dec.{leb, ltb, eqb}
 use lib.ListN.{length, getD, take, drop, length-append, length-drop, take-append-drop}
 use lib.Seq.{take-all, take-at, drop-at, drop-drop, drop-length, length-take-le, take-suc, take-length}
 use borrow.Author.Tests.{lt-ltb, le-ltb, le-leb, not-true, not-false}
+use mir.Syntax.{w8}
+use mir.Val.{Fits}
 use Rattle.answer.specs.declared.Refusal.the-variants.{Room, State}
+use Rattle.sizes.specs.Sizes.{mostAreas, bookBytes, keptRoom}
 use Rattle.area.specs.Area.{numberIn, numberAt}
-use Rattle.book.specs.Book.{areaIn, areasIn, sound}
-use Rattle.book.specs.Laws.{Ascending, length-areas, small-at, areas-at}
-use Rattle.book.proofs.Reading.{number-there, sound-count, sound-aiou, sound-image}
-use Rattle.bits.specs.Bits.{Bytes as IsBytes}
+use Rattle.book.specs.Book.{areaIn, areasIn, headSound, sound}
+use Rattle.book.specs.Laws.{Ascending, head-parts, sound-head, length-areas, small-at, areas-at}
+use Rattle.book.proofs.Reading.{number-there, sound-count, sound-image}
 use Rattle.book.specs.Judge.{Image}
 use Rattle.book.specs.declared.Book.{Book}
-use Rattle.groups.specs.Groups as groups
 use Rattle.groups.specs.Groups.{groupsOf, groupsOfAll}
+use Rattle.groups.proofs.Behind.{take-rest, put-behind}
 use Rattle.groups.specs.Laws.{groups-all-append, length-le, length-last}
-use Rattle.kept.specs.Kept.{keptOf, keptBytes, noRoom, written, outAfter}
+use Rattle.kept.specs.Walk.{headBytes}
+use Rattle.kept.specs.Kept.{form, keptOf, keptBytes, noRoom, written, outAfter}
 use Rattle.kept.specs.declared.Written.the-variants.{Bytes, Refused}
 
--- a part written behind at bytes
-pub put-behind : (x at : ℕ) (out part : List ℕ) → at + length (groupsOf x) ≤ length out → part ≡ groups.outAfter x (take (length out - at) (drop at out))
-    → (n : ℕ) → n ≡ length (groupsOf x)
-    → take at out ++ (part ++ drop (length out - at) (drop at out)) ≡ take at out ++ (groupsOf x ++ drop (at + n) out)
-unfolding groups.outAfter
-put-behind x at out part h e n en =
-    let l : length (drop at out) ≡ length out - at = length-drop at out in
-    let all : take (length out - at) (drop at out) ≡ drop at out = take-all (length out - at) (drop at out) (omega arith) in
-    let z : ltb (length (drop at out)) (length (groupsOf x)) ≡ false = le-ltb (length (drop at out)) (length (groupsOf x)) (omega arith) in
-    let none : drop (length out - at) (drop at out) ≡ [] = ap (λ k. drop k (drop at out)) (sym l) ∙ drop-length (drop at out) in
-    let p : part ≡ groupsOf x ++ drop (at + n) out
-    = e ∙ ap (groups.outAfter x) all ∙ ap (λ b. cond b (drop at out) (groupsOf x ++ drop (length (groupsOf x)) (drop at out))) z
-    ∙ ap (λ l. groupsOf x ++ l) (ap (λ k. drop k (drop at out)) (sym en) ∙ drop-drop n at out) in
-    ap (λ l. take at out ++ (part ++ l)) none ∙ ap (λ l. take at out ++ l) (append-nil part ∙ p)
+-- a number put behind at bytes
+module _ (x at : ℕ) (out : List ℕ) (h : at + length (groupsOf x) ≤ length out) where
+  pub number-room : length (groupsOf x) ≤ length (take (length out - at) (drop at out))
+  number-room = omega (arith, ap length (take-rest out at), length-drop at out)
+
+  pub number-laid : (part : List ℕ) (r : ℕ) → r ≡ length (groupsOf x)
+      → part ≡ groupsOf x ++ drop (length (groupsOf x)) (take (length out - at) (drop at out))
+      → take at out ++ (part ++ drop (length out - at) (drop at out)) ≡ take at out ++ (groupsOf x ++ drop (at + r) out)
+  number-laid part r er ep =
+      put-behind out out (take at out) (groupsOf x) part at r (sym (length-take-le at out (omega arith))) (omega arith)
+      (sym (take-append-drop at out)) er
+      (ep ∙ ap (λ k. groupsOf x ++ drop k (take (length out - at) (drop at out))) (sym er))
+      ∙ append-assoc (take at out) (groupsOf x) (drop (at + r) out)
 
 -- what is laid behind what was laid before
 pub lay-on : (out₀ out p g new : List ℕ) (e : ℕ) → out ≡ p ++ drop e out₀ → length p ≡ e → new ≡ take e out ++ (g ++ drop (e + length g) out)
@@ -48,9 +50,15 @@ lay-on out₀ out p g new e eo ep en =
     = sym (drop-drop (length g) e out) ∙ ap (drop (length g)) (ap (drop e) eo ∙ drop-at p (drop e out₀) e ep) ∙ drop-drop (length g) e out₀ in
     en ∙ ap₂ (λ x y. x ++ (g ++ y)) first last ∙ sym (append-assoc p g (drop (e + length g) out₀))
 
+lay-to : (out₀ out p g new : List ℕ) (e f : ℕ) → out ≡ p ++ drop e out₀ → length p ≡ e → f ≡ e + length g
+    → new ≡ take e out ++ (g ++ drop f out) → new ≡ (p ++ g) ++ drop f out₀
+lay-to out₀ out p g new e f eo ep ef en =
+    lay-on out₀ out p g new e eo ep (en ∙ ap (λ k. take e out ++ (g ++ drop k out)) ef) ∙ ap (λ k. (p ++ g) ++ drop k out₀) (sym ef)
+
 -- the areas before the i-th are laid behind at bytes
 pub record Laying (out₀ l : List ℕ) (at n i e : ℕ) (out : List ℕ) : Type 0 where
   pub inside : i ≤ n
+  pub room : at + 7 * n ≤ length out₀
   pub ends : length (take at out₀ ++ groupsOfAll (take i l)) ≡ e
   pub near : e ≤ at + 7 * i
   pub laid : out ≡ (take at out₀ ++ groupsOfAll (take i l)) ++ drop e out₀
@@ -60,25 +68,33 @@ unfolding groupsOfAll
 lay-start out s at n h =
     record {
       inside = omega arith;
+      room = h;
       ends = ap length (append-nil (take at out)) ∙ length-take-le at out (omega arith);
       near = omega arith;
       laid = sym (ap (λ l. l ++ drop at out) (append-nil (take at out)) ∙ take-append-drop at out);
     }
 
-module _ (out₀ s : List ℕ) (at n i e : ℕ) (out : List ℕ) (image : Image n s) (fits : 6 * n ≤ length s) (room : at + 7 * n ≤ length out₀) (q : Laying out₀ (areasIn n s) at n i e out) where
+module _ (out₀ s : List ℕ) (at n i e : ℕ) (out : List ℕ) (q : Laying out₀ (areasIn n s) at n i e out) where
   pub lay-length : length out ≡ length out₀
   lay-length =
       ap length (q .laid) ∙ length-append (take at out₀ ++ groupsOfAll (take i (areasIn n s))) (drop e out₀)
-      ∙ omega (arith, q .ends, q .near, q .inside, length-drop e out₀)
+      ∙ omega (arith, q .ends, q .near, q .inside, q .room, length-drop e out₀)
 
-  pub lay-end : n ≤ i → (e ≡ at + length (groupsOfAll (areasIn n s))) × (out ≡ take at out₀ ++ (groupsOfAll (areasIn n s) ++ drop e out₀))
-  lay-end h =
-      let all : take i (areasIn n s) ≡ areasIn n s = take-all i (areasIn n s) (omega (arith, length-areas n s)) in (
-        sym (q .ends) ∙ length-append (take at out₀) (groupsOfAll (take i (areasIn n s))) ∙ ap₂ (λ x y. x + y) (length-take-le at out₀ (omega arith)) (ap (λ l. length (groupsOfAll l)) all),
-        q .laid ∙ append-assoc (take at out₀) _ (drop e out₀) ∙ ap (λ l. take at out₀ ++ (groupsOfAll l ++ drop e out₀)) all,
-      )
+  module _ (h : n ≤ i) where
+    lay-all : take i (areasIn n s) ≡ areasIn n s
+    lay-all = take-all i (areasIn n s) (omega (arith, length-areas n s))
 
-  module _ (h : i < n) (x : ℕ) (ex : x ≡ numberAt s (6 * i)) where
+    pub lay-count : e ≡ at + length (groupsOfAll (areasIn n s))
+    lay-count =
+        sym (q .ends) ∙ length-append (take at out₀) (groupsOfAll (take i (areasIn n s)))
+        ∙ ap₂ (λ x y. x + y) (length-take-le at out₀ (omega (arith, q .room))) (ap (λ l. length (groupsOfAll l)) lay-all)
+
+    pub lay-end : out ≡ take at out₀ ++ (groupsOfAll (areasIn n s) ++ drop e out₀)
+    lay-end =
+        q .laid ∙ append-assoc (take at out₀) _ (drop e out₀)
+        ∙ ap (λ l. take at out₀ ++ (groupsOfAll l ++ drop e out₀)) lay-all
+
+  module _ (image : Image n s) (fits : 6 * n ≤ length s) (h : i < n) (x : ℕ) (ex : x ≡ numberAt s (6 * i)) where
     area-is : x / 2 ≡ getD (areasIn n s) i 0
     area-is = ap (λ x. x / 2) (number-there s n i x h fits ex) ∙ sym (areas-at n i s h)
 
@@ -88,7 +104,7 @@ module _ (out₀ s : List ℕ) (at n i e : ℕ) (out : List ℕ) (image : Image 
         length-le 6 (x / 2) (omega arith)
 
     pub lay-room : e + length (groupsOf (x / 2)) ≤ length out
-    lay-room = omega (arith, area-seven, lay-length, q .near)
+    lay-room = omega (arith, area-seven, lay-length, q .near, q .room)
 
     pub lay-turn : (r : ℕ) (new : List ℕ) → r ≡ e + length (groupsOf (x / 2)) → new ≡ take e out ++ (groupsOf (x / 2) ++ drop r out) → Laying out₀ (areasIn n s) at n (i + 1) r new
     unfolding groupsOfAll
@@ -102,6 +118,7 @@ module _ (out₀ s : List ℕ) (at n i e : ℕ) (out : List ℕ) (image : Image 
         = append-assoc (take at out₀) (groupsOfAll (take i l)) (groupsOf (x / 2)) ∙ ap (λ z. take at out₀ ++ z) (sym more) in
         record {
           inside = omega arith;
+          room = q .room;
           ends = ap length (sym join) ∙ length-append p (groupsOf (x / 2)) ∙ ap (λ k. k + length (groupsOf (x / 2))) (q .ends) ∙ sym er;
           near = omega (arith, area-seven, q .near);
           laid = lay-on out₀ out p (groupsOf (x / 2)) new e (q .laid) (q .ends) (en ∙ ap (λ k. take e out ++ (groupsOf (x / 2) ++ drop k out)) er)
@@ -111,61 +128,136 @@ module _ (out₀ s : List ℕ) (at n i e : ℕ) (out : List ℕ) (image : Image 
 -- ---- the whole book
 
 module _ (book : Book) (s out : List ℕ) where
-  pub write-no-book : length s < 192 → (Refused Room ≡ written book s out) × (out ≡ outAfter book s out)
-  unfolding written outAfter
-  write-no-book h = let z : ltb (length s) 192 ≡ true = lt-ltb _ _ h in (rw z, rw z)
+  module _ (h : length s < bookBytes) where
+    no-book : ltb (length s) bookBytes ≡ true
+    no-book = lt-ltb _ _ h
 
-  module _ (h : 192 ≤ length s) where
-    pub write-no-room : length out < 227 → (Refused Room ≡ written book s out) × (out ≡ outAfter book s out)
-    unfolding written outAfter
-    write-no-room k =
-        let z : ltb (length s) 192 ≡ false = le-ltb _ _ h in
-        let y : ltb (length out) 227 ≡ true = lt-ltb _ _ k in (rw (z, y), rw (z, y))
+    pub write-no-book : Refused Room ≡ written book s out
+    unfolding written
+    write-no-book = rw no-book
 
-    module _ (k : 227 ≤ length out) (b : Bool) (eb : b ≡ sound book s) where
-      pub write-state : not b ≡ true → (Refused State ≡ written book s out) × (out ≡ outAfter book s out)
-      unfolding written outAfter
-      write-state l =
-          let z : ltb (length s) 192 ≡ false = le-ltb _ _ h in
-          let y : ltb (length out) 227 ≡ false = le-ltb _ _ k in
-          let x : sound book s ≡ false = sym eb ∙ not-true b l in (rw (z, y, x), rw (z, y, x))
+    pub left-no-book : out ≡ outAfter book s out
+    unfolding outAfter
+    left-no-book = rw no-book
+
+  module _ (h : bookBytes ≤ length s) where
+    has-book : ltb (length s) bookBytes ≡ false
+    has-book = le-ltb _ _ h
+
+    module _ (k : length out < keptRoom) where
+      no-room : ltb (length out) keptRoom ≡ true
+      no-room = lt-ltb _ _ k
+
+      pub write-no-room : Refused Room ≡ written book s out
+      unfolding written
+      write-no-room = rw (has-book, no-room)
+
+      pub left-no-room : out ≡ outAfter book s out
+      unfolding outAfter
+      left-no-room = rw (has-book, no-room)
+
+    module _ (k : keptRoom ≤ length out) (b : Bool) (eb : b ≡ sound book s) where
+      has-room : ltb (length out) keptRoom ≡ false
+      has-room = le-ltb _ _ k
+
+      module _ (l : not b ≡ true) where
+        unsound : sound book s ≡ false
+        unsound = sym eb ∙ not-true b l
+
+        pub write-state : Refused State ≡ written book s out
+        unfolding written
+        write-state = rw (has-book, has-room, unsound)
+
+        pub left-state : out ≡ outAfter book s out
+        unfolding outAfter
+        left-state = rw (has-book, has-room, unsound)
 
       module _ (l : not b ≡ false) where
-        pub book-count : book .count ≤ 32
-        book-count = sound-count book s (sym eb ∙ not-false b l)
+        is-sound : sound book s ≡ true
+        is-sound = sym eb ∙ not-false b l
 
-        pub book-image : IsBytes s → Image (book .count) s
-        book-image w = sound-image book s (sym eb ∙ not-false b l) w
+        module _ (e₃ e₄ : ℕ) (q₃ : e₃ ≡ length (headBytes book)) (q₄ : e₄ ≡ e₃ + length (groupsOfAll (areasIn (book .count) s))) where
+          kept-is : headBytes book ++ groupsOfAll (areasIn (book .count) s) ≡ keptBytes book s
+          unfolding keptOf
+          kept-is = sym (groups-all-append (form ∷ book .«aiou_plus_one» ∷ book .count ∷ []) (areasIn (book .count) s))
 
-        -- AIOU + 1 takes a byte
-        pub book-aiou : (a : ℕ) → a ≡ book .«aiou_plus_one» → length (groupsOf a) ≡ 1
-        book-aiou a e = length-last a (omega (arith, sound-aiou book s (sym eb ∙ not-false b l)))
+          kept-ends : e₄ ≡ length (keptBytes book s)
+          kept-ends =
+              q₄ ∙ ap (λ k. k + length (groupsOfAll (areasIn (book .count) s))) q₃
+              ∙ sym (length-append (headBytes book) (groupsOfAll (areasIn (book .count) s))) ∙ ap length kept-is
 
-        pub write-book : (e₁ e₂ e₃ e₄ a n : ℕ) (o₁ o₂ o₃ o₄ : List ℕ)
-            → e₁ ≡ 0 + length (groupsOf 1) → o₁ ≡ take 0 out ++ (groupsOf 1 ++ drop e₁ out)
-            → a ≡ book .«aiou_plus_one» → e₂ ≡ e₁ + length (groupsOf a) → o₂ ≡ take e₁ o₁ ++ (groupsOf a ++ drop e₂ o₁)
-            → n ≡ book .count → e₃ ≡ e₂ + length (groupsOf n) → o₃ ≡ take e₂ o₂ ++ (groupsOf n ++ drop e₃ o₂)
-            → e₄ ≡ e₃ + length (groupsOfAll (areasIn (book .count) s)) → o₄ ≡ take e₃ o₃ ++ (groupsOfAll (areasIn (book .count) s) ++ drop e₄ o₃)
-            → (Bytes e₄ ≡ written book s out) × (o₄ ≡ outAfter book s out)
-        unfolding written outAfter keptOf groupsOfAll
-        write-book e₁ e₂ e₃ e₄ a n o₁ o₂ o₃ o₄ q₁ r₁ qa q₂ r₂ qn q₃ r₃ q₄ r₄ =
-            let z : ltb (length s) 192 ≡ false = le-ltb _ _ h in
-            let y : ltb (length out) 227 ≡ false = le-ltb _ _ k in
-            let x : sound book s ≡ true = sym eb ∙ not-false b l in
-            let g : List ℕ = groupsOfAll (areasIn (book .count) s) in
-            let p₁ : List ℕ = groupsOf 1 in
-            let p₂ : List ℕ = p₁ ++ groupsOf a in
-            let p₃ : List ℕ = p₂ ++ groupsOf n in
-            let l₁ : length p₁ ≡ e₁ = sym (q₁ ∙ zero-add (length p₁)) in
-            let l₂ : length p₂ ≡ e₂ = length-append p₁ (groupsOf a) ∙ ap (λ k. k + length (groupsOf a)) l₁ ∙ sym q₂ in
-            let l₃ : length p₃ ≡ e₃ = length-append p₂ (groupsOf n) ∙ ap (λ k. k + length (groupsOf n)) l₂ ∙ sym q₃ in
-            let l₄ : length (p₃ ++ g) ≡ e₄ = length-append p₃ g ∙ ap (λ k. k + length g) l₃ ∙ sym q₄ in
-            let w₂ : o₂ ≡ p₂ ++ drop e₂ out
-            = lay-on out o₁ p₁ (groupsOf a) o₂ e₁ r₁ l₁ (r₂ ∙ ap (λ k. take e₁ o₁ ++ (groupsOf a ++ drop k o₁)) q₂) ∙ ap (λ k. p₂ ++ drop k out) (sym q₂) in
-            let w₃ : o₃ ≡ p₃ ++ drop e₃ out
-            = lay-on out o₂ p₂ (groupsOf n) o₃ e₂ w₂ l₂ (r₃ ∙ ap (λ k. take e₂ o₂ ++ (groupsOf n ++ drop k o₂)) q₃) ∙ ap (λ k. p₃ ++ drop k out) (sym q₃) in
-            let w₄ : o₄ ≡ (p₃ ++ g) ++ drop e₄ out
-            = lay-on out o₃ p₃ g o₄ e₃ w₃ l₃ (r₄ ∙ ap (λ k. take e₃ o₃ ++ (g ++ drop k o₃)) q₄) ∙ ap (λ k. (p₃ ++ g) ++ drop k out) (sym q₄) in
-            let all : p₃ ++ g ≡ keptBytes book s
-            = ap₂ (λ a n. ((p₁ ++ groupsOf a) ++ groupsOf n) ++ g) qa qn ∙ simp append-assoc in
-            (rw (z, y, x) (ap Bytes (sym l₄ ∙ ap length all)), rw (z, y, x) (w₄ ∙ ap₂ (λ p k. p ++ drop k out) all (sym l₄ ∙ ap length all)))
+          pub write-book : Bytes e₄ ≡ written book s out
+          unfolding written
+          write-book = rw (has-book, has-room, is-sound) (ap Bytes kept-ends)
+
+          pub left-book : (o₃ o₄ : List ℕ) → o₃ ≡ headBytes book ++ drop e₃ out
+              → o₄ ≡ take e₃ o₃ ++ (groupsOfAll (areasIn (book .count) s) ++ drop e₄ o₃) → o₄ ≡ outAfter book s out
+          unfolding outAfter
+          left-book o₃ o₄ r₃ r₄ =
+              rw (has-book, has-room, is-sound)
+              (lay-to out o₃ (headBytes book) (groupsOfAll (areasIn (book .count) s)) o₄ e₃ e₄ r₃ (sym q₃) q₄ r₄
+              ∙ ap₂ (λ p k. p ++ drop k out) kept-is kept-ends)
+
+module _ (book : Book) (s : List ℕ) (b : Bool) (eb : b ≡ sound book s) (l : not b ≡ false) where
+  pub book-head : headSound book ≡ true
+  book-head = sound-head book s (sym eb ∙ not-false b l)
+
+  pub book-count : book .count ≤ mostAreas
+  book-count = sound-count book s (sym eb ∙ not-false b l)
+
+  pub book-fits : bookBytes ≤ length s → 6 * book .count ≤ length s
+  book-fits h = omega (arith, book-count)
+
+  pub book-image : ((i : ℕ) → Fits w8 (getD s i 0)) → Image (book .count) s
+  book-image known = sound-image book s (sym eb ∙ not-false b l) (record { byte = λ i. known i .fits })
+
+  pub book-room : (e : ℕ) (out o : List ℕ) → e ≤ 3 → length o ≡ length out → keptRoom ≤ length out → e + 7 * book .count ≤ length o
+  book-room e out o h n k = omega (arith, book-count)
+
+-- ---- the numbers before the areas
+
+-- a count takes one group of seven bits, for a book holds fewer than 128 areas
+module _ (book : Book) (h : headSound book ≡ true) where
+  count-one : length (groupsOf (book .count)) ≡ 1
+  count-one = length-last (book .count) (omega (arith, head-parts book h .1))
+
+  module _ (e₁ a : ℕ) (q₁ : e₁ ≡ 0 + length (groupsOf 1)) (qa : a ≡ book .«aiou_plus_one») where
+    aiou-one : length (groupsOf a) ≡ 1
+    aiou-one = length-last a (omega (arith, head-parts book h .0))
+
+    pub room-aiou : (o₁ out : List ℕ) → length o₁ ≡ length out → 3 ≤ length out → e₁ + length (groupsOf a) ≤ length o₁
+    room-aiou o₁ out n k = omega (arith, length-last 1 (omega arith), aiou-one)
+
+    module _ (e₂ : ℕ) (q₂ : e₂ ≡ e₁ + length (groupsOf a)) where
+      pub room-count : (o₁ o₂ out : List ℕ) → length o₂ ≡ length o₁ → length o₁ ≡ length out → 3 ≤ length out
+          → e₂ + length (groupsOf (book .count)) ≤ length o₂
+      room-count o₁ o₂ out n m k = omega (arith, length-last 1 (omega arith), aiou-one, count-one)
+
+      module _ (e₃ : ℕ) (q₃ : e₃ ≡ e₂ + length (groupsOf (book .count))) where
+        pub head-three : e₃ ≤ 3
+        head-three = omega (arith, length-last 1 (omega arith), aiou-one, count-one)
+
+        joined : (groupsOf 1 ++ groupsOf a) ++ groupsOf (book .count) ≡ headBytes book
+        unfolding groupsOfAll
+        joined = ap (λ a. (groupsOf 1 ++ groupsOf a) ++ groupsOf (book .count)) qa ∙ simp (append-assoc, append-nil)
+
+        ends₁ : length (groupsOf 1) ≡ e₁
+        ends₁ = sym (q₁ ∙ zero-add (length (groupsOf 1)))
+
+        ends₂ : length (groupsOf 1 ++ groupsOf a) ≡ e₂
+        ends₂ = length-append (groupsOf 1) (groupsOf a) ∙ ap (λ k. k + length (groupsOf a)) ends₁ ∙ sym q₂
+
+        pub head-ends : e₃ ≡ length (headBytes book)
+        head-ends =
+            q₃ ∙ ap (λ k. k + length (groupsOf (book .count))) (sym ends₂)
+            ∙ sym (length-append (groupsOf 1 ++ groupsOf a) (groupsOf (book .count))) ∙ ap length joined
+
+        pub head-laid : (out o₁ o₂ o₃ : List ℕ) → o₁ ≡ take 0 out ++ (groupsOf 1 ++ drop e₁ out) → o₂ ≡ take e₁ o₁ ++ (groupsOf a ++ drop e₂ o₁)
+            → o₃ ≡ take e₂ o₂ ++ (groupsOf (book .count) ++ drop e₃ o₂) → o₃ ≡ headBytes book ++ drop e₃ out
+        head-laid out o₁ o₂ o₃ r₁ r₂ r₃ =
+            let p₂ : List ℕ = groupsOf 1 ++ groupsOf a in
+            let w₂ : o₂ ≡ p₂ ++ drop e₂ out = lay-to out o₁ (groupsOf 1) (groupsOf a) o₂ e₁ e₂ r₁ ends₁ q₂ r₂ in
+            lay-to out o₂ p₂ (groupsOf (book .count)) o₃ e₂ e₃ w₂ ends₂ q₃ r₃ ∙ ap (λ p. p ++ drop e₃ out) joined
+
+pub room-form : (out : List ℕ) → 3 ≤ length out → 0 + length (groupsOf 1) ≤ length out
+room-form out k = omega (arith, length-last 1 (omega arith))

@@ -10,8 +10,9 @@ use lib.Seq.{take-all, drop-drop, drop-cons}
 use borrow.Author.Tests.{lt-ltb, le-ltb, lt-leb, le-leb, eq-eqb, ne-eqb, not-true, not-false}
 use Rattle.answer.specs.declared.Refusal.{Refusal}
 use Rattle.answer.specs.declared.Refusal.the-variants.{Room, Form, Leftover}
+use Rattle.sizes.specs.Sizes.{mostAreas, bookBytes}
 use Rattle.area.specs.Area.{sf031, isArea, putAt}
-use Rattle.book.specs.Book.{bytesOfAll, headSound}
+use Rattle.book.specs.Book.{bookOf, bytesOfAll, headSound}
 use Rattle.book.specs.Laws.{length-bytes, head-parts}
 use Rattle.book.proofs.Taking.{put-image}
 use Rattle.book.specs.declared.Book.{Book}
@@ -35,8 +36,8 @@ module _ (s : List ℕ) (at : ℕ) (h : at ≤ length s) (v : Read) (e : v ≡ r
   read-part : v ≡ readGroups (drop at s)
   read-part = e ∙ ap readGroups (take-all (length s - at) (drop at s) (omega (arith, length-drop at s)))
 
-  pub behind-le : (x n : ℕ) → v ≡ reading.Number x n → at + n ≤ length s
-  behind-le x n q = omega (arith, read-le (drop at s) x n (sym read-part ∙ q), length-drop at s)
+  pub behind-fits : (x n : ℕ) → v ≡ reading.Number x n → length s < 2 ^ 64 → at + n < 2 ^ 64
+  behind-fits x n q k = omega (arith, read-le (drop at s) x n (sym read-part ∙ q), length-drop at s)
 
   pub behind-number : (x n : ℕ) → v ≡ reading.Number x n → next.Number x (at + n) ≡ nextOf s at
   unfolding nextOf
@@ -47,9 +48,6 @@ module _ (s : List ℕ) (at : ℕ) (h : at ≤ length s) (v : Read) (e : v ≡ r
   behind-refused r q = ap (λ r. nextBy r at) (sym q ∙ read-part)
 
 -- ---- the head
-
-abbrev bookOf : ℕ → ℕ → Book
-bookOf aiou count = record { «aiou_plus_one» = aiou; count = count }
 
 module _ (s : List ℕ) (at : ℕ) (h : at ≤ length s) (v : Next) (e : v ≡ nextOf s at) where
   pub count-refused : (aiou : ℕ) (r : Refusal) → v ≡ next.Refused r → readCount aiou (drop at s) ≡ refused r
@@ -64,20 +62,18 @@ module _ (s : List ℕ) (at : ℕ) (h : at ≤ length s) (v : Next) (e : v ≡ n
     pub end-there : end ≤ length s
     end-there = next-le s at v h e x end q
 
-    module _ (aiou : ℕ) (b : Bool) (eb : b ≡ headSound (record { «aiou_plus_one» = aiou; count = x })) where
-      pub count-unsound : not b ≡ true → readCount aiou (drop at s) ≡ refused Form
+    module _ (aiou : ℕ) (book : Book) (eo : book ≡ bookOf aiou x) (b : Bool) (eb : b ≡ headSound book) where
+      count-read : readCount aiou (drop at s) ≡ stop (not b) Form (said book (drop end s))
       unfolding readCount
-      count-unsound k =
+      count-read =
           step-on s at v e (λ count s. stop (not (headSound (bookOf aiou count))) Form (said (bookOf aiou count) s)) x end q
-          ∙ ap (λ b. stop (not b) Form (said (bookOf aiou x) (drop end s))) (sym eb ∙ not-true b k)
+          ∙ ap₂ (λ y z. stop (not y) Form (said z (drop end s))) (sym (eb ∙ ap headSound eo)) (sym eo)
 
-      pub count-sound : not b ≡ false → (readCount aiou (drop at s) ≡ said (record { «aiou_plus_one» = aiou; count = x }) (drop end s)) × (end ≤ length s)
-      unfolding readCount
-      count-sound k = (
-        step-on s at v e (λ count s. stop (not (headSound (bookOf aiou count))) Form (said (bookOf aiou count) s)) x end q
-            ∙ ap (λ b. stop (not b) Form (said (bookOf aiou x) (drop end s))) (sym eb ∙ not-false b k),
-        end-there,
-      )
+      pub count-unsound : not b ≡ true → readCount aiou (drop at s) ≡ refused Form
+      count-unsound k = count-read ∙ ap (λ t. stop t Form (said book (drop end s))) k
+
+      pub count-sound : not b ≡ false → readCount aiou (drop at s) ≡ said book (drop end s)
+      count-sound k = count-read ∙ ap (λ t. stop t Form (said book (drop end s))) k
 
     pub aiou-over : 16 < x → readAiou (drop at s) ≡ refused Form
     unfolding readAiou
@@ -315,11 +311,16 @@ module _ (s bytes₀ : List ℕ) (n at i end : ℕ) (bytes : List ℕ) (fits₀ 
 
 -- ---- the whole book
 
-module _ (s bytes : List ℕ) (book : Book) (at : ℕ) (v : Ended) (p : EndIs s (readAreas (book .count) 0 (drop at s)) v) where
-  pub areas-refused : (r : Refusal) → v ≡ ended.Refused r → (answering.Refused r ≡ answerOf (whole book (readAreas (book .count) 0 (drop at s)))) × (bytes ≡ leftBy (whole book (readAreas (book .count) 0 (drop at s))) bytes)
-  areas-refused r q =
-      let o : readAreas (book .count) 0 (drop at s) ≡ refused r = subst (λ v. EndIs s (readAreas (book .count) 0 (drop at s)) v) q p in
-      (ap (λ o. answerOf (whole book o)) (sym o), ap (λ o. leftBy (whole book o) bytes) (sym o))
+module _ (s : List ℕ) (book : Book) (at : ℕ) (v : Ended) (p : EndIs s (readAreas (book .count) 0 (drop at s)) v) where
+  module _ (r : Refusal) (q : v ≡ ended.Refused r) where
+    areas-off : whole book (readAreas (book .count) 0 (drop at s)) ≡ not-kept r
+    areas-off = ap (whole book) (subst (λ v. EndIs s (readAreas (book .count) 0 (drop at s)) v) q p)
+
+    pub areas-refused : answering.Refused r ≡ answerOf (whole book (readAreas (book .count) 0 (drop at s)))
+    areas-refused = ap answerOf (sym areas-off)
+
+    pub left-refused : (bytes : List ℕ) → bytes ≡ leftBy (whole book (readAreas (book .count) 0 (drop at s))) bytes
+    left-refused bytes = ap (λ o. leftBy o bytes) (sym areas-off)
 
   module _ (end : ℕ) (q : v ≡ ended.At end) where
     areas-end : Areas s (readAreas (book .count) 0 (drop at s)) end
@@ -328,44 +329,71 @@ module _ (s bytes : List ℕ) (book : Book) (at : ℕ) (v : Ended) (p : EndIs s 
     pub areas-said : isSaid (readAreas (book .count) 0 (drop at s)) ≡ true
     areas-said = ap isSaid (areas-end .is)
 
-    pub areas-left : end < length s → (answering.Refused Leftover ≡ answerOf (whole book (readAreas (book .count) 0 (drop at s)))) × (bytes ≡ leftBy (whole book (readAreas (book .count) 0 (drop at s))) bytes)
-    areas-left h =
-        let o : whole book (readAreas (book .count) 0 (drop at s)) ≡ not-kept Leftover
-        = ap (whole book) (areas-end .is ∙ ap (said (areas-end .list)) (drop-cons s end 0 h)) in
-        (ap answerOf (sym o), ap (λ o. leftBy o bytes) (sym o))
+    module _ (h : end < length s) where
+      areas-over : whole book (readAreas (book .count) 0 (drop at s)) ≡ not-kept Leftover
+      areas-over = ap (whole book) (areas-end .is ∙ ap (said (areas-end .list)) (drop-cons s end 0 h))
 
-    pub areas-whole : length s ≤ end → (z : List ℕ) → z ≡ storedBy (readAreas (book .count) 0 (drop at s)) bytes
-        → (answering.Holds book ≡ answerOf (whole book (readAreas (book .count) 0 (drop at s)))) × (z ≡ leftBy (whole book (readAreas (book .count) 0 (drop at s))) bytes)
-    areas-whole h z ez =
-        let o : readAreas (book .count) 0 (drop at s) ≡ said (areas-end .list) [] = areas-end .is ∙ ap (said (areas-end .list)) (drop-of-length-le s {i = end} h) in
-        (ap (λ o. answerOf (whole book o)) (sym o), ez ∙ ap (λ o. storedBy o bytes) o ∙ ap (λ o. leftBy (whole book o) bytes) (sym o))
+      pub areas-left : answering.Refused Leftover ≡ answerOf (whole book (readAreas (book .count) 0 (drop at s)))
+      areas-left = ap answerOf (sym areas-over)
+
+      pub left-over : (bytes : List ℕ) → bytes ≡ leftBy (whole book (readAreas (book .count) 0 (drop at s))) bytes
+      left-over bytes = ap (λ o. leftBy o bytes) (sym areas-over)
+
+    module _ (h : length s ≤ end) where
+      areas-all : readAreas (book .count) 0 (drop at s) ≡ said (areas-end .list) []
+      areas-all = areas-end .is ∙ ap (said (areas-end .list)) (drop-of-length-le s {i = end} h)
+
+      pub areas-whole : answering.Holds book ≡ answerOf (whole book (readAreas (book .count) 0 (drop at s)))
+      areas-whole = ap (λ o. answerOf (whole book o)) (sym areas-all)
+
+      pub left-whole : (bytes z : List ℕ) → z ≡ storedBy (readAreas (book .count) 0 (drop at s)) bytes
+          → z ≡ leftBy (whole book (readAreas (book .count) 0 (drop at s))) bytes
+      left-whole bytes z ez = ez ∙ ap (λ o. storedBy o bytes) areas-all ∙ ap (λ o. leftBy (whole book o) bytes) (sym areas-all)
 
 module _ (s bytes : List ℕ) where
-  pub kept-room : length bytes < 192 → (answering.Refused Room ≡ answerOf (readKept s bytes)) × (bytes ≡ leftBy (readKept s bytes) bytes)
-  unfolding readKept
-  kept-room h = let z : ltb (length bytes) 192 ≡ true = lt-ltb _ _ h in (rw z, rw z)
+  module _ (h : length bytes < bookBytes) where
+    no-room : ltb (length bytes) bookBytes ≡ true
+    no-room = lt-ltb _ _ h
 
-  module _ (h : 192 ≤ length bytes) (v : Head) (p : HeadIs s (readHead s) v) where
-    pub kept-refused : (r : Refusal) → v ≡ head.Refused r → (answering.Refused r ≡ answerOf (readKept s bytes)) × (bytes ≡ leftBy (readKept s bytes) bytes)
+    pub kept-room : answering.Refused Room ≡ answerOf (readKept s bytes)
     unfolding readKept
-    kept-refused r q =
-        let z : ltb (length bytes) 192 ≡ false = le-ltb _ _ h in
-        let o : readHead s ≡ refused r = subst (λ v. HeadIs s (readHead s) v) q p in
-        (rw (z, o), rw (z, o))
+    kept-room = rw no-room
+
+    pub left-room : bytes ≡ leftBy (readKept s bytes) bytes
+    unfolding readKept
+    left-room = rw no-room
+
+  module _ (h : bookBytes ≤ length bytes) (v : Head) (p : HeadIs s (readHead s) v) where
+    has-room : ltb (length bytes) bookBytes ≡ false
+    has-room = le-ltb _ _ h
+
+    module _ (r : Refusal) (q : v ≡ head.Refused r) where
+      head-off : readHead s ≡ refused r
+      head-off = subst (λ v. HeadIs s (readHead s) v) q p
+
+      pub kept-refused : answering.Refused r ≡ answerOf (readKept s bytes)
+      unfolding readKept
+      kept-refused = rw (has-room, head-off)
+
+      pub left-head : bytes ≡ leftBy (readKept s bytes) bytes
+      unfolding readKept
+      left-head = rw (has-room, head-off)
 
     module _ (book : Book) (at : ℕ) (q : v ≡ head.Is book at) where
-      pub kept-at : at ≤ length s
-      kept-at = subst (λ v. HeadIs s (readHead s) v) q p .1
-
       head-is : readHead s ≡ said book (drop at s)
       head-is = subst (λ v. HeadIs s (readHead s) v) q p .0
 
-      pub kept-count : book .count ≤ 32
-      kept-count = head-parts book (head-sound s book (drop at s) head-is) .1
-
-      pub kept-on : (r : ReadKept) (z : List ℕ) → r ≡ answerOf (whole book (readAreas (book .count) 0 (drop at s))) → z ≡ leftBy (whole book (readAreas (book .count) 0 (drop at s))) bytes
-          → (r ≡ answerOf (readKept s bytes)) × (z ≡ leftBy (readKept s bytes) bytes)
+      pub kept-on : (r : ReadKept) → r ≡ answerOf (whole book (readAreas (book .count) 0 (drop at s))) → r ≡ answerOf (readKept s bytes)
       unfolding readKept
-      kept-on r z er ez =
-          let y : ltb (length bytes) 192 ≡ false = le-ltb _ _ h in
-          (rw (y, head-is) er, rw (y, head-is) ez)
+      kept-on r er = rw (has-room, head-is) er
+
+      pub left-on : (z : List ℕ) → z ≡ leftBy (whole book (readAreas (book .count) 0 (drop at s))) bytes → z ≡ leftBy (readKept s bytes) bytes
+      unfolding readKept
+      left-on z ez = rw (has-room, head-is) ez
+
+module _ (s : List ℕ) (v : Head) (p : HeadIs s (readHead s) v) (book : Book) (at : ℕ) (q : v ≡ head.Is book at) where
+  pub kept-at : at ≤ length s
+  kept-at = subst (λ v. HeadIs s (readHead s) v) q p .1
+
+  pub kept-count : book .count ≤ mostAreas
+  kept-count = head-parts book (head-sound s book (drop at s) (subst (λ v. HeadIs s (readHead s) v) q p .0)) .1

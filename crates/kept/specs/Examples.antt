@@ -3,32 +3,28 @@ use mathlib.Core.Path.{_≡_, refl}
 use mathlib.Core.List.{List, [], _∷_}
 use Prim.Native.Nat.{ℕ}
 use Rattle.answer.specs.declared.Refusal.the-variants.{Short, Form, Leftover}
-use Rattle.book.specs.Book.{headSound}
-use Rattle.book.specs.declared.Book.{Book}
+use Rattle.book.specs.Book.{noBook, headSound}
 use Rattle.groups.specs.Groups.{groups, groupsOf, groupsOfAll, size, value, readGroups}
-use Rattle.kept.specs.Kept.{keptOf, Outcome, kept, not-kept, readCount, readAiou, readHead, readAreas, bookOf}
+use Rattle.kept.specs.Kept.{keptOf, Outcome, kept, not-kept, readCount, readAiou, readHead, readAreas, behindHead}
 
-abbrev empty : Book
-empty = record { «aiou_plus_one» = 0; count = 0 }
-
-pub empty-book : keptOf empty [] ≡ 1 ∷ 0 ∷ 0 ∷ []
+pub empty-book : keptOf noBook [] ≡ 1 ∷ 0 ∷ 0 ∷ []
 unfolding keptOf groups groupsOf groupsOfAll
 empty-book = refl
 
-pub empty-read : bookOf (readHead (1 ∷ 0 ∷ 0 ∷ [])) ≡ kept empty []
+pub empty-read : behindHead (readHead (1 ∷ 0 ∷ 0 ∷ [])) ≡ kept noBook []
 unfolding readHead readAiou readCount readAreas readGroups size value headSound
 empty-read = refl
 
-pub leftover : bookOf (readHead (1 ∷ 0 ∷ 0 ∷ 0 ∷ [])) ≡ not-kept Leftover
+pub leftover : behindHead (readHead (1 ∷ 0 ∷ 0 ∷ 0 ∷ [])) ≡ not-kept Leftover
 unfolding readHead readAiou readCount readAreas readGroups size value headSound
 leftover = refl
 
 -- no area without an AIOU
-pub bare : bookOf (readHead (1 ∷ 0 ∷ 1 ∷ [])) ≡ not-kept Form
+pub bare : behindHead (readHead (1 ∷ 0 ∷ 1 ∷ [])) ≡ not-kept Form
 unfolding readHead readAiou readCount readAreas readGroups size value headSound
 bare = refl
 
 -- a count that does not end
-pub short : bookOf (readHead (1 ∷ 0 ∷ 128 ∷ [])) ≡ not-kept Short
+pub short : behindHead (readHead (1 ∷ 0 ∷ 128 ∷ [])) ≡ not-kept Short
 unfolding readHead readAiou readCount readAreas readGroups size value headSound
 short = refl

@@ -8,7 +8,8 @@ use Rattle.answer.specs.Number.{numberOf}
 use Rattle.answer.specs.declared.Refusal.{Refusal}
 use Rattle.answer.specs.declared.Refusal.the-variants.{Room, State, Form, Leftover}
 use Rattle.area.specs.Area.{sf031, isArea}
-use Rattle.book.specs.Book.{mostAreas, bookBytes, areasIn, bytesOfAll, headSound, sound}
+use Rattle.sizes.specs.Sizes.{bookBytes, keptRoom}
+use Rattle.book.specs.Book.{bookOf, areasIn, bytesOfAll, headSound, sound}
 use Rattle.book.specs.declared.Book.{Book}
 use Rattle.groups.specs.Groups.{groupsOfAll, readGroups}
 use Rattle.groups.specs.declared.Read.{Read}
@@ -18,12 +19,9 @@ use Rattle.kept.specs.declared.Written.the-variants as writing
 use Rattle.kept.specs.declared.ReadKept.{ReadKept}
 use Rattle.kept.specs.declared.ReadKept.the-variants as answering
 
--- "form number 1", and "227 bytes" of room
+-- "form number 1"
 abbrev pub form : ℕ
 form = 1
-
-abbrev pub keptRoom : ℕ
-keptRoom = 227
 
 -- "Kept book: form number 1, AIOU + 1, count, areas as numbers, ascending. Empty book: 1, 0, 0."
 unfoldable pub keptOf : Book → List ℕ → List ℕ
@@ -86,8 +84,8 @@ readAreas (suc n) least s = number s (λ a rest. stop (not (fits n least a)) For
 -- form number, AIOU + 1, count: the head of a sound book
 unfoldable pub readCount : ℕ → List ℕ → Said Book
 readCount aiou s =
-    number s (λ count s. stop (not (headSound (record { «aiou_plus_one» = aiou; count = count }))) Form
-    (said (record { «aiou_plus_one» = aiou; count = count }) s))
+    number s (λ count s. stop (not (headSound (bookOf aiou count))) Form
+    (said (bookOf aiou count) s))
 
 unfoldable pub readAiou : List ℕ → Said Book
 readAiou s = number s (λ aiou s. stop (ltb 16 aiou) Form (readCount aiou s))
@@ -105,13 +103,13 @@ whole book (said l []) = kept book l
 whole book (said l (b ∷ rest)) = not-kept Leftover
 whole book (refused r) = not-kept r
 
-abbrev pub bookOf : Said Book → Outcome
-bookOf (said book s) = whole book (readAreas (book .count) 0 s)
-bookOf (refused r) = not-kept r
+abbrev pub behindHead : Said Book → Outcome
+behindHead (said book s) = whole book (readAreas (book .count) 0 s)
+behindHead (refused r) = not-kept r
 
 -- "Reading checks ROOM, then the first fault in reading order, SHORT or FORM .., then LEFTOVER."
 unfoldable pub readKept : List ℕ → List ℕ → Outcome
-readKept s bytes = cond (ltb (length bytes) bookBytes) (not-kept Room) (bookOf (readHead s))
+readKept s bytes = cond (ltb (length bytes) bookBytes) (not-kept Room) (behindHead (readHead s))
 
 -- what `read_kept` answers, and what it leaves of the lent bytes: six bytes an area
 abbrev pub answerOf : Outcome → ReadKept

@@ -13,14 +13,15 @@ use Rattle.answer.specs.declared.Refusal.the-variants.{Room, Form}
 use Rattle.bits.specs.Bits.{Bytes}
 use Rattle.bits.specs.Laws.{bytes-drop}
 use Rattle.area.specs.Area.{sf031, isArea}
-use Rattle.book.specs.Book.{bookBytes, areasIn, headSound, sound}
+use Rattle.sizes.specs.Sizes.{bookBytes}
+use Rattle.book.specs.Book.{bookOf, areasIn, headSound, sound}
 use Rattle.book.specs.Laws.{Ascending, Areas, Sound, head-parts, sound-head, sound-lists, length-areas}
 use Rattle.book.specs.declared.Book.{Book}
 use Rattle.groups.specs.Groups.{groupsOf, groupsOfAll, readGroups}
 use Rattle.groups.specs.Laws.{read-written, written-read}
 use Rattle.groups.specs.declared.Read.{Read}
 use Rattle.groups.specs.declared.Read.the-variants as reading
-use Rattle.kept.specs.Kept.{form, keptOf, keptBytes, Said, said, refused, stop, behind, number, fits, withArea, readAreas, readCount, readAiou, readHead, Outcome, kept, not-kept, whole, bookOf, readKept}
+use Rattle.kept.specs.Kept.{form, keptOf, keptBytes, Said, said, refused, stop, behind, number, fits, withArea, readAreas, readCount, readAiou, readHead, Outcome, kept, not-kept, whole, behindHead, readKept}
 
 -- ---- written and read
 
@@ -54,8 +55,8 @@ written-reads book l bytes h e n p q =
     let parts = head-parts book e in
     let t : List ℕ = groupsOfAll l in
     let three : ℕ → List ℕ → Said Book
-    = λ count s. stop (not (headSound (record { «aiou_plus_one» = book .«aiou_plus_one»; count = count }))) Form (said (record { «aiou_plus_one» = book .«aiou_plus_one»; count = count }) s) in
-    let z : ltb (length bytes) 192 ≡ false = le-ltb _ _ h in
+    = λ count s. stop (not (headSound (bookOf (book .«aiou_plus_one») count))) Form (said (bookOf (book .«aiou_plus_one») count) s) in
+    let z : ltb (length bytes) bookBytes ≡ false = le-ltb _ _ h in
     let y : ltb 16 (book .«aiou_plus_one») ≡ false = le-ltb 16 (book .«aiou_plus_one») (parts .0) in
     let head : readHead (groupsOf 1 ++ (groupsOf (book .«aiou_plus_one») ++ (groupsOf (book .count) ++ t))) ≡ said book t
     = number-said 1 (groupsOf (book .«aiou_plus_one») ++ (groupsOf (book .count) ++ t)) (λ f s. stop (not (eqb f form)) Form (readAiou s)) (omega arith)
@@ -65,7 +66,7 @@ written-reads book l bytes h e n p q =
     ∙ ap (λ b. stop (not b) Form (said book t)) e in
     let areas : readAreas (book .count) 0 t ≡ said l []
     = ap₂ (λ n t. readAreas n 0 t) (sym n) (sym (append-nil t)) ∙ areas-read l [] 0 p q in
-    rw z (ap bookOf head ∙ ap (whole book) areas)
+    rw z (ap behindHead head ∙ ap (whole book) areas)
 
 -- so for a sound book, whatever bytes it is read into
 pub sound-reads : (book : Book) (s bytes : List ℕ) → sound book s ≡ true → Bytes s → bookBytes ≤ length bytes
@@ -121,21 +122,21 @@ count-written : (aiou : ℕ) (s : List ℕ) (book : Book) (rest : List ℕ) → 
 unfolding readCount
 count-written aiou s book rest b e =
     let k : ℕ → List ℕ → Said Book
-    = λ count s. stop (not (headSound (record { «aiou_plus_one» = aiou; count = count }))) Form (said (record { «aiou_plus_one» = aiou; count = count }) s) in
+    = λ count s. stop (not (headSound (bookOf aiou count))) Form (said (bookOf aiou count) s) in
     let g : Begins s k book rest = begins s k book rest b e in
-    go (g .x) (g .behind-it) (g .is) (g .bytes) (passed (not (headSound (record { «aiou_plus_one» = aiou; count = g .x }))) Form _ book rest (g .reads) .1)
+    go (g .x) (g .behind-it) (g .is) (g .bytes) (passed (not (headSound (bookOf aiou (g .x)))) Form _ book rest (g .reads) .1)
   where
-    go : (x : ℕ) (t : List ℕ) → s ≡ groupsOf x ++ t → Bytes t → _≡_ {A = Said Book} (said (record { «aiou_plus_one» = aiou; count = x }) t) (said book rest)
+    go : (x : ℕ) (t : List ℕ) → s ≡ groupsOf x ++ t → Bytes t → _≡_ {A = Said Book} (said (bookOf aiou x) t) (said book rest)
         → (s ≡ groupsOf (book .count) ++ rest) × (aiou ≡ book .«aiou_plus_one») × Bytes rest
     go x t is bt q =
-        let eb : _≡_ {A = Book} (record { «aiou_plus_one» = aiou; count = x }) book = cc in
+        let eb : _≡_ {A = Book} (bookOf aiou x) book = cc in
         let er : t ≡ rest = cc in
         (is ∙ ap₂ (λ n t. groupsOf n ++ t) (ap (λ (b : Book). b .count) eb) er, ap (λ (b : Book). b .«aiou_plus_one») eb, subst (λ t. Bytes t) er bt)
 
 -- What reads is, written again, the same bytes.
 pub read-writes : (s bytes : List ℕ) (book : Book) (l : List ℕ) → Bytes s → readKept s bytes ≡ kept book l → keptOf book l ≡ s
 unfolding readKept readHead readAiou keptOf groupsOfAll
-read-writes s bytes book l b e = room (ltb (length bytes) 192) e
+read-writes s bytes book l b e = room (ltb (length bytes) bookBytes) e
   where
     areas : (n : ℕ) (t : List ℕ) (o : Said (List ℕ)) → readAreas n 0 t ≡ o → Bytes t → (bk : Book) → whole bk o ≡ kept book l → (bk ≡ book) × (t ≡ groupsOfAll l)
     areas n t (said m []) p bt bk q =
@@ -145,7 +146,7 @@ read-writes s bytes book l b e = room (ltb (length bytes) 192) e
     areas n t (said m (x ∷ u)) p bt bk q = let w : _≡_ {A = ℕ} 0 1 = cc in absurd (omega arith)
     areas n t (refused r) p bt bk q = let w : _≡_ {A = ℕ} 0 1 = cc in absurd (omega arith)
 
-    found : (o : Said Book) → readHead s ≡ o → bookOf o ≡ kept book l → groupsOf 1 ++ (groupsOf (book .«aiou_plus_one») ++ (groupsOf (book .count) ++ groupsOfAll l)) ≡ s
+    found : (o : Said Book) → readHead s ≡ o → behindHead o ≡ kept book l → groupsOf 1 ++ (groupsOf (book .«aiou_plus_one») ++ (groupsOf (book .count) ++ groupsOfAll l)) ≡ s
     found (refused r) p q = let w : _≡_ {A = ℕ} 0 1 = cc in absurd (omega arith)
     found (said bk t) p q =
         let g₁ : Begins s (λ f s. stop (not (eqb f form)) Form (readAiou s)) bk t = begins s (λ f s. stop (not (eqb f form)) Form (readAiou s)) bk t b p in
@@ -159,7 +160,7 @@ read-writes s bytes book l b e = room (ltb (length bytes) 192) e
         sym (g₁ .is ∙ ap₂ (λ x u. groupsOf x ++ u) one (g₂ .is ∙ ap₂ (λ a u. groupsOf a ++ u) (c .1 ∙ ap (λ (b : Book). b .«aiou_plus_one») (f .0))
         (c .0 ∙ ap₂ (λ n u. groupsOf n ++ u) (ap (λ (b : Book). b .count) (f .0)) (f .1))))
 
-    room : (z : Bool) → cond z (not-kept Room) (bookOf (readHead s)) ≡ kept book l
+    room : (z : Bool) → cond z (not-kept Room) (behindHead (readHead s)) ≡ kept book l
         → groupsOf 1 ++ (groupsOf (book .«aiou_plus_one») ++ (groupsOf (book .count) ++ groupsOfAll l)) ≡ s
     room true q = let w : _≡_ {A = ℕ} 0 1 = cc in absurd (omega arith)
     room false q = found (readHead s) refl q

@@ -9,17 +9,21 @@ use Rattle.answer.specs.declared.Refusal.{Refusal}
 use mathlib.Core.Bool.{Bool, true, false}
 use Rattle.book.specs.Book.{bytesOfAll}
 use Rattle.book.specs.declared.Book.{Book}
-use Rattle.groups.specs.Groups.{readGroups}
+use Rattle.groups.specs.Groups.{groupsOfAll, readGroups}
 use Rattle.groups.specs.Laws.{is-read, IsRead, size-le}
 use Rattle.groups.specs.declared.Read.{Read}
 use Rattle.groups.specs.declared.Read.the-variants as reading
-use Rattle.kept.specs.Kept.{Said, said, refused, behind, number}
+use Rattle.kept.specs.Kept.{form, Said, said, refused, behind, number}
 use Rattle.kept.specs.declared.Next.{Next}
 use Rattle.kept.specs.declared.Next.the-variants as next
 use Rattle.kept.specs.declared.Head.{Head}
 use Rattle.kept.specs.declared.Head.the-variants as head
 use Rattle.kept.specs.declared.Ended.{Ended}
 use Rattle.kept.specs.declared.Ended.the-variants as ended
+
+-- what is written before the areas
+abbrev pub headBytes : Book → List ℕ
+headBytes book = groupsOfAll (form ∷ book .«aiou_plus_one» ∷ book .count ∷ [])
 
 -- the number behind `at` bytes, and where it ends
 abbrev pub nextBy : Read → ℕ → Next

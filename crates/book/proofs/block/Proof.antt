@@ -1,6 +1,5 @@
 -- `block`: the field is there.
-use native.Mathlib.Omega.{arith}
-use Rattle.book.proofs.Blocks.{read-field}
+use Rattle.book.proofs.Blocks.{block-is, block-small}
 use borrow.Author.Needs.{needs}
 use Rattle.book.proofs.block.Statement.{statement}
 use Rattle.book.proofs.block.Tie as tie
@@ -15,7 +14,7 @@ get-requires : tie.Need-get-requires
 get-requires c κs = search needs
 
 returns : tie.Need-returns
-returns c = read-field _ _ 47 _ (c .get .ensures) (omega arith) (omega arith)
+returns c = search (block-is, block-small, needs)
 
 pub block-spec : {M : Type 1} → statement M
 block-spec = tie.close (tie.spec mul-get add-get get-requires returns)

@@ -1,5 +1,5 @@
 -- `find`: the book is sound and the ID has a place among its areas, or the part is empty and at the start.
-use Rattle.book.proofs.Reading.{find-unsound, find-unsound-at, find-count, find-fits, find-none, find-none-at, find-part, find-part-at}
+use Rattle.book.proofs.Reading.{find-unsound, find-unsound-at, find-fits, find-at, find-end, find-inside, find-none, find-none-at, find-part, find-part-at}
 use borrow.Author.Needs.{needs}
 use Rattle.book.proofs.find.Statement.{statement}
 use Rattle.book.proofs.find.Tie as tie
@@ -23,10 +23,10 @@ returns-2 : tie.Need-returns-2
 returns-2 c = search (find-none, find-none-at, needs)
 
 mul-at : tie.Need-mul-at
-mul-at c = let n = find-count _ _ _ (c .before .before .before .is-sound .ensures) (c .before .before .if1 .left) in search needs
+mul-at c = record { fits = search (find-at, needs) }
 
 add-end : tie.Need-add-end
-add-end c = let n = find-count _ _ _ (c .before .before .before .is-sound .ensures) (c .before .before .if1 .left) in search needs
+add-end c = record { fits = search (find-end, needs) }
 
 sub-result : tie.Need-sub-result
 sub-result c = search needs
@@ -35,7 +35,7 @@ part-result-start : tie.Need-part-result-start
 part-result-start c = search needs
 
 part-result-end : tie.Need-part-result-end
-part-result-end c = let n = find-fits _ _ _ (c .before .before .before .is-sound .ensures) (c .before .before .if1 .left) in search needs
+part-result-end c = search (find-inside, needs)
 
 returns-3 : tie.Need-returns-3
 returns-3 c = search (find-part, find-part-at, needs)

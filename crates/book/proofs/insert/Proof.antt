@@ -1,7 +1,5 @@
 -- `insert`: the areas put down, and those that the carried one and the rest will be, are those of the book with the new one (Taking.antt).
-use mathlib.Core.Path.{_∙_}
 use Prim.Native.Nat.{_-_}
-use native.Mathlib.Omega.{arith}
 use Rattle.book.proofs.Taking.{Inserting, insert-start, insert-length, insert-end, insert-down, insert-keep}
 use borrow.Author.Needs.{needs}
 use Rattle.book.proofs.insert.Statement.{statement}
@@ -59,9 +57,7 @@ put-at-requires-2 : tie.Need-put-at-requires-2 Inv-loop μ-loop
 put-at-requires-2 c κs = search needs
 
 same-length : tie.Need-same-length Inv-loop μ-loop
-same-length c = let k = c .before .before in
-    let t = k .before .before in
-    k .put-at2 .kept .0 ∙ insert-length _ _ _ _ _ _ (t .before .before .before .pre .0) (t .before .before .before .pre .2) (t .before .loop .inv)
+same-length c = search (insert-length, needs)
 
 returns : tie.Need-returns Inv-loop μ-loop
 returns c = search (insert-end, needs)

@@ -1,7 +1,6 @@
 -- `insert_all`: the areas held so far lie in the bytes, and the blocks that are left are taken from them (Taking.antt).
 use Prim.Native.Nat.{_-_}
-use native.Mathlib.Omega.{arith}
-use Rattle.book.proofs.Taking.{Filling, fill-start, fill-length, fill-image, fill-end, fill-held, fill-room, fill-new}
+use Rattle.book.proofs.Taking.{Filling, fill-start, fill-length, fill-fits, fill-image, fill-end, fill-held, fill-room, fill-more, fill-new}
 use borrow.Author.Needs.{needs}
 use Rattle.book.proofs.insert_all.Statement.{statement}
 use Rattle.book.proofs.insert_all.Tie as tie
@@ -25,9 +24,7 @@ id-requires : tie.Need-id-requires Inv-loop μ-loop
 id-requires c κs = search needs
 
 look-requires : tie.Need-look-requires Inv-loop μ-loop
-look-requires c κs = let l = c .before .before .before .before in
-    let s = l .before .before .before .before in
-    let e = fill-length _ _ _ _ _ _ _ (s .pre .0 .2) (l .loop .inv) in omega arith
+look-requires c κs = search (fill-fits, needs)
 
 enum-told : tie.Need-enum-told Inv-loop μ-loop
 enum-told c = search needs
@@ -45,14 +42,8 @@ enum-told-2 : tie.Need-enum-told-2 Inv-loop μ-loop
 enum-told-2 c = search needs
 
 insert-requires : tie.Need-insert-requires Inv-loop μ-loop
-insert-requires c κs = let k = c .before .before .before in
-    let t = k .before .before .before .before in
-    let l = t .before in
-    let s = l .before .before .before .before in
-    let b = k .before .before .before .block .ensures in
-    let e = fill-length _ _ _ _ _ _ _ (s .pre .0 .2) (l .loop .inv) in
-    let r = fill-room _ _ _ _ _ _ _ (s .pre .0 .2) (l .loop .inv) (t .loop-test .taken) _ (b .0) _ (k .before .id .ensures) _ (k .look .ensures) (c .before .enum-told2 .given .1) in
-    (fill-image _ _ _ _ _ _ _ (s .pre .0 .2) (l .loop .inv), r, omega arith, b .1)
+insert-requires c κs =
+    (search (fill-image, needs), search (fill-room, needs), search (fill-more, needs), search needs)
 
 add-held : tie.Need-add-held Inv-loop μ-loop
 add-held c = search needs
@@ -67,12 +58,10 @@ loop-again-2 : tie.Need-loop-again-2 Inv-loop μ-loop
 loop-again-2 c = search (fill-new, needs)
 
 same-length : tie.Need-same-length Inv-loop μ-loop
-same-length c = let s = c .before .before .before .before .before in
-    fill-length _ _ _ _ _ _ _ (s .pre .0 .2) (c .before .loop .inv)
+same-length c = search (fill-length, needs)
 
 returns : tie.Need-returns Inv-loop μ-loop
-returns c = let s = c .before .before .before .before .before in
-    fill-end _ _ _ _ _ _ _ (s .pre .0 .2) (c .before .loop .inv) (c .loop-test .left)
+returns c = search (fill-end, needs)
 
 pub insert-all-spec : {M : Type 1} → statement M
 insert-all-spec =

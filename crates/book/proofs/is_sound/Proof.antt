@@ -1,6 +1,5 @@
 -- `is_sound`: the tests are those of `sound`, in its order.
-use native.Mathlib.Omega.{arith}
-use Rattle.book.proofs.Reading.{sound-short, sound-bare, head-count, sound-rest}
+use Rattle.book.proofs.Reading.{sound-short, sound-bare, head-fits, head-few, sound-rest}
 use borrow.Author.Needs.{needs}
 use Rattle.book.proofs.is_sound.Statement.{statement}
 use Rattle.book.proofs.is_sound.Tie as tie
@@ -15,7 +14,7 @@ returns-2 : tie.Need-returns-2
 returns-2 c = search (sound-bare, needs)
 
 areas-are-sound-requires : tie.Need-areas-are-sound-requires
-areas-are-sound-requires c κs = let n = head-count _ _ (c .before .head-is-sound .ensures) (c .if2 .left) in omega arith
+areas-are-sound-requires c κs = search (head-fits, head-few, needs)
 
 returns-3 : tie.Need-returns-3
 returns-3 c = search (sound-rest, needs)

@@ -1,5 +1,4 @@
 -- `take_blocks`: a message that is judged taken is put into its places (Taking.antt).
-use Rattle.bits.specs.Bits.{Bytes}
 use Rattle.book.proofs.Taking.{count-few, count-fits, count-image, is-taken, take-refused, left-refused, take-held, left-held}
 use borrow.Author.Needs.{needs}
 use Rattle.book.proofs.take_blocks.Statement.{statement}
@@ -21,10 +20,10 @@ enum-known-held : tie.Need-enum-known-held
 enum-known-held c = search needs
 
 insert-all-requires : tie.Need-insert-all-requires
-insert-all-requires c κs =
-    let u = c .before .before .before .before .before .before in
-    let y : Bytes (u .before .before .before .before .args .bytes .now) = record { byte = λ j. u .before .before .before .slice-known .given j .fits } in
-    search (count-image, count-few, is-taken, needs)
+insert-all-requires c κs = search (count-image, count-few, is-taken, needs)
+
+book-of-requires : tie.Need-book-of-requires
+book-of-requires c κs = search needs
 
 same-length : tie.Need-same-length
 same-length c = search needs
@@ -48,6 +47,7 @@ take-blocks-spec =
     enum-known-refusal
     enum-known-held
     insert-all-requires
+    book-of-requires
     same-length
     returns
     same-length-2

@@ -1,8 +1,7 @@
 -- `put_areas`: the areas passed are laid one behind the other.
 use Prim.Native.Nat.{_-_}
-use native.Mathlib.Omega.{arith}
 use Rattle.book.specs.Book.{areasIn}
-use Rattle.kept.proofs.Putting.{Laying, lay-start, lay-length, lay-room, lay-turn, lay-end}
+use Rattle.kept.proofs.Putting.{Laying, lay-start, lay-length, lay-room, lay-turn, lay-count, lay-end}
 use borrow.Author.Needs.{needs}
 use Rattle.kept.proofs.put_areas.Statement.{statement}
 use Rattle.kept.proofs.put_areas.Tie as tie
@@ -23,10 +22,7 @@ number-at-requires : tie.Need-number-at-requires Inv-loop μ-loop
 number-at-requires c κs = search needs
 
 put-number-requires : tie.Need-put-number-requires Inv-loop μ-loop
-put-number-requires c κs = let t = c .before .before in
-    let l = t .before in
-    let w = l .before .before .before in
-    lay-room _ _ _ _ _ _ _ (w .pre .0) (w .pre .1) (w .pre .3) (l .loop .inv) (t .loop-test .taken) _ (c .before .number-at .ensures)
+put-number-requires c κs = search (lay-room, needs)
 
 add-i : tie.Need-add-i Inv-loop μ-loop
 add-i c = search needs
@@ -38,12 +34,10 @@ loop-again : tie.Need-loop-again Inv-loop μ-loop
 loop-again c = search (lay-turn, needs)
 
 same-length : tie.Need-same-length Inv-loop μ-loop
-same-length c = let w = c .before .before .before .before in
-    lay-length _ _ _ _ _ _ _ (w .pre .0) (w .pre .1) (w .pre .3) (c .before .loop .inv)
+same-length c = search (lay-length, needs)
 
 returns : tie.Need-returns Inv-loop μ-loop
-returns c = let w = c .before .before .before .before in
-    lay-end _ _ _ _ _ _ _ (w .pre .0) (w .pre .1) (w .pre .3) (c .before .loop .inv) (c .loop-test .left)
+returns c = (search (lay-count, needs), search (lay-end, needs))
 
 pub put-areas-spec : {M : Type 1} → statement M
 put-areas-spec =

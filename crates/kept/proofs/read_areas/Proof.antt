@@ -1,6 +1,5 @@
 -- `read_areas`: the areas are judged, then LEFTOVER, and only then stored (Walking.antt).
-use native.Mathlib.Omega.{arith}
-use Rattle.kept.proofs.Walking.{areas-refused, areas-said, areas-left, areas-whole}
+use Rattle.kept.proofs.Walking.{areas-refused, left-refused, areas-said, areas-left, left-over, areas-whole, left-whole}
 use borrow.Author.Needs.{needs}
 use Rattle.kept.proofs.read_areas.Statement.{statement}
 use Rattle.kept.proofs.read_areas.Tie as tie
@@ -15,34 +14,19 @@ enum-known-end : tie.Need-enum-known-end
 enum-known-end c = search needs
 
 returns : tie.Need-returns
-returns c = let d = c .before .before in
-    let v = d .before .before in
-    let w = v .before .before .before in
-    areas-left (w .args .kept .now) _ (w .args .book) (w .args .at) _ (v .judge-areas .ensures) _ (d .end .given .1) (c .if1 .taken)
+returns c = (search (areas-left, needs), search (left-over, needs))
 
 store-areas-requires : tie.Need-store-areas-requires
-store-areas-requires c κs = let e = c .before in
-    let d = e .before .before in
-    let v = d .before .before in
-    let w = v .before .before .before in
-    (w .pre .0, w .pre .1, omega arith, areas-said (w .args .kept .now) (w .args .bytes .now) (w .args .book) (w .args .at) _ (v .judge-areas .ensures) _ (d .end .given .1))
+store-areas-requires c κs = (search needs, search needs, search needs, search (areas-said, needs))
 
 returns-2 : tie.Need-returns-2
-returns-2 c = let d = c .before in
-    let v = d .before .before in
-    let w = v .before .before .before in
-    areas-refused (w .args .kept .now) _ (w .args .book) (w .args .at) _ (v .judge-areas .ensures) _ (d .refusal .given .1)
+returns-2 c = (search (areas-refused, needs), search (left-refused, needs))
 
 same-length : tie.Need-same-length
 same-length c = search needs
 
 returns-3 : tie.Need-returns-3
-returns-3 c = let s = c .before .before in
-    let e = s .before .before in
-    let d = e .before .before in
-    let v = d .before .before in
-    let w = v .before .before .before in
-    areas-whole (w .args .kept .now) (w .args .bytes .now) (w .args .book) (w .args .at) _ (v .judge-areas .ensures) _ (d .end .given .1) (e .if1 .left) _ (s .store-areas .ensures)
+returns-3 c = (search (areas-whole, needs), search (left-whole, needs))
 
 pub read-areas-spec : {M : Type 1} → statement M
 read-areas-spec =

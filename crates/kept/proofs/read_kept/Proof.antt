@@ -1,11 +1,11 @@
 -- `read_kept`: ROOM, the head, and then the areas.
-use Rattle.kept.proofs.Walking.{kept-room, kept-refused, kept-at, kept-count, kept-on}
+use Rattle.kept.proofs.Walking.{kept-room, left-room, kept-refused, left-head, kept-at, kept-count, kept-on, left-on}
 use borrow.Author.Needs.{needs}
 use Rattle.kept.proofs.read_kept.Statement.{statement}
 use Rattle.kept.proofs.read_kept.Tie as tie
 
 returns : tie.Need-returns
-returns c = kept-room _ _ (c .if1 .taken)
+returns c = (search (kept-room, needs), search (left-room, needs))
 
 read-head-requires : tie.Need-read-head-requires
 read-head-requires c κs = search needs
@@ -17,32 +17,16 @@ enum-known-book : tie.Need-enum-known-book
 enum-known-book c = search needs
 
 read-areas-requires : tie.Need-read-areas-requires
-read-areas-requires c κs = let d = c .before .before in
-    let v = d .before .before in
-    let e = v .before in
-    let w = e .before .before .before in (
-      kept-at (w .args .kept .now) (w .args .bytes .now) (e .if1 .left) _ (v .read-head .ensures) _ _ (d .book .given .1),
-      kept-count (w .args .kept .now) (w .args .bytes .now) (e .if1 .left) _ (v .read-head .ensures) _ _ (d .book .given .1),
-      e .if1 .left,
-    )
+read-areas-requires c κs = (search (kept-at, needs), search (kept-count, needs), search needs)
 
 returns-2 : tie.Need-returns-2
-returns-2 c = let d = c .before in
-    let v = d .before .before in
-    let e = v .before in
-    let w = e .before .before .before in
-    kept-refused (w .args .kept .now) (w .args .bytes .now) (e .if1 .left) _ (v .read-head .ensures) _ (d .refusal .given .1)
+returns-2 c = (search (kept-refused, needs), search (left-head, needs))
 
 same-length : tie.Need-same-length
 same-length c = search needs
 
 returns-3 : tie.Need-returns-3
-returns-3 c = let a = c .before .before in
-    let d = a .before .before .before in
-    let v = d .before .before in
-    let e = v .before in
-    let w = e .before .before .before in
-    kept-on (w .args .kept .now) (w .args .bytes .now) (e .if1 .left) _ (v .read-head .ensures) _ _ (d .book .given .1) _ _ (a .read-areas .ensures .0) (a .read-areas .ensures .1)
+returns-3 c = (search (kept-on, needs), search (left-on, needs))
 
 pub read-kept-spec : {M : Type 1} → statement M
 read-kept-spec =

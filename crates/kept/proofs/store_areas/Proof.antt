@@ -1,6 +1,5 @@
 -- `store_areas`: the areas before the i-th lie in the bytes, and the others are to be read; none of them is refused (Walking.antt).
 use Prim.Native.Nat.{_-_}
-use native.Mathlib.Omega.{arith}
 use Rattle.kept.proofs.Walking.{Storing, store-start, store-length, store-end, store-never, store-turn}
 use borrow.Author.Needs.{needs}
 use Rattle.kept.proofs.store_areas.Statement.{statement}
@@ -25,10 +24,7 @@ same-length : tie.Need-same-length Inv-loop μ-loop
 same-length c = search (store-length, needs)
 
 returns : tie.Need-returns Inv-loop μ-loop
-returns c = let v = c .before .before in
-    let t = v .before in
-    let w = t .before .before .before .before in
-    absurd (store-never _ _ _ _ _ _ _ (w .pre .2) (t .before .loop .inv) (t .loop-test .taken) _ (v .number-behind .ensures) _ (c .enum-told .given .1))
+returns c = search (store-never, needs)
 
 enum-known-area : tie.Need-enum-known-area Inv-loop μ-loop
 enum-known-area c = search needs
