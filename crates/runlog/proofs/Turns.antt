@@ -1,11 +1,12 @@
 -- A call and a finish on a tray and a desk that are prepared, in plain values: they stay prepared, and each event told is one of those that are left to tell.
 use mathlib.Core.Path.{_≡_, refl, sym, ap, _∙_, subst}
 use mathlib.Core.List.{List, [], _∷_, _++_}
-use mathlib.Core.Bool.{Bool, true, false}
+use mathlib.Core.Bool.{Bool, true, false, not}
+use borrow.Author.Tests.{not-false}
 use Prim.Native.Nat.{ℕ, _+_, _-_, _≤_, _<_, _^_}
 use native.Mathlib.Omega.{arith}
 use lib.ListN.{length, take, drop, replicate, length-drop, length-append, length-replicate}
-use lib.Seq.{take-all, drop-drop}
+use lib.Seq.{take-all, drop-drop, length-take-le}
 use Rattle.stream.specs.declared.Tray.{Tray}
 use Rattle.stream.specs.Scan.{Event}
 use Rattle.stream.specs.Tray as stream
@@ -18,7 +19,7 @@ use Rattle.desk.specs.declared.Desk.{Desk}
 use Rattle.desk.specs.declared.NewDesk.{NewDesk}
 use Rattle.desk.specs.declared.NewDesk.the-variants.{Made}
 use Rattle.desk.specs.Desk.{newDesk}
-use Rattle.desk.specs.Take.{logRoom}
+use Rattle.sizes.specs.Sizes.{longestFrame, bookBytes, logRoom}
 use Rattle.desk.specs.History.{Held}
 use Rattle.prepare.specs.declared.Answer.{Answer}
 use Rattle.prepare.specs.Uncut.{toldOf, entriesOf}
@@ -28,7 +29,7 @@ use Rattle.prepare.specs.Steps.{guarded-is, back, itself, Hears}
 use Rattle.prepare.specs.Stays.{sound-after}
 use Rattle.prepare.specs.Theorems as theorems
 use Rattle.runlog.specs.declared.hearing.Heard.{Heard}
-use Rattle.runlog.specs.Events.{isEvent, Prepared, IsNew}
+use Rattle.runlog.specs.Events.{isEvent, heardOf, countedFrom, Prepared, Hearing, Within, Step, IsNew, toTell, lastToTell}
 
 -- ---- of any outcome: the desk is that of the books, which stay sound; the entries are in the log; and an event is one that the stream tells
 
@@ -84,15 +85,9 @@ module _ (bytes live run log : List ℕ) (tray : Tray) (desk : Desk) (p : Prepar
   event : Good o′ → isEvent (a .said) ≡ true → (e : Event) × Hears bytes tray o′ e
   event g n = the-event tray (booksIn desk live run) bytes o′ g (rw (ea, q) at n)
 
--- what a call or a finish leaves, with so many events to tell before and after it
-pub record Step (before : ℕ) (bytes live run log : List ℕ) (a : Answer) (after : ℕ) : Type 0 where
-  pub prepared : Prepared bytes (a .tray) (a .desk) live run log
-  pub log-in : a .log ≤ length log
-  pub fewer : isEvent (a .said) ≡ true → after < before
-
 -- ---- a call on the rest of a portion
 
-module _ (bytes live run log portion : List ℕ) (tray : Tray) (desk : Desk) (used : ℕ) (p : Prepared bytes tray desk live run log) (inside : used ≤ length portion)
+module _ (bytes live run log portion : List ℕ) (tray : Tray) (desk : Desk) (used : ℕ) (h : Hearing bytes tray desk live run log used (length portion))
     (bytes′ live′ run′ log′ : List ℕ) (a : Answer) where
   abbrev input : List ℕ
   input = take (length portion - used) (drop used portion)
@@ -102,35 +97,57 @@ module _ (bytes live run log portion : List ℕ) (tray : Tray) (desk : Desk) (us
 
   call-is : callOutcome bytes tray (booksIn desk live run) log input ≡ stream.called bytes tray input
   unfolding callOutcome
-  call-is = guarded-is bytes tray (booksIn desk live run) log (stream.called bytes tray input) (p .tray-ready) (p .books-sound) (p .log-room)
+  call-is = guarded-is bytes tray (booksIn desk live run) log (stream.called bytes tray input) (h .prepared .tray-ready) (h .prepared .books-sound) (h .prepared .log-room)
 
   module _ (ea : a ≡ callAnswer bytes tray desk live run log input) (eb : bytes′ ≡ callBytes bytes tray desk live run log input)
       (el : live′ ≡ callLive bytes tray desk live run log input) (er : run′ ≡ callRun bytes tray desk live run log input)
       (eg : log′ ≡ callLog bytes tray desk live run log input) where
     abbrev of-call : (R : List ℕ → Tray → ℕ → Type 0)
         → R (stream.callBytes bytes tray input) (stream.callAnswer bytes tray input .tray) (stream.callAnswer bytes tray input .used) → R bytes′ (a .tray) (a .used)
-    of-call = along bytes live run log tray desk p _ _ call-is bytes′ live′ run′ log′ a ea eb el er eg
+    of-call = along bytes live run log tray desk (h .prepared) _ _ call-is bytes′ live′ run′ log′ a ea eb el er eg
 
     call-fewer : isEvent (a .said) ≡ true → length (left bytes′ (a .tray) (drop (used + a .used) portion)) < length (left bytes tray (drop used portion))
     call-fewer n =
-        let w = event bytes live run log tray desk p _ _ call-is bytes′ live′ run′ log′ a ea eb el er eg (call-kept bytes tray input (p .tray-ready)) n in
-        let l = ap length (call-event (p .tray-ready) input (w .0) (w .1)) in
+        let w = event bytes live run log tray desk (h .prepared) _ _ call-is bytes′ live′ run′ log′ a ea eb el er eg (call-kept bytes tray input (h .prepared .tray-ready)) n in
+        let l = ap length (call-event (h .prepared .tray-ready) input (w .0) (w .1)) in
         let x : length (left bytes′ (a .tray) (drop (a .used) input)) < length (left bytes tray input)
         = of-call (λ b t u. length (left b t (drop u input)) < length (left bytes tray input)) (omega arith) in
         rw (← drop-drop (a .used) used portion) (rw rest at x)
 
-    pub call-inside : used + a .used ≤ length portion
-    call-inside =
+    inside′ : used + a .used ≤ length portion
+    inside′ =
         let u : a .used ≤ length input = of-call (λ b t u. u ≤ length input) (call-used bytes tray input) in
+        let i = h .within .inside in
         omega (arith, ap length rest, length-drop used portion)
 
+    pub call-within : Within (used + a .used) (length portion)
+    call-within = record { inside = inside′; fits = h .within .fits }
+
+    pub call-fits : a .log ≤ length log′
+    call-fits = entries-fit bytes live run log tray desk (h .prepared) _ _ call-is bytes′ live′ run′ log′ a ea eb el er eg
+
     pub call-step : length log′ ≡ length log
-        → Step (length (left bytes tray (drop used portion))) bytes′ live′ run′ log′ a (length (left bytes′ (a .tray) (drop (used + a .used) portion)))
+        → Step (toTell bytes tray used portion) bytes′ (a .tray) (a .desk) live′ run′ log′ (isEvent (a .said))
+        (toTell bytes′ (a .tray) (used + a .used) portion)
     call-step l = record {
-      prepared = stays bytes live run log tray desk p _ _ call-is bytes′ live′ run′ log′ a ea eb el er eg (call-sound (p .tray-ready) input) l;
-      log-in = entries-fit bytes live run log tray desk p _ _ call-is bytes′ live′ run′ log′ a ea eb el er eg;
+      prepared =
+          stays bytes live run log tray desk (h .prepared) _ _ call-is bytes′ live′ run′ log′ a ea eb el er eg
+          (call-sound (h .prepared .tray-ready) input) l;
       fewer = call-fewer;
     }
+
+-- with the bytes used of the whole portion
+module _ (used : ℕ) (a r : Answer) (e : r ≡ countedFrom used a) where
+  pub counted-step : (before : ℕ) (bytes live run log portion : List ℕ)
+      → Step before bytes (a .tray) (a .desk) live run log (isEvent (a .said)) (toTell bytes (a .tray) (used + a .used) portion)
+      → Step before bytes (r .tray) (r .desk) live run log (isEvent (r .said)) (toTell bytes (r .tray) (r .used) portion)
+  counted-step before bytes live run log portion s = rw e s
+
+  pub counted-log : (room : ℕ) → a .log ≤ room → r .log ≤ room
+  counted-log room h = rw e h
+
+  pub counted-used : (room : ℕ) → Within (used + a .used) room → Within (r .used) room
+  counted-used room w = rw e w
 
 -- ---- a finish
 
@@ -149,21 +166,81 @@ module _ (bytes live run log : List ℕ) (tray : Tray) (desk : Desk) (p : Prepar
         along bytes live run log tray desk p _ _ finish-is bytes′ live′ run′ log′ a ea eb el er eg
         (λ b t u. length (left b t []) < length (left bytes tray [])) (omega arith)
 
-    pub finish-step : length log′ ≡ length log → Step (length (left bytes tray [])) bytes′ live′ run′ log′ a (length (left bytes′ (a .tray) []))
+    pub finish-fits : a .log ≤ length log′
+    finish-fits = entries-fit bytes live run log tray desk p _ _ finish-is bytes′ live′ run′ log′ a ea eb el er eg
+
+    pub finish-step : length log′ ≡ length log
+        → Step (lastToTell bytes tray) bytes′ (a .tray) (a .desk) live′ run′ log′ (isEvent (a .said)) (lastToTell bytes′ (a .tray))
     finish-step l = record {
       prepared = stays bytes live run log tray desk p _ _ finish-is bytes′ live′ run′ log′ a ea eb el er eg (finish-sound (p .tray-ready)) l;
-      log-in = entries-fit bytes live run log tray desk p _ _ finish-is bytes′ live′ run′ log′ a ea eb el er eg;
       fewer = finish-fewer;
     }
 
--- ---- the buffers keep their lengths from turn to turn
+-- ---- an answer that is told
 
-pub record Kept (bytes₀ live₀ run₀ log₀ out₀ bytes live run log out : List ℕ) : Type 0 where
+pub front : (n : ℕ) (s : List ℕ) → n ≤ length s → n ≡ length (take n s)
+front n s h = sym (length-take-le n s h)
+
+pub told-is : (a : Answer) (at : ℕ) (more : Bool) → more ≡ isEvent (a .said)
+    → record { tray = a .tray; desk = a .desk; used = a .used; at = at; more = more } ≡ heardOf a at
+told-is a at more e = rw e
+
+module _ (before : ℕ) (bytes live run log : List ℕ) (a : Answer) (at : ℕ) (heard : Heard) (e : heard ≡ heardOf a at) where
+  pub call-told : (portion : List ℕ)
+      → Step before bytes (a .tray) (a .desk) live run log (isEvent (a .said)) (toTell bytes (a .tray) (a .used) portion)
+      → Step before bytes (heard .tray) (heard .desk) live run log (heard .more) (toTell bytes (heard .tray) (heard .used) portion)
+  call-told portion s = rw e s
+
+  pub finish-told : Step before bytes (a .tray) (a .desk) live run log (isEvent (a .said)) (lastToTell bytes (a .tray))
+      → Step before bytes (heard .tray) (heard .desk) live run log (heard .more) (lastToTell bytes (heard .tray))
+  finish-told s = rw e s
+
+pub used-told : (room : ℕ) (a : Answer) (at : ℕ) (heard : Heard) → heard ≡ heardOf a at → Within (a .used) room → Within (heard .used) room
+used-told room a at heard e u = rw e u
+
+-- ---- from turn to turn something holds, and the buffers keep their lengths
+
+pub record Turning (Holds : Type 0) (bytes₀ live₀ run₀ log₀ out₀ bytes live run log out : List ℕ) : Type 0 where
+  pub holds : Holds
   pub same-bytes : length bytes ≡ length bytes₀
   pub same-live : length live ≡ length live₀
   pub same-run : length run ≡ length run₀
   pub same-log : length log ≡ length log₀
   pub same-out : length out ≡ length out₀
+
+pub first-turn : {Holds : Type 0} (bytes live run log out : List ℕ) → Holds → Turning Holds bytes live run log out bytes live run log out
+first-turn bytes live run log out h = record { holds = h; same-bytes = refl; same-live = refl; same-run = refl; same-log = refl; same-out = refl }
+
+-- after a call, a finish or a read, which leave the buffers as long as they were
+module _ (bytes₀ live₀ run₀ log₀ out₀ bytes live run log out bytes′ live′ run′ log′ out′ : List ℕ) (Held : Type 0)
+    (t : Turning Held bytes₀ live₀ run₀ log₀ out₀ bytes live run log out) (b : length bytes′ ≡ length bytes) (l : length live′ ≡ length live)
+    (r : length run′ ≡ length run) (g : length log′ ≡ length log) (o : length out′ ≡ length out) where
+  next-turn : {Holds : Type 0} → Holds → Turning Holds bytes₀ live₀ run₀ log₀ out₀ bytes′ live′ run′ log′ out′
+  next-turn h = record {
+    holds = h;
+    same-bytes = b ∙ t .same-bytes;
+    same-live = l ∙ t .same-live;
+    same-run = r ∙ t .same-run;
+    same-log = g ∙ t .same-log;
+    same-out = o ∙ t .same-out;
+  }
+
+  pub after-read : (tray : Tray) (desk : Desk) → Prepared bytes′ tray desk live′ run′ log′
+      → Turning (Prepared bytes′ tray desk live′ run′ log′) bytes₀ live₀ run₀ log₀ out₀ bytes′ live′ run′ log′ out′
+  after-read tray desk p = next-turn p
+
+  module _ (tray : Tray) (desk : Desk) (before : ℕ) (more : Bool) (after : ℕ) (s : Step before bytes′ tray desk live′ run′ log′ more after) where
+    pub after-call : (used room : ℕ) → Within used room
+        → Turning (Hearing bytes′ tray desk live′ run′ log′ used room) bytes₀ live₀ run₀ log₀ out₀ bytes′ live′ run′ log′ out′
+    after-call used room w = next-turn (record { prepared = s .prepared; within = w })
+
+    pub after-finish : Turning (Prepared bytes′ tray desk live′ run′ log′) bytes₀ live₀ run₀ log₀ out₀ bytes′ live′ run′ log′ out′
+    after-finish = next-turn (s .prepared)
+
+-- there is more, so an event was told
+pub fewer-left : (before : ℕ) (bytes : List ℕ) (tray : Tray) (desk : Desk) (live run log : List ℕ) (more : Bool) (after : ℕ)
+    → Step before bytes tray desk live run log more after → not more ≡ false → after < before
+fewer-left before bytes tray desk live run log more after s n = s .fewer (not-false more n)
 
 -- ---- between two portions, and at the start
 
@@ -171,15 +248,13 @@ module _ (heard r : Heard) (at : ℕ) (more : Bool) (e : r ≡ record { tray = h
   pub turned-prepared : {bytes live run log : List ℕ} → Prepared bytes (heard .tray) (heard .desk) live run log → Prepared bytes (r .tray) (r .desk) live run log
   turned-prepared p = rw e p
 
-  pub turned-used : (n : ℕ) → r .used ≤ n
-  turned-used n = rw e (omega arith)
+  pub turned-hearing : {bytes live run log : List ℕ} (room : ℕ) → room < 2 ^ 64
+      → Prepared bytes (heard .tray) (heard .desk) live run log → Hearing bytes (r .tray) (r .desk) live run log (r .used) room
+  turned-hearing room w p = rw e (record { prepared = p; within = record { inside = omega arith; fits = w } })
 
-pub start-prepared : {bytes live run log : List ℕ} {tray : Tray} {desk : Desk} → tray ≡ stream.freshTray
-    → Prepared bytes stream.freshTray desk live run log → Prepared bytes tray desk live run log
-start-prepared e p = rw e p
-
-pub one-less : (n : ℕ) → 0 < n → n - 1 < n
-one-less n h = omega arith
+pub start-prepared : (bytes live run log : List ℕ) (desk : Desk) (r : Heard) → r ≡ record { tray = stream.freshTray; desk = desk; used = 0; at = 0; more = true }
+    → Prepared bytes stream.freshTray desk live run log → Prepared bytes (r .tray) (r .desk) live run log
+start-prepared bytes live run log desk r e p = rw e p
 
 -- ---- a new desk, with the buffers that the program lends
 
@@ -187,12 +262,13 @@ pub is-new : (solution processor constellation : ℕ) (answer : NewDesk) (desk :
 is-new solution processor constellation answer desk e q =
     record { solution = solution; processor = processor; constellation = constellation; is-made = sym e ∙ q }
 
-pub new-prepared : (desk : Desk) (log : List ℕ) → IsNew desk → 4096 ≡ length log
-    → Prepared (replicate 1103 0) stream.freshTray desk (replicate 192 0) (replicate 192 0) log
+pub new-prepared : (desk : Desk) (log : List ℕ) → IsNew desk → logRoom ≡ length log
+    → Prepared (replicate longestFrame 0) stream.freshTray desk (replicate bookBytes 0) (replicate bookBytes 0) log
 new-prepared desk log n h =
-    let room : 192 ≤ length (replicate {A = ℕ} 192 0) = omega (arith, length-replicate {A = ℕ} 192 0) in
+    let room : bookBytes ≤ length (replicate {A = ℕ} bookBytes 0) = omega (arith, length-replicate {A = ℕ} bookBytes 0) in
     record {
-      tray-ready = fresh-sound (zeros-clear 1103 (omega arith));
-      books-sound = theorems.fresh-sound (n .solution) (n .processor) (n .constellation) desk (n .is-made) (replicate 192 0) (replicate 192 0) room room;
+      tray-ready = fresh-sound (zeros-clear longestFrame (omega arith));
+      books-sound =
+          theorems.fresh-sound (n .solution) (n .processor) (n .constellation) desk (n .is-made) (replicate bookBytes 0) (replicate bookBytes 0) room room;
       log-room = omega arith;
     }
