@@ -6,6 +6,7 @@ ghost use Rattle.frame.specs.Check.{checked};
 ghost use Rattle.frame.specs.Write.{written, outAfter};
 ghost use Rattle.export.specs.Numbers.{roomFor, laid, answered, lentAfter};
 ghost use Rattle.export.specs.Frames.{headerRoom, isSealed, sealingOf, headerOf, toldChecked, partsOf, toldWritten};
+use crate::numbers::ROOM;
 use crate::numbers::count;
 use crate::numbers::put;
 use crate::numbers::wide;
@@ -16,11 +17,8 @@ use frame::Seal;
 use frame::Sealing;
 use frame::Written;
 
-// The number of ROOM.
-const ROOM: u8 = 9;
-
 // The numbers that a header takes.
-const HEADER: usize = 15;
+pub const HEADER: usize = 15;
 
 fn is_sealed(seal: Seal) -> u64
     ensures { λ r. ⌜ r ≡ isSealed seal ⌝ }

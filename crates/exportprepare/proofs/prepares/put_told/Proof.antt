@@ -1,8 +1,8 @@
 -- The five numbers of an event.
-use Rattle.exportdesk.proofs.Prepared.{told-put}
+use Rattle.exportprepare.proofs.Prepared.{told-put}
 use borrow.Author.Needs.{needs}
-use Rattle.exportdesk.proofs.prepares.put_told.Statement.{statement}
-use Rattle.exportdesk.proofs.prepares.put_told.Tie as tie
+use Rattle.exportprepare.proofs.prepares.put_told.Statement.{statement}
+use Rattle.exportprepare.proofs.prepares.put_told.Tie as tie
 
 count-requires : tie.Need-count-requires
 count-requires c κs = search needs

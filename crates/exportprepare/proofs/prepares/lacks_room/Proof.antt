@@ -1,8 +1,8 @@
 -- A slice under its size, the first that is.
-use Rattle.exportdesk.proofs.Prepared.{room-tray, room-desk, room-told, room-header}
+use Rattle.exportprepare.proofs.Prepared.{room-tray, room-desk, room-told, room-header}
 use borrow.Author.Needs.{needs}
-use Rattle.exportdesk.proofs.prepares.lacks_room.Statement.{statement}
-use Rattle.exportdesk.proofs.prepares.lacks_room.Tie as tie
+use Rattle.exportprepare.proofs.prepares.lacks_room.Statement.{statement}
+use Rattle.exportprepare.proofs.prepares.lacks_room.Tie as tie
 
 returns : tie.Need-returns
 returns c = search (room-tray, needs)

@@ -4,34 +4,28 @@ ghost use Prim.Native.Nat.{_≤_};
 ghost use lib.ListN.{length};
 ghost use Rattle.prepare.specs.Determined.{byCall, byFinish};
 ghost use Rattle.export.specs.Numbers.{laid};
-ghost use Rattle.export.specs.Frames.{headerRoom};
 ghost use Rattle.export.specs.Streams.{trayRoom, trayIn, trayOf};
 ghost use Rattle.exportdesk.specs.States.{deskRoom, deskIn, deskOf};
-ghost use Rattle.exportdesk.specs.Prepares.{lends, toldRoom, noRoom, eventOf, callNumber, callLeaves, finishNumber, finishLeaves};
-ghost use Rattle.exportdesk.specs.Puts.{Puts, results};
-use crate::states::desk_in;
-use crate::states::put_desk;
+ghost use Rattle.exportprepare.specs.Prepares.{lends, toldRoom, noRoom, eventOf, callNumber, callLeaves, finishNumber, finishLeaves};
+ghost use Rattle.exportprepare.specs.Puts.{StatesThere, AllThere, Puts, results};
+use export::frames::HEADER;
 use export::frames::put_header;
+use export::numbers::ROOM;
 use export::numbers::count;
 use export::numbers::put;
 use export::numbers::wide;
+use export::streams::TRAY;
 use export::streams::noise_count;
 use export::streams::put_tray;
 use export::streams::tray_in;
+use exportdesk::states::DESK;
+use exportdesk::states::desk_in;
+use exportdesk::states::put_desk;
 use prepare::Answer;
 use prepare::Said;
 
-// The number of ROOM.
-const ROOM: u8 = 9;
-
-// The numbers of a tray, of a desk, of an event, of a header.
-const TRAY: usize = 3;
-
-const DESK: usize = 9;
-
+// The numbers of what is told.
 const TOLD: usize = 5;
-
-const HEADER: usize = 15;
 
 // A slice of numbers is under its stated size.
 fn lacks_room(tray: &[u64], desk: &[u64], told: &[u64], header: &[u64]) -> bool
@@ -91,7 +85,7 @@ fn tell(
     told: &mut [u64],
     header: &mut [u64],
 ) -> u8
-    requires { ⌜ (trayRoom ≤ length (now tray)) × (deskRoom ≤ length (now desk)) × (toldRoom ≤ length (now told)) × (headerRoom ≤ length (now header)) ⌝ }
+    requires { ⌜ AllThere (now tray) (now desk) (now told) (now header) ⌝ }
     ensures { λ r. ⌜ Puts answer (now (tray .entry)) (now (desk .entry)) (now (told .entry)) (now (header .entry)) r (now (tray .exit)) (now (desk .exit)) (now (told .exit)) (now (header .exit)) ⌝ }
 {
     let said = answer.said;
@@ -132,7 +126,7 @@ fn call(
     log: &mut [u8],
     input: &[u8],
 ) -> Answer
-    requires { ⌜ (trayRoom ≤ length (now tray)) × (deskRoom ≤ length (now desk)) ⌝ }
+    requires { ⌜ StatesThere (now tray) (now desk) ⌝ }
     ensures { λ r. ⌜ results r (now (bytes .exit)) (now (live .exit)) (now (run .exit)) (now (log .exit)) ≡ byCall (now (bytes .entry)) (trayIn (now (tray .entry))) (deskIn (now (desk .entry))) (now (live .entry)) (now (run .entry)) (now (log .entry)) (now (input .entry)) ⌝ }
 {
     let held = tray_in(tray);
@@ -148,7 +142,7 @@ fn finish(
     run: &mut [u8],
     log: &mut [u8],
 ) -> Answer
-    requires { ⌜ (trayRoom ≤ length (now tray)) × (deskRoom ≤ length (now desk)) ⌝ }
+    requires { ⌜ StatesThere (now tray) (now desk) ⌝ }
     ensures { λ r. ⌜ results r (now (bytes .exit)) (now (live .exit)) (now (run .exit)) (now (log .exit)) ≡ byFinish (now (bytes .entry)) (trayIn (now (tray .entry))) (deskIn (now (desk .entry))) (now (live .entry)) (now (run .entry)) (now (log .entry)) ⌝ }
 {
     let held = tray_in(tray);

@@ -1,16 +1,29 @@
 -- Mirror: what the steps of a call of `prepare` leave. Serves proofs.
 use mathlib.Core.Path.{_≡_}
 use mathlib.Core.List.{List}
-use Prim.Native.Nat.{ℕ}
+use Prim.Native.Nat.{ℕ, _≤_}
+use lib.ListN.{length}
 use Rattle.export.specs.Numbers.{laid}
-use Rattle.export.specs.Streams.{trayOf}
+use Rattle.export.specs.Frames.{headerRoom}
+use Rattle.export.specs.Streams.{trayRoom, trayOf}
 use Rattle.prepare.specs.declared.Answer.{Answer}
 use Rattle.prepare.specs.Determined.{Result}
-use Rattle.exportdesk.specs.States.{deskOf}
-use Rattle.exportdesk.specs.Prepares.{toldAnswer, stateSaid, headerSaid}
+use Rattle.exportdesk.specs.States.{deskRoom, deskOf}
+use Rattle.exportprepare.specs.Prepares.{toldRoom, toldAnswer, stateSaid, headerSaid}
 
 abbrev pub results : Answer → (bytes live run log : List ℕ) → Result
 results answer bytes live run log = record { answer = answer; bytes = bytes; live = live; run = run; log = log }
+
+-- the slices of numbers have their rooms: of both states, and of all four
+pub record StatesThere (tray desk : List ℕ) : Type 0 where
+  pub tray-room : trayRoom ≤ length tray
+  pub desk-room : deskRoom ≤ length desk
+
+pub record AllThere (tray desk told header : List ℕ) : Type 0 where
+  pub tray-room : trayRoom ≤ length tray
+  pub desk-room : deskRoom ≤ length desk
+  pub told-room : toldRoom ≤ length told
+  pub header-room : headerRoom ≤ length header
 
 -- the number, and the slices of numbers, are these
 pub record Puts (answer : Answer) (tray desk told header : List ℕ) (number : ℕ) (tray′ desk′ told′ header′ : List ℕ) : Type 0 where

@@ -1,7 +1,7 @@
 -- Each slice is written by its own call.
 use borrow.Author.Needs.{needs}
-use Rattle.exportdesk.proofs.prepares.put_event.Statement.{statement}
-use Rattle.exportdesk.proofs.prepares.put_event.Tie as tie
+use Rattle.exportprepare.proofs.prepares.put_event.Statement.{statement}
+use Rattle.exportprepare.proofs.prepares.put_event.Tie as tie
 
 put-tray-requires : tie.Need-put-tray-requires
 put-tray-requires c κs = search needs

@@ -2,7 +2,7 @@
 use mathlib.Core.Path.{_≡_, sym, _∙_}
 use mathlib.Core.List.{List}
 use Prim.Native.Nat.{ℕ}
-use Rattle.exportdesk.specs.Prepares.{Lent, callNumber, callLeaves, finishNumber, finishLeaves}
+use Rattle.exportprepare.specs.Prepares.{Lent, callNumber, callLeaves, finishNumber, finishLeaves}
 
 pub prepare-call-determined : (l : Lent) (input : List ℕ) (a b : ℕ) (s t : Lent) → a ≡ callNumber l input → b ≡ callNumber l input → s ≡ callLeaves l input → t ≡ callLeaves l input → (a ≡ b) × (s ≡ t)
 prepare-call-determined l input a b s t p q u v = (p ∙ sym q, u ∙ sym v)

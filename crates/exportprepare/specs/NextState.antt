@@ -27,10 +27,10 @@ use Rattle.prepare.specs.Driver as driver
 use Rattle.prepare.specs.Stays.{sound-after}
 use Rattle.export.specs.Numbers.{laid}
 use Rattle.export.specs.Streams.{trayIn, trayOf}
 use Rattle.exportdesk.specs.States.{deskIn, deskOf}
 use Rattle.exportdesk.specs.Theorems.{most-under, reads-back}
-use Rattle.exportdesk.specs.Prepares.{Lent, noRoom, callResult, finishResult, stateSaid, leaves, lentBy, callLeaves, finishLeaves}
-use Rattle.exportdesk.specs.Refusals.{booksLent, areSound, neither, resultOf}
+use Rattle.exportprepare.specs.Prepares.{Lent, noRoom, callResult, finishResult, stateSaid, leaves, lentBy, callLeaves, finishLeaves}
+use Rattle.exportprepare.specs.Refusals.{booksLent, areSound, neither, resultOf}
 
 abbrev pub state : (bytes : List ℕ) → Tray → Held → State
 state bytes tray books = record { bytes = bytes; tray = tray; books = books }

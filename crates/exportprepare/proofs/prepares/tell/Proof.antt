@@ -1,8 +1,8 @@
 -- A case for each thing that is said.
-use Rattle.exportdesk.proofs.Prepared.{puts-hungry, puts-accepted, puts-refused-frame, puts-noise, puts-done, puts-refused}
+use Rattle.exportprepare.proofs.Prepared.{puts-hungry, puts-accepted, puts-refused-frame, puts-noise, puts-done, puts-refused}
 use borrow.Author.Needs.{needs}
-use Rattle.exportdesk.proofs.prepares.tell.Statement.{statement}
-use Rattle.exportdesk.proofs.prepares.tell.Tie as tie
+use Rattle.exportprepare.proofs.prepares.tell.Statement.{statement}
+use Rattle.exportprepare.proofs.prepares.tell.Tie as tie
 
 enum-told : tie.Need-enum-told
 enum-told c = search needs

@@ -20,9 +20,9 @@ use Rattle.prepare.specs.Prepare as prepare
 use Rattle.prepare.specs.Determined.{Result}
 use Rattle.export.specs.Numbers.{laid}
 use Rattle.export.specs.Streams.{trayIn}
 use Rattle.exportdesk.specs.States.{deskIn}
-use Rattle.exportdesk.specs.Prepares as prepares
-use Rattle.exportdesk.specs.Prepares.{Lent, noRoom, callResult, finishResult, toldSaid, toldAnswer, headerSaid, stateSaid, numberBy, lentBy, callNumber, callLeaves, finishNumber, finishLeaves}
+use Rattle.exportprepare.specs.Prepares as prepares
+use Rattle.exportprepare.specs.Prepares.{Lent, noRoom, callResult, finishResult, toldSaid, toldAnswer, headerSaid, stateSaid, numberBy, lentBy, callNumber, callLeaves, finishNumber, finishLeaves}
 
 -- ---- "A call that moves stream and desk together tests ROOM of every lent buffer, then STATE of tray and desk, then takes its step."
 

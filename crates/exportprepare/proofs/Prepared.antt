@@ -1,5 +1,5 @@
 -- Laws: what the calls of `prepare` tell and leave, worded as the code makes it.
-use mathlib.Core.Path.{_≡_, refl, sym, ap, ap₂, _∙_, subst}
+use mathlib.Core.Path.{_≡_, refl, sym, ap, ap₂, _∙_}
 use mathlib.Core.Bool.{Bool, true, false}
 use mathlib.Core.List.{List, [], _∷_}
 use Prim.Native.Nat.{ℕ, _≤_, _<_}
@@ -17,32 +17,32 @@ use Rattle.prepare.specs.declared.Answer.{Answer}
 use Rattle.prepare.specs.Prepare.{callAnswer, callBytes, callLive, callRun, callLog, finishAnswer, finishBytes, finishLive, finishRun, finishLog}
 use Rattle.prepare.specs.Determined.{Result, byCall, byFinish}
 use Rattle.export.specs.Numbers.{laid}
-use Rattle.export.specs.Frames.{headerOf}
-use Rattle.export.specs.Streams.{trayIn, trayOf}
+use Rattle.export.specs.Frames.{headerRoom, headerOf}
+use Rattle.export.specs.Streams.{trayRoom, trayIn, trayOf}
 use Rattle.export.proofs.Laws.{laid-none}
-use Rattle.exportdesk.specs.States.{deskIn, deskOf}
-use Rattle.exportdesk.specs.Prepares.{Lent, lends, noRoom, callResult, finishResult, eventOf, toldSaid, toldAnswer, headerSaid, stateSaid, numberBy, lentBy, callNumber, callLeaves, finishNumber, finishLeaves}
-use Rattle.exportdesk.specs.Refusals.{neither}
-use Rattle.exportdesk.specs.Puts.{Puts, results}
+use Rattle.exportdesk.specs.States.{deskRoom, deskIn, deskOf}
+use Rattle.exportprepare.specs.Prepares.{Lent, lends, toldRoom, noRoom, eventOf, toldSaid, toldAnswer, headerSaid, stateSaid, numberBy, lentBy}
+use Rattle.exportprepare.specs.Refusals.{neither}
+use Rattle.exportprepare.specs.Puts.{StatesThere, AllThere, Puts, results}
 
 -- ---- lacks_room
 
 module _ (tray desk told header : List ℕ) where
-  pub room-tray : length tray < 3 → true ≡ noRoom tray desk told header
+  pub room-tray : length tray < trayRoom → true ≡ noRoom tray desk told header
   unfolding noRoom
-  room-tray h = rw (lt-ltb (length tray) 3 h)
+  room-tray h = rw (lt-ltb (length tray) trayRoom h)
 
-  pub room-desk : 3 ≤ length tray → length desk < 9 → true ≡ noRoom tray desk told header
+  pub room-desk : trayRoom ≤ length tray → length desk < deskRoom → true ≡ noRoom tray desk told header
   unfolding noRoom
-  room-desk h k = rw (le-ltb (length tray) 3 h, lt-ltb (length desk) 9 k)
+  room-desk h k = rw (le-ltb (length tray) trayRoom h, lt-ltb (length desk) deskRoom k)
 
-  pub room-told : 3 ≤ length tray → 9 ≤ length desk → length told < 5 → true ≡ noRoom tray desk told header
+  pub room-told : trayRoom ≤ length tray → deskRoom ≤ length desk → length told < toldRoom → true ≡ noRoom tray desk told header
   unfolding noRoom
-  room-told h k l = rw (le-ltb (length tray) 3 h, le-ltb (length desk) 9 k, lt-ltb (length told) 5 l)
+  room-told h k l = rw (le-ltb (length tray) trayRoom h, le-ltb (length desk) deskRoom k, lt-ltb (length told) toldRoom l)
 
-  pub room-header : 3 ≤ length tray → 9 ≤ length desk → 5 ≤ length told → ltb (length header) 15 ≡ noRoom tray desk told header
+  pub room-header : trayRoom ≤ length tray → deskRoom ≤ length desk → toldRoom ≤ length told → ltb (length header) headerRoom ≡ noRoom tray desk told header
   unfolding noRoom
-  room-header h k l = rw (le-ltb (length tray) 3 h, le-ltb (length desk) 9 k, le-ltb (length told) 5 l)
+  room-header h k l = rw (le-ltb (length tray) trayRoom h, le-ltb (length desk) deskRoom k, le-ltb (length told) toldRoom l)
 
 -- ---- put_told
 
@@ -112,47 +112,43 @@ module _ (bytes live run log bytes′ live′ run′ log′ ts ds : List ℕ) (t
 
 module _ (tray desk told header : List ℕ) (b : Bool) (e : b ≡ noRoom tray desk told header) (h : b ≡ false) where
   -- what telling wants, and what the call below wants
-  pub all-there : (3 ≤ length tray) × (9 ≤ length desk) × (5 ≤ length told) × (15 ≤ length header)
+  pub all-there : AllThere tray desk told header
   unfolding noRoom
   all-there =
-      let x = neither (ltb (length tray) 3) _ (sym e ∙ h) in
-      let y = neither (ltb (length desk) 9) _ (x .1) in
-      let z = neither (ltb (length told) 5) _ (y .1) in
-      (ltb-false _ _ (x .0), ltb-false _ _ (y .0), ltb-false _ _ (z .0), ltb-false _ _ (z .1))
+      let x = neither (ltb (length tray) trayRoom) _ (sym e ∙ h) in
+      let y = neither (ltb (length desk) deskRoom) _ (x .1) in
+      let z = neither (ltb (length told) toldRoom) _ (y .1) in
+      record {
+        tray-room = ltb-false _ _ (x .0);
+        desk-room = ltb-false _ _ (y .0);
+        told-room = ltb-false _ _ (z .0);
+        header-room = ltb-false _ _ (z .1);
+      }
 
-  pub states-there : (3 ≤ length tray) × (9 ≤ length desk)
-  states-there = (all-there .0, all-there .1)
+  pub states-there : StatesThere tray desk
+  states-there = record { tray-room = all-there .tray-room; desk-room = all-there .desk-room }
 
-module _ (bytes tray desk live run log told header : List ℕ) (b : Bool) (e : b ≡ noRoom tray desk told header) where
+-- a call or a finish: what it comes to by what the call below leaves
+module _ (bytes tray desk live run log told header : List ℕ) (result : Result) (b : Bool) (e : b ≡ noRoom tray desk told header) where
   abbrev lent : Lent
   lent = lends bytes tray desk live run log told header
 
-  short-by : (result : Result) → b ≡ true → (9 ≡ numberBy lent result) × (lent ≡ lentBy lent result)
-  unfolding numberBy lentBy
-  short-by result h = let z : noRoom tray desk told header ≡ true = sym e ∙ h in (rw z, rw z)
+  pub short-number : b ≡ true → 9 ≡ numberBy lent result
+  unfolding numberBy
+  short-number h = let z : noRoom tray desk told header ≡ true = sym e ∙ h in rw z
 
-  pub call-short : (input : List ℕ) → b ≡ true → (9 ≡ callNumber lent input) × (lent ≡ callLeaves lent input)
-  unfolding callNumber callLeaves
-  call-short input h = short-by (callResult lent input) h
+  pub short-leaves : b ≡ true → lent ≡ lentBy lent result
+  unfolding lentBy
+  short-leaves h = let z : noRoom tray desk told header ≡ true = sym e ∙ h in rw z
 
-  pub finish-short : b ≡ true → (9 ≡ finishNumber lent) × (lent ≡ finishLeaves lent)
-  unfolding finishNumber finishLeaves
-  finish-short h = short-by (finishResult lent) h
+  module _ (h : b ≡ false) (a : Answer) (bytes′ tray′ desk′ live′ run′ log′ told′ header′ : List ℕ) (n : ℕ)
+      (t : Puts a tray desk told header n tray′ desk′ told′ header′) (q : results a bytes′ live′ run′ log′ ≡ result) where
+    pub told-number : n ≡ numberBy lent result
+    unfolding numberBy
+    told-number = let z : noRoom tray desk told header ≡ false = sym e ∙ h in rw (z, ← q) (t .number-is)
 
-  module _ (h : b ≡ false) (a : Answer) (bytes′ tray′ desk′ live′ run′ log′ told′ header′ : List ℕ) (n : ℕ) (t : Puts a tray desk told header n tray′ desk′ told′ header′) where
-    abbrev lent′ : Lent
-    lent′ = lends bytes′ tray′ desk′ live′ run′ log′ told′ header′
-
-    told-by : (n ≡ numberBy lent (results a bytes′ live′ run′ log′)) × (lent′ ≡ lentBy lent (results a bytes′ live′ run′ log′))
-    unfolding numberBy lentBy
-    told-by = let z : noRoom tray desk told header ≡ false = sym e ∙ h in (rw z (t .number-is), rw (z, t .tray-is, t .desk-is, t .told-is, t .header-is))
-
-    pub call-told : (input : List ℕ) → results a bytes′ live′ run′ log′ ≡ byCall bytes (trayIn tray) (deskIn desk) live run log input
-        → (n ≡ callNumber lent input) × (lent′ ≡ callLeaves lent input)
-    unfolding callNumber callLeaves callResult
-    call-told input q = subst (λ r. (n ≡ numberBy lent r) × (lent′ ≡ lentBy lent r)) q told-by
-
-    pub finish-told : results a bytes′ live′ run′ log′ ≡ byFinish bytes (trayIn tray) (deskIn desk) live run log
-        → (n ≡ finishNumber lent) × (lent′ ≡ finishLeaves lent)
-    unfolding finishNumber finishLeaves finishResult
-    finish-told q = subst (λ r. (n ≡ numberBy lent r) × (lent′ ≡ lentBy lent r)) q told-by
+    pub told-leaves : lends bytes′ tray′ desk′ live′ run′ log′ told′ header′ ≡ lentBy lent result
+    unfolding lentBy
+    told-leaves =
+        let z : noRoom tray desk told header ≡ false = sym e ∙ h in
+        rw (z, ← q, t .tray-is, t .desk-is, t .told-is, t .header-is)
