@@ -66,6 +66,7 @@ module _ (desk : Desk) (live run : List ℕ) (book : Book) (bytes : List ℕ) (w
   on-frame frame (check.Refused why) e = let z : _≡_ {A = ℕ} 0 1 = cc in absurd (omega arith)
 
   room-stays : (log : List ℕ) → noRoom live run log ≡ false → noRoom bytes run log ≡ false
+  unfolding noRoom
   room-stays log e =
       let z : ltb (length bytes) bookBytes ≡ false = le-ltb (length bytes) bookBytes (sound-room book bytes (sound-live (deskBy desk (defines book bytes)) bytes run w)) in
       rw z (go (ltb (length live) bookBytes) (ltb (length run) bookBytes || ltb (length log) logRoom) e)

@@ -108,6 +108,7 @@ module _ (desk : Desk) (live run : List ℕ) where
   fits-frame ready frame (check.Refused why) = not-taken
 
   room-run : (log : List ℕ) → noRoom live run log ≡ false → bookBytes ≤ length run
+  unfolding noRoom
   room-run log e = go (ltb (length live) bookBytes) (ltb (length run) bookBytes) refl (ltb (length log) logRoom) e
     where
       go : (a b : Bool) → ltb (length run) bookBytes ≡ b → (c : Bool) → (a || (b || c)) ≡ false → bookBytes ≤ length run

@@ -123,7 +123,7 @@ byFrame desk live (check.Short wanted) frame = refused refusal.Short
 byFrame desk live (check.Refused why) frame = refused why
 
 -- ROOM: "lent buffer under its stated size"
-abbrev pub noRoom : (live run log : List ℕ) → Bool
+unfoldable pub noRoom : (live run log : List ℕ) → Bool
 noRoom live run log = ltb (length live) bookBytes || (ltb (length run) bookBytes || ltb (length log) logRoom)
 
 -- "Order: ROOM, STATE, the frame's own refusals, NOT_OURS, SEALED, payload refusals, then for HPAC TAG, for GAD the book's refusals"
