@@ -26,12 +26,7 @@ same-length-3 : tie.Need-same-length-3
 same-length-3 c = search needs
 
 returns : tie.Need-returns
-returns c =
-    let s = c .before .before .before .before .before .before .before .before .before .before .before .before .before .before .before .before .before in
-    gives (s .args .desk) (s .args .live .now) (s .args .run .now) (s .args .log .now) (s .args .bytes .now) (s .args .heard) (s .args .header) _ _ _ _ _ _ (s .pre .1)
-    (c .before .before .before .before .before .before .before .before .before .before .before .payload-in .ensures .0)
-    (c .before .before .before .before .before .before .before .take-header .ensures)
-    (c .answered .ensures)
+returns c = search (gives, needs)
 
 pub give-spec : {M : Type 1} → statement M
 give-spec =
