@@ -42,7 +42,7 @@ pub fn aiou_of(x: u8) -> u64
     (x - 1) as u64
 }
 
-// The book that two numbers say. Internal, as `put_book`: the calls here and in crate exportdesk have tested ROOM.
+// The book that two numbers say. Internal, as `put_book`: the calls here and in the crates above have tested ROOM.
 pub fn book_in(book: &[u64]) -> Book
     requires { ⌜ bookRoom ≤ length (now book) ⌝ }
     ensures { λ r. ⌜ r ≡ bookIn (now (book .entry)) ⌝ }

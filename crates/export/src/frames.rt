@@ -68,7 +68,7 @@ fn header_of(frame: Frame) -> [u64; 15]
     ]
 }
 
-// A header into the places from the start on. Internal: the calls here and in crate exportdesk have tested ROOM.
+// A header into the places from the start on. Internal: the calls here and in the crates above have tested ROOM.
 pub fn put_header(frame: Frame, header: &mut [u64])
     requires { ⌜ headerRoom ≤ length (now header) ⌝ }
     ensures { λ _. ⌜ now (header .exit) ≡ laid (headerOf frame) (now (header .entry)) ⌝ }

@@ -19,7 +19,7 @@ pub fn count(x: usize) -> u64
     x as u64
 }
 
-// Numbers take the places from the start on; what lies behind them stays. Internal: the calls here and in crate exportdesk have tested ROOM.
+// Numbers take the places from the start on; what lies behind them stays. Internal: the calls here and in the crates above have tested ROOM.
 pub fn put(numbers: &[u64], out: &mut [u64])
     requires { ⌜ length (now numbers) ≤ length (now out) ⌝ }
     ensures { λ _. ⌜ now (out .exit) ≡ laid (now (numbers .entry)) (now (out .entry)) ⌝ }

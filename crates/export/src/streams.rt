@@ -42,7 +42,7 @@ fn size(x: u64) -> usize
     x as usize
 }
 
-// The tray that three numbers say. Internal, as `put_tray`: the calls here and in crate exportdesk have tested ROOM.
+// The tray that three numbers say. Internal, as `put_tray`: the calls here and in the crates above have tested ROOM.
 pub fn tray_in(tray: &[u64]) -> Tray
     requires { ⌜ trayRoom ≤ length (now tray) ⌝ }
     ensures { λ r. ⌜ r ≡ trayIn (now (tray .entry)) ⌝ }

@@ -14,8 +14,7 @@ use Rattle.desk.specs.declared.Desk.{Desk}
 use Rattle.prepare.specs.declared.Said.{Said}
 use Rattle.prepare.specs.declared.Said.the-variants as said
 use Rattle.prepare.specs.declared.Answer.{Answer}
-use Rattle.prepare.specs.Prepare.{callAnswer, callBytes, callLive, callRun, callLog, finishAnswer, finishBytes, finishLive, finishRun, finishLog}
-use Rattle.prepare.specs.Determined.{Result, byCall, byFinish}
+use Rattle.prepare.specs.Prepare.{hands, results, Result, byCall, byFinish}
 use Rattle.export.specs.Numbers.{laid}
 use Rattle.export.specs.Frames.{headerRoom, headerOf}
 use Rattle.export.specs.Streams.{trayRoom, trayIn, trayOf}
@@ -23,7 +22,7 @@ use Rattle.export.proofs.Laws.{laid-none}
 use Rattle.exportdesk.specs.States.{deskRoom, deskIn, deskOf}
 use Rattle.exportprepare.specs.Prepares.{Lent, lends, toldRoom, noRoom, eventOf, toldSaid, toldAnswer, headerSaid, stateSaid, numberBy, lentBy}
 use Rattle.exportprepare.specs.Refusals.{neither}
-use Rattle.exportprepare.specs.Puts.{StatesThere, AllThere, Puts, results}
+use Rattle.exportprepare.specs.Puts.{StatesThere, AllThere, Puts}
 
 -- ---- lacks_room
 
@@ -93,20 +92,13 @@ puts-refused a tray desk told header w n e q =
 -- ---- call and finish: the tray and the desk are those that the numbers say
 
 module _ (bytes live run log bytes′ live′ run′ log′ ts ds : List ℕ) (t : Tray) (d : Desk) (p : t ≡ trayIn ts) (q : d ≡ deskIn ds) (r : Answer) where
-  pub called : (input : List ℕ)
-      → r ≡ callAnswer bytes t d live run log input → bytes′ ≡ callBytes bytes t d live run log input → live′ ≡ callLive bytes t d live run log input
-      → run′ ≡ callRun bytes t d live run log input → log′ ≡ callLog bytes t d live run log input
-      → results r bytes′ live′ run′ log′ ≡ byCall bytes (trayIn ts) (deskIn ds) live run log input
-  called input a b c e f =
-      let z : results r bytes′ live′ run′ log′ ≡ byCall bytes t d live run log input = rw (a, b, c, e, f) in
-      z ∙ ap₂ (λ t d. byCall bytes t d live run log input) p q
+  pub called : (input : List ℕ) → results r bytes′ live′ run′ log′ ≡ byCall (hands bytes t d live run log) input
+      → results r bytes′ live′ run′ log′ ≡ byCall (hands bytes (trayIn ts) (deskIn ds) live run log) input
+  called input e = e ∙ ap₂ (λ t d. byCall (hands bytes t d live run log) input) p q
 
-  pub finished : r ≡ finishAnswer bytes t d live run log → bytes′ ≡ finishBytes bytes t d live run log → live′ ≡ finishLive bytes t d live run log
-      → run′ ≡ finishRun bytes t d live run log → log′ ≡ finishLog bytes t d live run log
-      → results r bytes′ live′ run′ log′ ≡ byFinish bytes (trayIn ts) (deskIn ds) live run log
-  finished a b c e f =
-      let z : results r bytes′ live′ run′ log′ ≡ byFinish bytes t d live run log = rw (a, b, c, e, f) in
-      z ∙ ap₂ (λ t d. byFinish bytes t d live run log) p q
+  pub finished : results r bytes′ live′ run′ log′ ≡ byFinish (hands bytes t d live run log)
+      → results r bytes′ live′ run′ log′ ≡ byFinish (hands bytes (trayIn ts) (deskIn ds) live run log)
+  finished e = e ∙ ap₂ (λ t d. byFinish (hands bytes t d live run log)) p q
 
 -- ---- the calls for other languages
 

@@ -10,7 +10,7 @@ use lib.ListN.{length}
 use borrow.Author.Tests.{ltb-false}
 use Rattle.answer.specs.declared.Refusal.the-variants as refusal
 use Rattle.area.specs.Laws.{both-left, both-right}
-use Rattle.frame.specs.Fields.{longest}
+use Rattle.sizes.specs.Sizes.{longestFrame, mostNoise, bookBytes}
 use Rattle.stream.specs.declared.Tray.{Tray}
 use Rattle.stream.specs.Scan.{Event, frame, noise}
 use Rattle.stream.specs.Tray.{sound, Contents, Outcome, refused, told, hungry, done, stop, called, finished, bytesOf}
@@ -18,9 +18,10 @@ use Rattle.stream.specs.Tray as stream
 use Rattle.stream.specs.Kept.{Kept, Good}
 use Rattle.stream.specs.Steps.{call-kept, end-kept}
 use Rattle.desk.specs.Desk.{deskSound}
+use Rattle.desk.specs.Take as desk
 use Rattle.desk.specs.History.{Held}
 use Rattle.prepare.specs.Uncut as uncut
-use Rattle.prepare.specs.Prepare.{saidOf, answerOf, booksOf, booksIn, guarded, callOutcome, finishOutcome}
+use Rattle.prepare.specs.Prepare.{saidOf, answerOf, booksOf, booksIn, resultOf, guarded, callOutcome, finishOutcome}
 use Rattle.prepare.specs.Prepare as prepare
 use Rattle.prepare.specs.Driver.{State, Sound}
 use Rattle.prepare.specs.Driver as driver
@@ -29,23 +30,23 @@ use Rattle.export.specs.Numbers.{laid}
 use Rattle.export.specs.Streams.{trayIn, trayOf}
 use Rattle.exportdesk.specs.States.{deskIn, deskOf}
 use Rattle.exportdesk.specs.Theorems.{most-under, reads-back}
-use Rattle.exportprepare.specs.Prepares.{Lent, noRoom, callResult, finishResult, stateSaid, leaves, lentBy, callLeaves, finishLeaves}
-use Rattle.exportprepare.specs.Refusals.{booksLent, areSound, neither, resultOf}
+use Rattle.exportprepare.specs.Prepares.{Lent, handedIn, noRoom, callResult, finishResult, stateSaid, leaves, lentBy, callLeaves, finishLeaves}
+use Rattle.exportprepare.specs.Refusals.{areSound, neither}
 
 abbrev pub state : (bytes : List ℕ) → Tray → Held → State
 state bytes tray books = record { bytes = bytes; tray = tray; books = books }
 
 -- the state that is lent
 abbrev pub stateIn : Lent → State
-stateIn lent = state (lent .bytes) (trayIn (lent .tray)) (booksLent lent)
+stateIn lent = state (lent .bytes) (trayIn (lent .tray)) (handedIn lent .books)
 
 -- ---- a tray that is written and read again
 
-tray-back : (tray : Tray) (lent : List ℕ) → tray .noise < 65535 → trayIn (laid (trayOf tray) lent) ≡ tray
+tray-back : (tray : Tray) (lent : List ℕ) → tray .noise < mostNoise → trayIn (laid (trayOf tray) lent) ≡ tray
 unfolding trayIn trayOf laid
-tray-back tray lent h = rw (most-under 65535 (tray .noise) h)
+tray-back tray lent h = rw (most-under mostNoise (tray .noise) h)
 
-event-noise : (event : Event) (c : Contents) → Kept event c → c .noise < 65535
+event-noise : (event : Event) (c : Contents) → Kept event c → c .noise < mostNoise
 event-noise (frame f bytes) c g = omega (arith, g .3)
 event-noise (noise n) c g = omega (arith, g .1)
 
@@ -59,9 +60,9 @@ state-told (uncut.noise count) numbers = refl
 
 module _ (lent : Lent) where
   abbrev after : Outcome → State
-  after o = state (bytesOf (lent .bytes) o) (answerOf (trayIn (lent .tray)) (booksLent lent) o .tray) (booksOf (booksLent lent) o)
+  after o = state (bytesOf (lent .bytes) o) (answerOf (handedIn lent) o .tray) (booksOf (handedIn lent) o)
 
-  states-back : (bytes trays desks : List ℕ) (c : Contents) (books : Held) → trays ≡ trayOf (stream.trayOf c) → desks ≡ deskOf (books .desk) → c .noise < 65535
+  states-back : (bytes trays desks : List ℕ) (c : Contents) (books : Held) → trays ≡ trayOf (stream.trayOf c) → desks ≡ deskOf (books .desk) → c .noise < mostNoise
       → deskSound (books .desk) (books .live) (books .run) ≡ true
       → state bytes (trayIn (laid trays (lent .tray))) (booksIn (deskIn (laid desks (lent .desk))) (books .live) (books .run)) ≡ state bytes (stream.trayOf c) books
   states-back bytes trays desks c books p q n e =
@@ -69,32 +70,32 @@ module _ (lent : Lent) where
       (ap (λ x. trayIn (laid x (lent .tray))) p ∙ tray-back (stream.trayOf c) (lent .tray) n)
       (ap (λ x. deskIn (laid x (lent .desk))) q ∙ reads-back (books .desk) (books .live) (books .run) (lent .desk) e)
 
-  next-by : Sound (booksLent lent) → (o : Outcome) → Good o → stateIn (leaves lent (resultOf lent o)) ≡ after o
+  next-by : Sound (handedIn lent .books) → (o : Outcome) → Good o → stateIn (leaves lent (resultOf (handedIn lent) o)) ≡ after o
   unfolding stateSaid
   next-by s (refused why) g = absurd g
   next-by s (told event contents used) g =
-      let t : uncut.Told = uncut.toldOf (booksLent lent) event in
-      let books : Held = uncut.booksAfter (booksLent lent) event in
+      let t : uncut.Told = uncut.toldOf (handedIn lent .books) event in
+      let books : Held = uncut.booksAfter (handedIn lent .books) event in
       states-back (stream.laid (lent .bytes) (contents .held)) _ _ contents books (state-told t (trayOf (stream.trayOf contents))) (state-told t (deskOf (books .desk)))
       (event-noise event contents g) (sound-after s event .is-sound)
-  next-by s (hungry contents used) g = states-back (stream.laid (lent .bytes) (contents .held)) _ _ contents (booksLent lent) refl refl (g .noise-less) (s .is-sound)
+  next-by s (hungry contents used) g = states-back (stream.laid (lent .bytes) (contents .held)) _ _ contents (handedIn lent .books) refl refl (g .noise-less) (s .is-sound)
   next-by s (done contents) g =
-      states-back (stream.laid (lent .bytes) (contents .held)) _ _ contents (booksLent lent) refl refl (omega (arith, ap (λ c. c .noise) g)) (s .is-sound)
+      states-back (stream.laid (lent .bytes) (contents .held)) _ _ contents (handedIn lent .books) refl refl (omega (arith, ap (λ c. c .noise) g)) (s .is-sound)
 
-  next-guarded : (o : Outcome) → (longest ≤ length (lent .bytes) → sound (lent .bytes) (trayIn (lent .tray)) ≡ true → Good o)
-      → stateIn (leaves lent (resultOf lent (guarded (lent .bytes) (trayIn (lent .tray)) (booksLent lent) (lent .log) o)))
-      ≡ after (guarded (lent .bytes) (trayIn (lent .tray)) (booksLent lent) (lent .log) o)
-  unfolding stateSaid laid
+  next-guarded : (o : Outcome) → (longestFrame ≤ length (lent .bytes) → sound (lent .bytes) (trayIn (lent .tray)) ≡ true → Good o)
+      → stateIn (leaves lent (resultOf (handedIn lent) (guarded (handedIn lent) o)))
+      ≡ after (guarded (handedIn lent) o)
+  unfolding stateSaid laid desk.noRoom
   next-guarded o w = go (prepare.noRoom (lent .bytes) (lent .live) (lent .run) (lent .log)) (areSound lent) refl refl
     where
       go : (b s : Bool) → prepare.noRoom (lent .bytes) (lent .live) (lent .run) (lent .log) ≡ b → areSound lent ≡ s
-          → stateIn (leaves lent (resultOf lent (stop b refusal.Room (stop (not s) refusal.State o)))) ≡ after (stop b refusal.Room (stop (not s) refusal.State o))
+          → stateIn (leaves lent (resultOf (handedIn lent) (stop b refusal.Room (stop (not s) refusal.State o)))) ≡ after (stop b refusal.Room (stop (not s) refusal.State o))
       go true s q r = refl
       go false false q r = refl
       go false true q r =
-          let x = neither (ltb (length (lent .bytes)) longest) _ q in
-          let y = neither (ltb (length (lent .live)) 192) _ (x .1) in
-          let z = neither (ltb (length (lent .run)) 192) _ (y .1) in
+          let x = neither (ltb (length (lent .bytes)) longestFrame) _ q in
+          let y = neither (ltb (length (lent .live)) bookBytes) _ (x .1) in
+          let z = neither (ltb (length (lent .run)) bookBytes) _ (y .1) in
           let d : Bool = deskSound (deskIn (lent .desk)) (lent .live) (lent .run) in
           let t : Bool = sound (lent .bytes) (trayIn (lent .tray)) in
           next-by (record { live-room = ltb-false _ _ (y .0); run-room = ltb-false _ _ (z .0); is-sound = both-left d t r }) o (w (ltb-false _ _ (x .0)) (both-right d t r))

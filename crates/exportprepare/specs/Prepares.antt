@@ -11,7 +11,7 @@ use Rattle.export.specs.Streams.{trayRoom, trayIn, trayOf}
 use Rattle.prepare.specs.declared.Said.{Said}
 use Rattle.prepare.specs.declared.Said.the-variants as said
 use Rattle.prepare.specs.declared.Answer.{Answer}
-use Rattle.prepare.specs.Determined.{Result, byCall, byFinish}
+use Rattle.prepare.specs.Prepare.{Handed, hands, Result, byCall, byFinish}
 use Rattle.exportdesk.specs.States.{deskRoom, deskIn, deskOf}
 
 -- the tray's bytes and numbers, the desk's numbers, the bytes of its two books, the log, and places for what is told and for a header
@@ -40,11 +40,14 @@ noRoom tray desk told header =
 
 -- ---- the call below, on the tray and the desk that the numbers say: its answer, and the four slices of bytes then
 
+abbrev pub handedIn : Lent → Handed
+handedIn lent = hands (lent .bytes) (trayIn (lent .tray)) (deskIn (lent .desk)) (lent .live) (lent .run) (lent .log)
+
 unfoldable pub callResult : Lent → (input : List ℕ) → Result
-callResult lent input = byCall (lent .bytes) (trayIn (lent .tray)) (deskIn (lent .desk)) (lent .live) (lent .run) (lent .log) input
+callResult lent input = byCall (handedIn lent) input
 
 unfoldable pub finishResult : Lent → Result
-finishResult lent = byFinish (lent .bytes) (trayIn (lent .tray)) (deskIn (lent .desk)) (lent .live) (lent .run) (lent .log)
+finishResult lent = byFinish (handedIn lent)
 
 -- ---- its answer in numbers
 

@@ -7,12 +7,8 @@ use Rattle.export.specs.Numbers.{laid}
 use Rattle.export.specs.Frames.{headerRoom}
 use Rattle.export.specs.Streams.{trayRoom, trayOf}
 use Rattle.prepare.specs.declared.Answer.{Answer}
-use Rattle.prepare.specs.Determined.{Result}
 use Rattle.exportdesk.specs.States.{deskRoom, deskOf}
 use Rattle.exportprepare.specs.Prepares.{toldRoom, toldAnswer, stateSaid, headerSaid}
-
-abbrev pub results : Answer → (bytes live run log : List ℕ) → Result
-results answer bytes live run log = record { answer = answer; bytes = bytes; live = live; run = run; log = log }
 
 -- the slices of numbers have their rooms: of both states, and of all four
 pub record StatesThere (tray desk : List ℕ) : Type 0 where

@@ -8,32 +8,27 @@ use lib.ListN.{length}
 use borrow.Author.Tests.{ltb-false}
 use Rattle.area.specs.Laws.{both-right}
 use Rattle.answer.specs.declared.Refusal.the-variants as refusal
-use Rattle.frame.specs.Fields.{longest}
-use Rattle.stream.specs.Tray.{sound, Outcome, refused, told, hungry, done, stop, called, finished, bytesOf}
+use Rattle.sizes.specs.Sizes.{longestFrame}
+use Rattle.stream.specs.Tray.{sound, Outcome, refused, told, hungry, done, stop, called, finished}
 use Rattle.stream.specs.Kept.{Good}
 use Rattle.stream.specs.Steps.{call-kept, end-kept}
 use Rattle.desk.specs.Desk.{deskSound}
-use Rattle.desk.specs.History.{Held}
 use Rattle.prepare.specs.Uncut as uncut
-use Rattle.prepare.specs.Prepare.{isSound, saidOf, answerOf, booksOf, logOf, booksIn, callOutcome, finishOutcome}
+use Rattle.prepare.specs.Prepare.{isSound, saidOf, resultOf, callOutcome, finishOutcome}
 use Rattle.prepare.specs.Prepare as prepare
-use Rattle.prepare.specs.Determined.{Result}
 use Rattle.export.specs.Numbers.{laid}
 use Rattle.export.specs.Streams.{trayIn}
 use Rattle.exportdesk.specs.States.{deskIn}
 use Rattle.exportprepare.specs.Prepares as prepares
-use Rattle.exportprepare.specs.Prepares.{Lent, noRoom, callResult, finishResult, toldSaid, toldAnswer, headerSaid, stateSaid, numberBy, lentBy, callNumber, callLeaves, finishNumber, finishLeaves}
+use Rattle.exportprepare.specs.Prepares.{Lent, handedIn, noRoom, callResult, finishResult, toldSaid, toldAnswer, headerSaid, stateSaid, numberBy, lentBy, callNumber, callLeaves, finishNumber, finishLeaves}
 
 -- ---- "A call that moves stream and desk together tests ROOM of every lent buffer, then STATE of tray and desk, then takes its step."
 
 abbrev pub isShort : Lent → Bool
 isShort lent = noRoom (lent .tray) (lent .desk) (lent .told) (lent .header) || prepare.noRoom (lent .bytes) (lent .live) (lent .run) (lent .log)
 
-abbrev pub booksLent : Lent → Held
-booksLent lent = booksIn (deskIn (lent .desk)) (lent .live) (lent .run)
-
 abbrev pub areSound : Lent → Bool
-areSound lent = isSound (lent .bytes) (trayIn (lent .tray)) (booksLent lent)
+areSound lent = isSound (handedIn lent)
 
 abbrev pub refusalOf : Lent → ℕ
 refusalOf lent = cond (isShort lent) 9 (cond (areSound lent) 0 17)
@@ -52,43 +47,34 @@ told-zero (uncut.refused header bytes why) used log = refl
 told-zero (uncut.noise count) used log = refl
 
 module _ (lent : Lent) where
-  abbrev pub resultOf : Outcome → Result
-  resultOf o = record {
-    answer = answerOf (trayIn (lent .tray)) (booksLent lent) o;
-    bytes = bytesOf (lent .bytes) o;
-    live = booksOf (booksLent lent) o .live;
-    run = booksOf (booksLent lent) o .run;
-    log = logOf (booksLent lent) (lent .log) o;
-  }
-
-  good-zero : (o : Outcome) → Good o → toldAnswer (resultOf o .answer) .number ≡ 0
+  good-zero : (o : Outcome) → Good o → toldAnswer (resultOf (handedIn lent) o .answer) .number ≡ 0
   unfolding toldAnswer toldSaid
   good-zero (refused why) g = absurd g
-  good-zero (told event contents used) g = told-zero (uncut.toldOf (booksLent lent) event) used _
+  good-zero (told event contents used) g = told-zero (uncut.toldOf (handedIn lent .books) event) used _
   good-zero (hungry contents used) g = refl
   good-zero (done contents) g = refl
 
-  number-by : (o : Outcome) → (longest ≤ length (lent .bytes) → sound (lent .bytes) (trayIn (lent .tray)) ≡ true → Good o)
-      → numberBy lent (resultOf (prepare.guarded (lent .bytes) (trayIn (lent .tray)) (booksLent lent) (lent .log) o)) ≡ refusalOf lent
+  number-by : (o : Outcome) → (longestFrame ≤ length (lent .bytes) → sound (lent .bytes) (trayIn (lent .tray)) ≡ true → Good o)
+      → numberBy lent (resultOf (handedIn lent) (prepare.guarded (handedIn lent) o)) ≡ refusalOf lent
   unfolding numberBy toldAnswer toldSaid
   number-by o w = go (noRoom (lent .tray) (lent .desk) (lent .told) (lent .header)) (prepare.noRoom (lent .bytes) (lent .live) (lent .run) (lent .log)) (areSound lent) refl refl refl
     where
       go : (a b s : Bool) → noRoom (lent .tray) (lent .desk) (lent .told) (lent .header) ≡ a → prepare.noRoom (lent .bytes) (lent .live) (lent .run) (lent .log) ≡ b → areSound lent ≡ s
-          → cond a 9 (toldAnswer (resultOf (stop b refusal.Room (stop (not s) refusal.State o)) .answer) .number) ≡ cond (a || b) 9 (cond s 0 17)
+          → cond a 9 (toldAnswer (resultOf (handedIn lent) (stop b refusal.Room (stop (not s) refusal.State o)) .answer) .number) ≡ cond (a || b) 9 (cond s 0 17)
       go true b s p q r = refl
       go false true s p q r = refl
       go false false false p q r = refl
       go false false true p q r =
-          good-zero o (w (ltb-false (length (lent .bytes)) longest (neither _ _ q .0)) (both-right (deskSound (deskIn (lent .desk)) (lent .live) (lent .run)) _ r))
+          good-zero o (w (ltb-false (length (lent .bytes)) longestFrame (neither _ _ q .0)) (both-right (deskSound (deskIn (lent .desk)) (lent .live) (lent .run)) _ r))
 
-  kept-by : (o : Outcome) → (numberBy lent (resultOf o) ≡ 0 → ⊥) → lentBy lent (resultOf o) ≡ lent
+  kept-by : (o : Outcome) → (numberBy lent (resultOf (handedIn lent) o) ≡ 0 → ⊥) → lentBy lent (resultOf (handedIn lent) o) ≡ lent
   unfolding numberBy lentBy laid stateSaid headerSaid toldAnswer toldSaid
   kept-by o = go (noRoom (lent .tray) (lent .desk) (lent .told) (lent .header)) o
     where
-      go : (a : Bool) (o : Outcome) → (cond a 9 (toldAnswer (resultOf o .answer) .number) ≡ 0 → ⊥) → cond a lent (prepares.leaves lent (resultOf o)) ≡ lent
+      go : (a : Bool) (o : Outcome) → (cond a 9 (toldAnswer (resultOf (handedIn lent) o .answer) .number) ≡ 0 → ⊥) → cond a lent (prepares.leaves lent (resultOf (handedIn lent) o)) ≡ lent
       go true o h = refl
       go false (refused why) h = refl
-      go false (told event contents used) h = absurd (h (told-zero (uncut.toldOf (booksLent lent) event) used _))
+      go false (told event contents used) h = absurd (h (told-zero (uncut.toldOf (handedIn lent .books) event) used _))
       go false (hungry contents used) h = absurd (h refl)
       go false (done contents) h = absurd (h refl)
 
@@ -107,8 +93,8 @@ finish-number lent =
 -- "A refusal .. alters no lent byte or entry"
 pub call-refused : (lent : Lent) (input : List ℕ) → (callNumber lent input ≡ 0 → ⊥) → callLeaves lent input ≡ lent
 unfolding callNumber callLeaves callResult
-call-refused lent input h = kept-by lent (callOutcome (lent .bytes) (trayIn (lent .tray)) (booksLent lent) (lent .log) input) h
+call-refused lent input h = kept-by lent (callOutcome (handedIn lent) input) h
 
 pub finish-refused : (lent : Lent) → (finishNumber lent ≡ 0 → ⊥) → finishLeaves lent ≡ lent
 unfolding finishNumber finishLeaves finishResult
-finish-refused lent h = kept-by lent (finishOutcome (lent .bytes) (trayIn (lent .tray)) (booksLent lent) (lent .log)) h
+finish-refused lent h = kept-by lent (finishOutcome (handedIn lent)) h

@@ -2,12 +2,12 @@
 ghost use mathlib.Core.Path.{_≡_};
 ghost use Prim.Native.Nat.{_≤_};
 ghost use lib.ListN.{length};
-ghost use Rattle.prepare.specs.Determined.{byCall, byFinish};
+ghost use Rattle.prepare.specs.Prepare.{hands, results, byCall, byFinish};
 ghost use Rattle.export.specs.Numbers.{laid};
 ghost use Rattle.export.specs.Streams.{trayRoom, trayIn, trayOf};
 ghost use Rattle.exportdesk.specs.States.{deskRoom, deskIn, deskOf};
 ghost use Rattle.exportprepare.specs.Prepares.{lends, toldRoom, noRoom, eventOf, callNumber, callLeaves, finishNumber, finishLeaves};
-ghost use Rattle.exportprepare.specs.Puts.{StatesThere, AllThere, Puts, results};
+ghost use Rattle.exportprepare.specs.Puts.{StatesThere, AllThere, Puts};
 use export::frames::HEADER;
 use export::frames::put_header;
 use export::numbers::ROOM;
@@ -127,7 +127,7 @@ fn call(
     input: &[u8],
 ) -> Answer
     requires { ⌜ StatesThere (now tray) (now desk) ⌝ }
-    ensures { λ r. ⌜ results r (now (bytes .exit)) (now (live .exit)) (now (run .exit)) (now (log .exit)) ≡ byCall (now (bytes .entry)) (trayIn (now (tray .entry))) (deskIn (now (desk .entry))) (now (live .entry)) (now (run .entry)) (now (log .entry)) (now (input .entry)) ⌝ }
+    ensures { λ r. ⌜ results r (now (bytes .exit)) (now (live .exit)) (now (run .exit)) (now (log .exit)) ≡ byCall (hands (now (bytes .entry)) (trayIn (now (tray .entry))) (deskIn (now (desk .entry))) (now (live .entry)) (now (run .entry)) (now (log .entry))) (now (input .entry)) ⌝ }
 {
     let held = tray_in(tray);
     let kept = desk_in(desk);
@@ -143,7 +143,7 @@ fn finish(
     log: &mut [u8],
 ) -> Answer
     requires { ⌜ StatesThere (now tray) (now desk) ⌝ }
-    ensures { λ r. ⌜ results r (now (bytes .exit)) (now (live .exit)) (now (run .exit)) (now (log .exit)) ≡ byFinish (now (bytes .entry)) (trayIn (now (tray .entry))) (deskIn (now (desk .entry))) (now (live .entry)) (now (run .entry)) (now (log .entry)) ⌝ }
+    ensures { λ r. ⌜ results r (now (bytes .exit)) (now (live .exit)) (now (run .exit)) (now (log .exit)) ≡ byFinish (hands (now (bytes .entry)) (trayIn (now (tray .entry))) (deskIn (now (desk .entry))) (now (live .entry)) (now (run .entry)) (now (log .entry))) ⌝ }
 {
     let held = tray_in(tray);
     let kept = desk_in(desk);

@@ -23,7 +23,7 @@ use Rattle.sizes.specs.Sizes.{longestFrame, bookBytes, logRoom}
 use Rattle.desk.specs.History.{Held}
 use Rattle.prepare.specs.declared.Answer.{Answer}
 use Rattle.prepare.specs.Uncut.{toldOf, entriesOf}
-use Rattle.prepare.specs.Prepare.{booksIn, answerOf, booksOf, logOf, callOutcome, callAnswer, callBytes, callLive, callRun, callLog, finishOutcome, finishAnswer, finishBytes, finishLive, finishRun, finishLog}
+use Rattle.prepare.specs.Prepare.{Handed, booksIn, hands, answerOf, booksOf, logOf, results, resultOf, callOutcome, byCall, finishOutcome, byFinish}
 use Rattle.prepare.specs.Driver.{Sound}
 use Rattle.prepare.specs.Steps.{guarded-is, back, itself, Hears}
 use Rattle.prepare.specs.Stays.{sound-after}
@@ -33,105 +33,114 @@ use Rattle.runlog.specs.Events.{isEvent, heardOf, countedFrom, Prepared,
 
 -- ---- of any outcome: the desk is that of the books, which stay sound; the entries are in the log; and an event is one that the stream tells
 
-module _ (tray : Tray) (books : Held) where
-  desk-same : (o : stream.Outcome) → answerOf tray books o .desk ≡ booksOf books o .desk
+module _ (handed : Handed) where
+  desk-same : (o : stream.Outcome) → answerOf handed o .desk ≡ booksOf handed o .desk
   desk-same (stream.refused r) = refl
   desk-same (stream.told e c n) = refl
   desk-same (stream.hungry c n) = refl
   desk-same (stream.done c) = refl
 
-  stay : (o : stream.Outcome) → Sound books → Sound (booksOf books o)
+  stay : (o : stream.Outcome) → Sound (handed .books) → Sound (booksOf handed o)
   stay (stream.refused r) s = s
   stay (stream.told e c n) s = sound-after s e
   stay (stream.hungry c n) s = s
   stay (stream.done c) s = s
 
-  entries-in : (log : List ℕ) (o : stream.Outcome) → answerOf tray books o .log ≤ length (logOf books log o)
-  entries-in log (stream.refused r) = omega arith
-  entries-in log (stream.told e c n) =
-      let es = entriesOf (toldOf books e) in
-      rw (length-append es (drop (length es) log)) (omega arith)
-  entries-in log (stream.hungry c n) = omega arith
-  entries-in log (stream.done c) = omega arith
+  entries-in : (o : stream.Outcome) → answerOf handed o .log ≤ length (logOf handed o)
+  entries-in (stream.refused r) = omega arith
+  entries-in (stream.told e c n) =
+      let es = entriesOf (toldOf (handed .books) e) in
+      rw (length-append es (drop (length es) (handed .log))) (omega arith)
+  entries-in (stream.hungry c n) = omega arith
+  entries-in (stream.done c) = omega arith
 
-  the-event : (bytes : List ℕ) (o : stream.Outcome) → Good o → isEvent (answerOf tray books o .said) ≡ true → (e : Event) × Hears bytes tray o e
-  the-event bytes (stream.refused r) g q = absurd g
-  the-event bytes (stream.told e c n) g q = (e, itself bytes tray e c n g)
-  the-event bytes (stream.hungry c n) g q = let z : _≡_ {A = ℕ} 0 1 = cc in absurd (omega arith)
-  the-event bytes (stream.done c) g q = let z : _≡_ {A = ℕ} 0 1 = cc in absurd (omega arith)
+  the-event : (o : stream.Outcome) → Good o → isEvent (answerOf handed o .said) ≡ true → (e : Event) × Hears (handed .bytes) (handed .tray) o e
+  the-event (stream.refused r) g q = absurd g
+  the-event (stream.told e c n) g q = (e, itself (handed .bytes) (handed .tray) e c n g)
+  the-event (stream.hungry c n) g q = let z : _≡_ {A = ℕ} 0 1 = cc in absurd (omega arith)
+  the-event (stream.done c) g q = let z : _≡_ {A = ℕ} 0 1 = cc in absurd (omega arith)
 
 -- ---- a step of stream and desk, `o`, that is the stream's, `o′`, as a caller sees it
 
 module _ (bytes live run log : List ℕ) (tray : Tray) (desk : Desk) (p : Prepared bytes tray desk live run log) (o o′ : stream.Outcome) (q : o ≡ o′)
-    (bytes′ live′ run′ log′ : List ℕ) (a : Answer) (ea : a ≡ answerOf tray (booksIn desk live run) o) (eb : bytes′ ≡ stream.bytesOf bytes o)
-    (el : live′ ≡ booksOf (booksIn desk live run) o .live) (er : run′ ≡ booksOf (booksIn desk live run) o .run)
-    (eg : log′ ≡ logOf (booksIn desk live run) log o) where
+    (bytes′ live′ run′ log′ : List ℕ) (a : Answer) (e : results a bytes′ live′ run′ log′ ≡ resultOf (hands bytes tray desk live run log) o) where
+  abbrev handed : Handed
+  handed = hands bytes tray desk live run log
+
+  the-answer : a ≡ answerOf handed o
+  the-answer = ap (λ r. r .answer) e
+
   -- tray, bytes and the count used are the stream's
-  along : (R : List ℕ → Tray → ℕ → Type 0) → R (stream.bytesOf bytes o′) (stream.answerOf tray o′ .tray) (stream.answerOf tray o′ .used) → R bytes′ (a .tray) (a .used)
-  along R x = rw (ea, eb) (back bytes tray (booksIn desk live run) o o′ q (λ b t u d. R b t u) x)
+  along : (R : List ℕ → Tray → ℕ → Type 0) → R (stream.bytesOf bytes o′) (stream.answerOf tray o′ .tray) (stream.answerOf tray o′ .used)
+      → R bytes′ (a .tray) (a .used)
+  along R x =
+      let eb : bytes′ ≡ stream.bytesOf bytes o = ap (λ r. r .bytes) e in
+      rw (the-answer, eb) (back handed o o′ q (λ b t u d. R b t u) x)
 
   books-stay : Sound (booksIn (a .desk) live′ run′)
   books-stay =
-      let ed = ap (λ x. x .desk) ea ∙ desk-same tray (booksIn desk live run) o in
-      let e : booksIn (a .desk) live′ run′ ≡ booksOf (booksIn desk live run) o = λ i. booksIn (ed i) (el i) (er i) in
-      subst (λ d. Sound d) (sym e) (stay tray (booksIn desk live run) o (p .books-sound))
+      let ed : a .desk ≡ booksOf handed o .desk = ap (λ x. x .desk) the-answer ∙ desk-same handed o in
+      let el : live′ ≡ booksOf handed o .live = ap (λ r. r .live) e in
+      let er : run′ ≡ booksOf handed o .run = ap (λ r. r .run) e in
+      let x : booksIn (a .desk) live′ run′ ≡ booksOf handed o = λ i. booksIn (ed i) (el i) (er i) in
+      subst (λ d. Sound d) (sym x) (stay handed o (p .books-sound))
 
   stays : streaming.Ready (stream.bytesOf bytes o′) (stream.answerOf tray o′ .tray) → length log′ ≡ length log → Prepared bytes′ (a .tray) (a .desk) live′ run′ log′
   stays r l = record { tray-ready = along (λ b t u. streaming.Ready b t) r; books-sound = books-stay; log-room = rw l (p .log-room) }
 
   entries-fit : a .log ≤ length log′
-  entries-fit = rw (ea, eg) (entries-in tray (booksIn desk live run) log o)
+  entries-fit =
+      let eg : log′ ≡ logOf handed o = ap (λ r. r .log) e in
+      rw (the-answer, eg) (entries-in handed o)
 
   event : Good o′ → isEvent (a .said) ≡ true → (e : Event) × Hears bytes tray o′ e
-  event g n = the-event tray (booksIn desk live run) bytes o′ g (rw (ea, q) at n)
+  event g n = the-event handed o′ g (rw (the-answer, q) at n)
 
 -- ---- a call on the rest of a portion
 
-module _ (bytes live run log portion : List ℕ) (tray : Tray) (desk : Desk) (used : ℕ) (h : Hearing bytes tray desk live run log used (length portion))
-    (bytes′ live′ run′ log′ : List ℕ) (a : Answer) where
+module _ (bytes live run log portion : List ℕ) (tray : Tray) (desk : Desk) (used : ℕ)
+    (h : Hearing bytes tray desk live run log used (length portion)) (bytes′ live′ run′ log′ : List ℕ) (a : Answer) where
   abbrev input : List ℕ
   input = take (length portion - used) (drop used portion)
 
   rest : input ≡ drop used portion
   rest = take-all (length portion - used) (drop used portion) (rw length-drop (omega arith))
 
-  call-is : callOutcome bytes tray (booksIn desk live run) log input ≡ stream.called bytes tray input
+  call-is : callOutcome (hands bytes tray desk live run log) input ≡ stream.called bytes tray input
   unfolding callOutcome
-  call-is = guarded-is bytes tray (booksIn desk live run) log (stream.called bytes tray input) (h .prepared .tray-ready) (h .prepared .books-sound) (h .prepared .log-room)
+  call-is =
+      guarded-is (hands bytes tray desk live run log) (stream.called bytes tray input)
+      (h .prepared .tray-ready) (h .prepared .books-sound) (h .prepared .log-room)
 
-  module _ (ea : a ≡ callAnswer bytes tray desk live run log input) (eb : bytes′ ≡ callBytes bytes tray desk live run log input)
-      (el : live′ ≡ callLive bytes tray desk live run log input) (er : run′ ≡ callRun bytes tray desk live run log input)
-      (eg : log′ ≡ callLog bytes tray desk live run log input) where
+  module _ (e : results a bytes′ live′ run′ log′ ≡ byCall (hands bytes tray desk live run log) input) where
     abbrev of-call : (R : List ℕ → Tray → ℕ → Type 0)
-        → R (stream.callBytes bytes tray input) (stream.callAnswer bytes tray input .tray) (stream.callAnswer bytes tray input .used) → R bytes′ (a .tray) (a .used)
-    of-call = along bytes live run log tray desk (h .prepared) _ _ call-is bytes′ live′ run′ log′ a ea eb el er eg
+        → R (stream.callBytes bytes tray input) (stream.callAnswer bytes tray input .tray) (stream.callAnswer bytes tray input .used)
+        → R bytes′ (a .tray) (a .used)
+    of-call = along bytes live run log tray desk (h .prepared) _ _ call-is bytes′ live′ run′ log′ a e
 
-    call-fewer : isEvent (a .said) ≡ true → length (left bytes′ (a .tray) (drop (used + a .used) portion)) < length (left bytes tray (drop used portion))
+    call-fewer : isEvent (a .said) ≡ true → toTell bytes′ (a .tray) (used + a .used) portion < toTell bytes tray used portion
     call-fewer n =
-        let w = event bytes live run log tray desk (h .prepared) _ _ call-is bytes′ live′ run′ log′ a ea eb el er eg (call-kept bytes tray input (h .prepared .tray-ready)) n in
+        let w = event bytes live run log tray desk (h .prepared) _ _ call-is bytes′ live′ run′ log′ a e (call-kept bytes tray input (h .prepared .tray-ready)) n in
         let l = ap length (call-event (h .prepared .tray-ready) input (w .0) (w .1)) in
         let x : length (left bytes′ (a .tray) (drop (a .used) input)) < length (left bytes tray input)
         = of-call (λ b t u. length (left b t (drop u input)) < length (left bytes tray input)) (omega arith) in
         rw (← drop-drop (a .used) used portion) (rw rest at x)
 
-    inside′ : used + a .used ≤ length portion
-    inside′ =
+    pub call-within : Within (used + a .used) (length portion)
+    call-within =
         let u : a .used ≤ length input = of-call (λ b t u. u ≤ length input) (call-used bytes tray input) in
         let i = h .within .inside in
-        omega (arith, ap length rest, length-drop used portion)
-
-    pub call-within : Within (used + a .used) (length portion)
-    call-within = record { inside = inside′; fits = h .within .fits }
+        record { inside = omega (arith, ap length rest, length-drop used portion); fits = h .within .fits }
 
     pub call-fits : a .log ≤ length log′
-    call-fits = entries-fit bytes live run log tray desk (h .prepared) _ _ call-is bytes′ live′ run′ log′ a ea eb el er eg
+    call-fits = entries-fit bytes live run log tray desk (h .prepared) _ _ call-is bytes′ live′ run′ log′ a e
 
     pub call-step : length log′ ≡ length log
         → Step (toTell bytes tray used portion) bytes′ (a .tray) (a .desk) live′ run′ log′ (isEvent (a .said))
         (toTell bytes′ (a .tray) (used + a .used) portion)
     call-step l = record {
       prepared =
-          stays bytes live run log tray desk (h .prepared) _ _ call-is bytes′ live′ run′ log′ a ea eb el er eg
+          stays bytes live run log tray desk (h .prepared) _ _ call-is bytes′ live′ run′ log′ a e
           (call-sound (h .prepared .tray-ready) input) l;
       fewer = call-fewer;
     }
@@ -151,28 +160,27 @@ module _ (used : ℕ) (a r : Answer) (e : r ≡ countedFrom used a) where
 
 -- ---- a finish
 
-module _ (bytes live run log : List ℕ) (tray : Tray) (desk : Desk) (p : Prepared bytes tray desk live run log) (bytes′ live′ run′ log′ : List ℕ) (a : Answer) where
-  finish-is : finishOutcome bytes tray (booksIn desk live run) log ≡ stream.finished bytes tray
+module _ (bytes live run log : List ℕ) (tray : Tray) (desk : Desk) (p : Prepared bytes tray desk live run log)
+    (bytes′ live′ run′ log′ : List ℕ) (a : Answer) where
+  finish-is : finishOutcome (hands bytes tray desk live run log) ≡ stream.finished bytes tray
   unfolding finishOutcome
-  finish-is = guarded-is bytes tray (booksIn desk live run) log (stream.finished bytes tray) (p .tray-ready) (p .books-sound) (p .log-room)
+  finish-is = guarded-is (hands bytes tray desk live run log) (stream.finished bytes tray) (p .tray-ready) (p .books-sound) (p .log-room)
 
-  module _ (ea : a ≡ finishAnswer bytes tray desk live run log) (eb : bytes′ ≡ finishBytes bytes tray desk live run log)
-      (el : live′ ≡ finishLive bytes tray desk live run log) (er : run′ ≡ finishRun bytes tray desk live run log)
-      (eg : log′ ≡ finishLog bytes tray desk live run log) where
-    finish-fewer : isEvent (a .said) ≡ true → length (left bytes′ (a .tray) []) < length (left bytes tray [])
+  module _ (e : results a bytes′ live′ run′ log′ ≡ byFinish (hands bytes tray desk live run log)) where
+    finish-fewer : isEvent (a .said) ≡ true → lastToTell bytes′ (a .tray) < lastToTell bytes tray
     finish-fewer n =
-        let w = event bytes live run log tray desk p _ _ finish-is bytes′ live′ run′ log′ a ea eb el er eg (end-kept bytes tray (p .tray-ready)) n in
+        let w = event bytes live run log tray desk p _ _ finish-is bytes′ live′ run′ log′ a e (end-kept bytes tray (p .tray-ready)) n in
         let l = ap length (finish-event (p .tray-ready) (w .0) (w .1)) in
-        along bytes live run log tray desk p _ _ finish-is bytes′ live′ run′ log′ a ea eb el er eg
+        along bytes live run log tray desk p _ _ finish-is bytes′ live′ run′ log′ a e
         (λ b t u. length (left b t []) < length (left bytes tray [])) (omega arith)
 
     pub finish-fits : a .log ≤ length log′
-    finish-fits = entries-fit bytes live run log tray desk p _ _ finish-is bytes′ live′ run′ log′ a ea eb el er eg
+    finish-fits = entries-fit bytes live run log tray desk p _ _ finish-is bytes′ live′ run′ log′ a e
 
     pub finish-step : length log′ ≡ length log
         → Step (lastToTell bytes tray) bytes′ (a .tray) (a .desk) live′ run′ log′ (isEvent (a .said)) (lastToTell bytes′ (a .tray))
     finish-step l = record {
-      prepared = stays bytes live run log tray desk p _ _ finish-is bytes′ live′ run′ log′ a ea eb el er eg (finish-sound (p .tray-ready)) l;
+      prepared = stays bytes live run log tray desk p _ _ finish-is bytes′ live′ run′ log′ a e (finish-sound (p .tray-ready)) l;
       fewer = finish-fewer;
     }
 

@@ -22,13 +22,14 @@ same-length-4 c = search needs
 
 returns : tie.Need-returns
 unfolding finishNumber finishLeaves
-returns c = (search (short-number, needs), search (short-leaves, needs))
+returns c =
+    (search (short-number, needs), short-leaves _ _ _ _ _ _ _ _ _ _ (c .before .lacks-room .ensures) (c .if1 .taken))
 
 finish-requires : tie.Need-finish-requires
 finish-requires c κs = search (states-there, needs)
 
 tell-requires : tie.Need-tell-requires
-tell-requires c κs = search (all-there, needs)
+tell-requires c κs = search all-there
 
 same-length-5 : tie.Need-same-length-5
 same-length-5 c = search needs
