@@ -144,9 +144,13 @@ neither : (a b : Bool) → (a || b) ≡ false → (a ≡ false) × (b ≡ false)
 neither false b e = (refl, e)
 neither true b e = let z : _≡_ {A = ℕ} 0 1 = cc in absurd (omega arith)
 
-module _ (bytes : List ℕ) (d : Desk) (live run log : List ℕ) (x : Tested) (p : x ≡ test.Passed) (e : x ≡ testedOf bytes (booksIn d live run) log) where
+pub passed-is : (bytes : List ℕ) (books : Held) (log : List ℕ) (x : Tested) → x ≡ test.Passed → x ≡ testedOf bytes books log
+    → testedOf bytes books log ≡ test.Passed
+passed-is bytes books log x p e = sym e ∙ p
+
+module _ (bytes : List ℕ) (d : Desk) (live run log : List ℕ) (e : testedOf bytes (booksIn d live run) log ≡ test.Passed) where
   passed : Testing bytes (booksIn d live run) log test.Passed
-  passed = subst (λ x. Testing bytes (booksIn d live run) log x) (sym e ∙ p) (testing bytes (booksIn d live run) log)
+  passed = subst (λ x. Testing bytes (booksIn d live run) log x) e (testing bytes (booksIn d live run) log)
 
   pub passed-sound : deskSound d live run ≡ true
   passed-sound = is-sound bytes (booksIn d live run) log passed
@@ -176,26 +180,27 @@ module _ (bytes : List ℕ) (tray : Tray) (d : Desk) (live run log : List ℕ) (
       go t (unsound a b) q = let z : why ≡ refusal.State = cc in rw (z, a, b)
       go t (goes-on a b) q = let z : _≡_ {A = ℕ} 0 1 = cc in absurd (omega arith)
 
-  left-passed : Steps bytes tray o → (r : Answer) (bytes′ live′ run′ log′ : List ℕ) (heard : stream-answer.Answer)
-      → results r bytes′ live′ run′ log′ ≡ moved (booksIn d live run) heard (heard .said) bytes′ log
-      → heard ≡ stream.answerOf tray o → bytes′ ≡ stream.bytesOf bytes o
+  left-passed : Steps bytes tray o → (r : Answer) (bytes′ live′ run′ log′ : List ℕ) → results r bytes′ live′ run′ log′ ≡ resultOf handed o
       → (x : Tested) → x ≡ test.Passed → x ≡ testedOf bytes (booksIn d live run) log
       → results r bytes′ live′ run′ log′ ≡ resultOf handed (guarded handed o)
-  left-passed w r bytes′ live′ run′ log′ heard m a y x p e =
-      m
-      ∙ ap₂ (λ h b. moved (booksIn d live run) h (h .said) b log) a y
-      ∙ moved-is handed o (w .is-settled)
-      ∙ ap (resultOf handed) (sym step-is)
+  left-passed w r bytes′ live′ run′ log′ l x p e = l ∙ ap (resultOf handed) (sym step-is)
     where
       step-is : guarded handed o ≡ o
       step-is =
-          let rest = rooms bytes d live run log x p e in
-          let s = passed-sound bytes d live run log x p e in
+          let rest = rooms bytes d live run log (sym e ∙ p) in
+          let s = passed-sound bytes d live run log (sym e ∙ p) in
           rw (rest .0, rest .1, s) (go (stream.sound bytes tray) refl)
         where
           go : (b : Bool) → stream.sound bytes tray ≡ b → stream.stop (not b) refusal.State o ≡ o
           go true q = refl
-          go false q = sym (w .when-not (rooms bytes d live run log x p e .0) q)
+          go false q = sym (w .when-not (rooms bytes d live run log (sym e ∙ p) .0) q)
+
+  left-heard : Steps bytes tray o → (r : Answer) (bytes′ live′ run′ log′ : List ℕ) (heard : stream-answer.Answer)
+      → results r bytes′ live′ run′ log′ ≡ moved (booksIn d live run) heard (heard .said) bytes′ log
+      → heard ≡ stream.answerOf tray o → bytes′ ≡ stream.bytesOf bytes o
+      → results r bytes′ live′ run′ log′ ≡ resultOf handed o
+  left-heard w r bytes′ live′ run′ log′ heard m a y =
+      m ∙ ap₂ (λ h b. moved (booksIn d live run) h (h .said) b log) a y ∙ moved-is handed o (w .is-settled)
 
 -- `call` ..
 
@@ -206,13 +211,18 @@ module _ (bytes : List ℕ) (tray : Tray) (d : Desk) (live run log input : List 
   unfolding callOutcome
   call-failed = left-failed bytes tray d live run log (stream.called bytes tray input)
 
-  pub call-passed : (r : Answer) (bytes′ live′ run′ log′ : List ℕ) (heard : stream-answer.Answer)
-      → results r bytes′ live′ run′ log′ ≡ moved (booksIn d live run) heard (heard .said) bytes′ log
-      → heard ≡ stream.callAnswer bytes tray input → bytes′ ≡ stream.callBytes bytes tray input
+  pub call-passed : (r : Answer) (bytes′ live′ run′ log′ : List ℕ)
+      → results r bytes′ live′ run′ log′ ≡ resultOf (hands bytes tray d live run log) (stream.called bytes tray input)
       → (x : Tested) → x ≡ test.Passed → x ≡ testedOf bytes (booksIn d live run) log
       → results r bytes′ live′ run′ log′ ≡ byCall (hands bytes tray d live run log) input
   unfolding callOutcome
   call-passed = left-passed bytes tray d live run log (stream.called bytes tray input) (call-steps bytes tray input)
+
+  pub call-heard : (r : Answer) (bytes′ live′ run′ log′ : List ℕ) (heard : stream-answer.Answer)
+      → results r bytes′ live′ run′ log′ ≡ moved (booksIn d live run) heard (heard .said) bytes′ log
+      → heard ≡ stream.callAnswer bytes tray input → bytes′ ≡ stream.callBytes bytes tray input
+      → results r bytes′ live′ run′ log′ ≡ resultOf (hands bytes tray d live run log) (stream.called bytes tray input)
+  call-heard = left-heard bytes tray d live run log (stream.called bytes tray input) (call-steps bytes tray input)
 
 -- .. and `finish`
 
@@ -223,10 +233,15 @@ module _ (bytes : List ℕ) (tray : Tray) (d : Desk) (live run log : List ℕ) w
   unfolding finishOutcome
   finish-failed = left-failed bytes tray d live run log (stream.finished bytes tray)
 
-  pub finish-passed : (r : Answer) (bytes′ live′ run′ log′ : List ℕ) (heard : stream-answer.Answer)
-      → results r bytes′ live′ run′ log′ ≡ moved (booksIn d live run) heard (heard .said) bytes′ log
-      → heard ≡ stream.finishAnswer bytes tray → bytes′ ≡ stream.finishBytes bytes tray
+  pub finish-passed : (r : Answer) (bytes′ live′ run′ log′ : List ℕ)
+      → results r bytes′ live′ run′ log′ ≡ resultOf (hands bytes tray d live run log) (stream.finished bytes tray)
       → (x : Tested) → x ≡ test.Passed → x ≡ testedOf bytes (booksIn d live run) log
       → results r bytes′ live′ run′ log′ ≡ byFinish (hands bytes tray d live run log)
   unfolding finishOutcome
   finish-passed = left-passed bytes tray d live run log (stream.finished bytes tray) (finish-steps bytes tray)
+
+  pub finish-heard : (r : Answer) (bytes′ live′ run′ log′ : List ℕ) (heard : stream-answer.Answer)
+      → results r bytes′ live′ run′ log′ ≡ moved (booksIn d live run) heard (heard .said) bytes′ log
+      → heard ≡ stream.finishAnswer bytes tray → bytes′ ≡ stream.finishBytes bytes tray
+      → results r bytes′ live′ run′ log′ ≡ resultOf (hands bytes tray d live run log) (stream.finished bytes tray)
+  finish-heard = left-heard bytes tray d live run log (stream.finished bytes tray) (finish-steps bytes tray)

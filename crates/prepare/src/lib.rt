@@ -2,13 +2,15 @@
 ghost use mathlib.Core.Path.{_≡_};
 ghost use mathlib.Core.Bool.{true, false};
 ghost use lib.ListN.{take};
-ghost use Rattle.frame.specs.Check.{checked};
+ghost use Rattle.frame.specs.Check.{checked, payloadIn};
 ghost use Rattle.frame.specs.declared.Checked.the-variants.{Accepted};
 ghost use Rattle.desk.specs.Desk.{deskSound};
 ghost use Rattle.desk.specs.Take as takes;
-ghost use Rattle.prepare.specs.Prepare.{booksIn, hands, noRoom, results, byCall, byFinish, numberOfSaid};
+ghost use Rattle.stream.specs.Tray.{called, finished};
+ghost use Rattle.prepare.specs.Prepare.{booksIn, hands, noRoom, results, resultOf, byCall, byFinish, numberOfSaid};
 ghost use Rattle.prepare.specs.Moves.{testedOf, taken, untaken, moved, Lies};
 ghost use Rattle.prepare.specs.declared.Said.the-variants as said;
+ghost use Rattle.prepare.specs.declared.Tested.the-variants as test;
 ghost use Rattle.stream.specs.declared.Said.the-variants as hears;
 use answer::Refusal;
 use desk::Desk;
@@ -138,7 +140,17 @@ fn answered(heard: stream::Answer, header: Frame, given: desk::Taken) -> Answer
     }
 }
 
-// A frame event goes to the desk. The frame lies first in the tray and was checked there, so it is not checked again.
+// The payload of the frame that lies first in the tray and was checked there; what was known of the frame is handed on.
+fn payload_first<'a>(bytes: &'a [u8], header: Frame) -> &'a [u8]
+    requires { ⌜ checked (take (header .length) (now bytes)) ≡ Accepted header ⌝ }
+    ensures { λ r. ⌜ now r ≡ payloadIn header (take (header .length) (now (bytes .entry))) ⌝ }
+    ensures { λ _. ⌜ checked (take (header .length) (now (bytes .entry))) ≡ Accepted header ⌝ }
+{
+    let length = header.length;
+    frame::payload_in(&bytes[..length], header)
+}
+
+// A frame event goes to the desk. It was checked in the tray, so it is not checked again.
 fn give(
     heard: stream::Answer,
     header: Frame,
@@ -152,8 +164,7 @@ fn give(
     requires { ⌜ checked (take (header .length) (now bytes)) ≡ Accepted header ⌝ }
     ensures { λ r. ⌜ results r (now (bytes .entry)) (now (live .exit)) (now (run .exit)) (now (log .exit)) ≡ moved (booksIn desk (now (live .entry)) (now (run .entry))) heard (hears.Frame header) (now (bytes .entry)) (now (log .entry)) ⌝ }
 {
-    let length = header.length;
-    let payload = frame::payload_in(&bytes[..length], header);
+    let payload = payload_first(bytes, header);
     let given = desk::take_header(desk, header, payload, live, run, log);
     answered(heard, header, given)
 }
@@ -181,6 +192,39 @@ fn step(
     }
 }
 
+// The stream's step on a portion, and what it says moves the desk on.
+fn hear_call(
+    bytes: &mut [u8],
+    tray: Tray,
+    desk: Desk,
+    live: &mut [u8],
+    run: &mut [u8],
+    log: &mut [u8],
+    input: &[u8],
+) -> Answer
+    requires { ⌜ testedOf (now bytes) (booksIn desk (now live) (now run)) (now log) ≡ test.Passed ⌝ }
+    ensures { λ r. ⌜ results r (now (bytes .exit)) (now (live .exit)) (now (run .exit)) (now (log .exit)) ≡ resultOf (hands (now (bytes .entry)) tray desk (now (live .entry)) (now (run .entry)) (now (log .entry))) (called (now (bytes .entry)) tray (now (input .entry))) ⌝ }
+{
+    let heard = stream::call(bytes, tray, input);
+    step(heard, bytes, desk, live, run, log)
+}
+
+// The same at the stream's end.
+fn hear_finish(
+    bytes: &mut [u8],
+    tray: Tray,
+    desk: Desk,
+    live: &mut [u8],
+    run: &mut [u8],
+    log: &mut [u8],
+) -> Answer
+    requires { ⌜ testedOf (now bytes) (booksIn desk (now live) (now run)) (now log) ≡ test.Passed ⌝ }
+    ensures { λ r. ⌜ results r (now (bytes .exit)) (now (live .exit)) (now (run .exit)) (now (log .exit)) ≡ resultOf (hands (now (bytes .entry)) tray desk (now (live .entry)) (now (run .entry)) (now (log .entry))) (finished (now (bytes .entry)) tray) ⌝ }
+{
+    let heard = stream::finish(bytes, tray);
+    step(heard, bytes, desk, live, run, log)
+}
+
 // Takes a portion and moves stream and desk one event on. Where the tray is not sound the stream refuses with the same number as the desk would, so
 // neither is tested twice.
 pub fn call(
@@ -196,14 +240,11 @@ pub fn call(
 {
     match test_lent(bytes, desk, live, run, log) {
         Tested::Failed(why) => refused(tray, desk, why),
-        Tested::Passed => {
-            let heard = stream::call(bytes, tray, input);
-            step(heard, bytes, desk, live, run, log)
-        }
+        Tested::Passed => hear_call(bytes, tray, desk, live, run, log, input),
     }
 }
 
-// The same at the stream's end: called until it says done.
+// Finishes a stream, an event a call: called until it says done.
 pub fn finish(
     bytes: &mut [u8],
     tray: Tray,
@@ -216,9 +257,6 @@ pub fn finish(
 {
     match test_lent(bytes, desk, live, run, log) {
         Tested::Failed(why) => refused(tray, desk, why),
-        Tested::Passed => {
-            let heard = stream::finish(bytes, tray);
-            step(heard, bytes, desk, live, run, log)
-        }
+        Tested::Passed => hear_finish(bytes, tray, desk, live, run, log),
     }
 }
