@@ -8,7 +8,7 @@
  * size is ROOM; a longer one is fine, its surplus is neither read nor written. A refusal (a number other than 0) changes nothing. On
  * success, places behind what is written stay as lent. No call keeps a pointer, takes memory or reads anything but its arguments.
  *
- * That each call does what is said here is proved, for all arguments (crates/export/specs, crates/exportdesk/specs).
+ * That each call does what is said here is proved, for all arguments (specs/ of crates/export, crates/exportdesk and crates/exportprepare).
  */
 #ifndef HOMRALGYU_H
 #define HOMRALGYU_H

@@ -9,12 +9,13 @@ use lib.Ieee.{Float, fin, binary64, round, div, ofInt}
 use Rattle.answer.specs.declared.Refusal.the-variants.{Field}
 use Rattle.area.specs.Area.{areaOff}
 use Rattle.bits.specs.Bits.{bitsOf, toBits, number, field}
-use Rattle.book.specs.Book.{bookBytes, sound, headSound, areasSound}
+use Rattle.sizes.specs.Sizes.{bookBytes, logRoom}
+use Rattle.book.specs.Book.{noBook, sound, headSound, areasSound}
 use Rattle.checks.specs.Crc.{shift, crcBits, crc, lowFirst, reversed4, frameCrc, messageCrc}
 use Rattle.codes.specs.Fields.{numbered}
 use Rattle.codes.specs.Tables.{maskSizes, maskSize}
-use Rattle.desk.specs.Desk.{noBook, newDesk, deskSound}
-use Rattle.desk.specs.Take.{logRoom, byHeader, verdict, loggedBy, frameTaken}
+use Rattle.desk.specs.Desk.{newDesk, deskSound}
+use Rattle.desk.specs.Take.{hands, byHeader, noRoom, verdict, loggedBy, frameTaken}
 use Rattle.desk.specs.declared.NewDesk.{NewDesk}
 use Rattle.desk.specs.declared.NewDesk.the-variants as new
 use Rattle.desk.specs.declared.Run.{Run}
@@ -60,11 +61,11 @@ log = replicate logRoom 0
 
 -- the run that a new desk has open after its first frame, and the log bytes that it writes of it
 abbrev pub firstRun : NewDesk → (frame : List ℕ) → Answer
-firstRun (new.Made desk) frame = opens (frameTaken desk frame book book log .desk .run)
+firstRun (new.Made desk) frame = opens (frameTaken (hands desk frame book book log) .answer .desk .run)
 firstRun (new.Refused why) frame = noDesk
 
 abbrev pub firstLog : NewDesk → (frame : List ℕ) → Answer
-firstLog (new.Made desk) frame = bytes (loggedBy desk book book (verdict desk frame book book log))
+firstLog (new.Made desk) frame = bytes (loggedBy desk book book (verdict (hands desk frame book book log)))
 firstLog (new.Refused why) frame = noDesk
 
 abbrev pub said : Question → Answer
@@ -135,5 +136,5 @@ measured =
     []
 
 pub measured-hold : map (λ (c : Case). said (c .asked)) measured ≡ map (λ (c : Case). c .answer) measured
-unfolding measured decimal valueOf rowOf table find quotient div ofInt round judgedSheet judgingSheet writeL judge bitsOf numbered maskSize maskSizes areaOff groupsOf groups groupsOfAll newDesk frameTaken loggedBy verdict byHeader deskSound sound headSound areasSound plain body start description checkOver bytesOf checked badFrameCrc badMessageCrc frameOf payloadIn authenticated authentication frameCrc messageCrc crc crcBits shift lowFirst reversed4 toBits number field judging readL logOf reasonFor
+unfolding measured decimal valueOf rowOf table find quotient div ofInt round judgedSheet judgingSheet writeL judge bitsOf numbered maskSize maskSizes areaOff groupsOf groups groupsOfAll newDesk frameTaken loggedBy verdict noRoom byHeader deskSound sound headSound areasSound plain body start description checkOver bytesOf checked badFrameCrc badMessageCrc frameOf payloadIn authenticated authentication frameCrc messageCrc crc crcBits shift lowFirst reversed4 toBits number field judging readL logOf reasonFor
 measured-hold = refl

@@ -58,7 +58,7 @@ fn is_field(sf: u16, code: u64) -> bool {
 
 // A sheet is written with so many bits and bytes.
 fn takes(kind: u8, subtype: u8, sheet: &[u64], bits: usize, bytes: usize) -> bool {
-    let mut out = [0u8; 1023];
+    let mut out = [0u8; sizes::LONGEST_PAYLOAD];
     match sheet::write(kind, subtype, sheet, &mut out) {
         WriteAnswer::Written { bits: b, bytes: n } => { if b == bits { n == bytes } else { false } }
         WriteAnswer::Refused(_) => false,
@@ -95,10 +95,10 @@ fn write_hpac(tag_kind: u8, tag: u64, out: &mut [u8]) {
 
 // What a desk makes of that frame.
 fn taken(desk: Desk, tag_kind: u8, tag: u64, log: &mut [u8]) -> Taken {
-    let mut frame = [0u8; 1103];
+    let mut frame = [0u8; sizes::LONGEST_FRAME];
     write_hpac(tag_kind, tag, &mut frame);
-    let mut live = [0u8; 192];
-    let mut run = [0u8; 192];
+    let mut live = [0u8; sizes::BOOK_BYTES];
+    let mut run = [0u8; sizes::BOOK_BYTES];
     desk::take(desk, &frame, &mut live, &mut run, log)
 }
 
@@ -112,7 +112,7 @@ fn is_open(run: Run, tag: u64) -> bool {
 
 // A frame whose tag has 32 bits opens a run with this tag, as the first of a new desk.
 fn opens(tag: u64, becomes: u64) -> bool {
-    let mut log = [0u8; 4096];
+    let mut log = [0u8; sizes::LOG_ROOM];
     match desk::new_desk(0, 0, 0) {
         NewDesk::Made(desk) => {
             let after = taken(desk, 1, tag, &mut log).desk;
@@ -141,7 +141,7 @@ fn is_log(said: Said, log: &[u8], wanted: &[u8]) -> bool {
 
 // The log of a frame whose tag has 16 bits, as the first of a new desk.
 fn logs(tag: u64, wanted: &[u8]) -> bool {
-    let mut log = [0u8; 4096];
+    let mut log = [0u8; sizes::LOG_ROOM];
     match desk::new_desk(0, 0, 0) {
         NewDesk::Made(desk) => {
             let said = taken(desk, 0, tag, &mut log).said;

@@ -17,14 +17,14 @@ use Rattle.frame.specs.Check.{checked, payloadIn}
 use Rattle.frame.specs.declared.Frame.{Frame}
 use Rattle.frame.specs.declared.Checked.{Checked}
 use Rattle.frame.specs.declared.Checked.the-variants as check
-use Rattle.book.specs.Book.{bookBytes}
+use Rattle.sizes.specs.Sizes.{bookBytes, logRoom}
 use Rattle.book.specs.Laws.{sound-room}
 use Rattle.book.specs.Take.{takenOf, bytesAfter}
 use Rattle.book.specs.declared.Book.{Book}
 use Rattle.book.specs.declared.Taken as took
 use Rattle.book.specs.declared.Taken.the-variants as gad
 use Rattle.desk.specs.Desk.{deskSound}
-use Rattle.desk.specs.Take.{logRoom, Verdict, refused, defines, continues, stop, byBook, byMessage, byPayload, ours, isSealed, byHeader, byFrame, noRoom, verdict, deskBy}
+use Rattle.desk.specs.Take.{Verdict, refused, defines, continues, stop, byBook, byMessage, byPayload, ours, isSealed, byHeader, byFrame, noRoom, hands, verdict, deskBy}
 use Rattle.desk.specs.Fits.{sound-live}
 use Rattle.desk.specs.declared.Desk.{Desk}
 
@@ -66,6 +66,7 @@ module _ (desk : Desk) (live run : List ℕ) (book : Book) (bytes : List ℕ) (w
   on-frame frame (check.Refused why) e = let z : _≡_ {A = ℕ} 0 1 = cc in absurd (omega arith)
 
   room-stays : (log : List ℕ) → noRoom live run log ≡ false → noRoom bytes run log ≡ false
+  unfolding noRoom
   room-stays log e =
       let z : ltb (length bytes) bookBytes ≡ false = le-ltb (length bytes) bookBytes (sound-room book bytes (sound-live (deskBy desk (defines book bytes)) bytes run w)) in
       rw z (go (ltb (length live) bookBytes) (ltb (length run) bookBytes || ltb (length log) logRoom) e)
@@ -74,8 +75,8 @@ module _ (desk : Desk) (live run : List ℕ) (book : Book) (bytes : List ℕ) (w
       go false b e = e
       go true b e = let z : _≡_ {A = ℕ} 0 1 = cc in absurd (omega arith)
 
-  pub still-continues : (frame log : List ℕ) → verdict desk frame live run log ≡ continues runBook message
-      → verdict (deskBy desk (defines book bytes)) frame bytes run log ≡ continues runBook message
+  pub still-continues : (frame log : List ℕ) → verdict (hands desk frame live run log) ≡ continues runBook message
+      → verdict (hands (deskBy desk (defines book bytes)) frame bytes run log) ≡ continues runBook message
   unfolding verdict
   still-continues frame log e =
       let rest : Verdict = byFrame desk live (checked frame) frame in

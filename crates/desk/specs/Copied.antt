@@ -11,7 +11,8 @@ use borrow.Author.Tests.{le-leb, ltb-true}
 use Rattle.area.specs.Area.{sf031, isArea}
 use Rattle.area.specs.Laws.{both-right}
 use Rattle.area.specs.declared.AreaId.{AreaId}
-use Rattle.book.specs.Book.{bookBytes, headSound, areasSound, sound, placeOf, found}
+use Rattle.sizes.specs.Sizes.{mostAreas, bookBytes}
+use Rattle.book.specs.Book.{headSound, areasSound, sound, placeOf, found}
 use Rattle.book.specs.Laws.{head-parts, sound-head, sound-room}
 use Rattle.book.specs.declared.Book.{Book}
 use Rattle.desk.specs.Take.{copied}
@@ -57,7 +58,7 @@ same-part k n p t q h =
 -- ---- a book that is copied from sound bytes to a slice with room for it
 
 module _ (book : Book) (from to : List ℕ) (w : sound book from ≡ true) (room : bookBytes ≤ length to) where
-  few : book .count ≤ 32
+  few : book .count ≤ mostAreas
   few = head-parts book (sound-head book from w) .1
 
   front : length (take (6 * book .count) from) ≡ 6 * book .count

@@ -3,30 +3,22 @@ use mathlib.Core.Bool.{Bool, true, cond, _&&_}
 use mathlib.Core.List.{List}
 use Prim.Native.Nat.{ℕ}
 use lib.Dec.{ltb}
+use Rattle.sizes.specs.Sizes.{tags}
 use Rattle.answer.specs.Number.{numberOf}
 use Rattle.answer.specs.declared.Refusal.the-variants.{Field}
 use Rattle.message.specs.Messages.{constellationFor}
 use Rattle.message.specs.declared.Subtype.{Subtype}
 use Rattle.message.specs.declared.Subtype.the-variants as subtype
-use Rattle.book.specs.Book.{sound}
-use Rattle.book.specs.declared.Book.{Book}
+use Rattle.book.specs.Book.{noBook, sound}
 use Rattle.desk.specs.declared.Desk.{Desk}
 use Rattle.desk.specs.declared.Run.{Run}
 use Rattle.desk.specs.declared.Run.the-variants.{Closed, Open}
 use Rattle.desk.specs.declared.NewDesk.{NewDesk}
 use Rattle.desk.specs.declared.NewDesk.the-variants.{Made, Refused}
 
--- "An HPAC tag is taken modulo 43,200."
-abbrev pub tags : ℕ
-tags = 43200
-
 -- "A desk is made for one solution, processor and constellation." TF010 has 7 bits, TF011 4.
 abbrev pub sourceInRange : (solution processor : ℕ) → Bool
 sourceInRange solution processor = ltb solution 128 && ltb processor 16
-
--- a book without an area
-abbrev pub noBook : Book
-noBook = record { «aiou_plus_one» = 0; count = 0 }
 
 -- "A new desk with an argument out of range: FIELD." Constellations are 0 to 4, as the subtypes of HPAC.
 abbrev pub madeFor : (solution processor : ℕ) → Subtype → NewDesk

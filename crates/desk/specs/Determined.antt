@@ -8,14 +8,12 @@ use Rattle.bits.specs.Part.{part-determined}
 use Rattle.area.specs.declared.AreaId.{AreaId}
 use Rattle.codes.specs.Tables.{rowOf}
 use Rattle.codes.specs.declared.Constellation.{Constellation}
-use Rattle.book.specs.declared.Book.{Book}
 use Rattle.desk.specs.Desk.{newDesk, numberOfNew, deskSound}
-use Rattle.desk.specs.Take.{frameTaken, liveAfter, runAfter, logAfter, bookTaken, liveAfterBook, numberOfSaid}
+use Rattle.desk.specs.Take.{Handed, Result, frameTaken, BookHanded, BookResult, bookTaken, numberOfSaid}
 use Rattle.desk.specs.Lookup.{Spot, spotOf, bytesAt, Lies, live-part, run-part, empty-part}
 use Rattle.desk.specs.declared.Desk.{Desk}
 use Rattle.desk.specs.declared.NewDesk.{NewDesk}
 use Rattle.desk.specs.declared.Said.{Said}
-use Rattle.desk.specs.declared.Taken.{Taken}
 
 pub new-desk-determined : (solution processor constellation : ℕ) (a b : NewDesk) → a ≡ newDesk solution processor constellation → b ≡ newDesk solution processor constellation → a ≡ b
 new-desk-determined solution processor constellation a b p q = p ∙ sym q
@@ -41,11 +39,8 @@ number-said-determined said a b p q = p ∙ sym q
 pub subtype-of-determined : (constellation : Constellation) (a b : ℕ) → a ≡ rowOf constellation → b ≡ rowOf constellation → a ≡ b
 subtype-of-determined constellation a b p q = p ∙ sym q
 
-pub take-book-determined : (desk : Desk) (book : Book) (bytes live run : List ℕ) (a b : Taken) (s t : List ℕ) → a ≡ bookTaken desk book bytes live run → b ≡ bookTaken desk book bytes live run
-    → s ≡ liveAfterBook desk book bytes live run → t ≡ liveAfterBook desk book bytes live run → (a ≡ b) × (s ≡ t)
-take-book-determined desk book bytes live run a b s t ea eb es et = (ea ∙ sym eb, es ∙ sym et)
+pub take-book-determined : (handed : BookHanded) (a b : BookResult) → a ≡ bookTaken handed → b ≡ bookTaken handed → a ≡ b
+take-book-determined handed a b p q = p ∙ sym q
 
-pub take-determined : (desk : Desk) (frame live run log : List ℕ) (a b : Taken) (s t u v x y : List ℕ) → a ≡ frameTaken desk frame live run log → b ≡ frameTaken desk frame live run log
-    → s ≡ liveAfter desk frame live run log → t ≡ liveAfter desk frame live run log → u ≡ runAfter desk frame live run log → v ≡ runAfter desk frame live run log
-    → x ≡ logAfter desk frame live run log → y ≡ logAfter desk frame live run log → (a ≡ b) × (s ≡ t) × (u ≡ v) × (x ≡ y)
-take-determined desk frame live run log a b s t u v x y ea eb es et eu ev ex ey = (ea ∙ sym eb, es ∙ sym et, eu ∙ sym ev, ex ∙ sym ey)
+pub take-determined : (handed : Handed) (a b : Result) → a ≡ frameTaken handed → b ≡ frameTaken handed → a ≡ b
+take-determined handed a b p q = p ∙ sym q

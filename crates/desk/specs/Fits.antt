@@ -18,15 +18,16 @@ use Rattle.frame.specs.Check.{checked, payloadIn}
 use Rattle.frame.specs.declared.Frame.{Frame}
 use Rattle.frame.specs.declared.Checked.{Checked}
 use Rattle.frame.specs.declared.Checked.the-variants as check
-use Rattle.book.specs.Book.{bookBytes, sound}
+use Rattle.sizes.specs.Sizes.{tags, bookBytes, logRoom}
+use Rattle.book.specs.Book.{sound}
 use Rattle.book.specs.Take.{takenOf, bytesAfter}
 use Rattle.book.specs.Laws.{sound-room}
 use Rattle.book.specs.Theorems.{stays-sound}
 use Rattle.book.specs.declared.Book.{Book}
 use Rattle.book.specs.declared.Taken as took
 use Rattle.book.specs.declared.Taken.the-variants as gad
-use Rattle.desk.specs.Desk.{tags, sourceInRange, runSound, deskSound}
-use Rattle.desk.specs.Take.{logRoom, Verdict, refused, defines, continues, opens, stop, byRun, badTag, tagOf, byBook, byMessage, byPayload, ours, isSealed, byHeader, byFrame, noRoom, verdict, copied, bookVerdict}
+use Rattle.desk.specs.Desk.{sourceInRange, runSound, deskSound}
+use Rattle.desk.specs.Take.{Verdict, refused, defines, continues, opens, stop, byRun, badTag, tagOf, byBook, byMessage, byPayload, ours, isSealed, byHeader, byFrame, noRoom, hands, verdict, copied, noBookRoom, handsBook, bookVerdict}
 use Rattle.desk.specs.Copied.{copied-sound}
 use Rattle.desk.specs.declared.Desk.{Desk}
 use Rattle.desk.specs.declared.Run.{Run}
@@ -107,6 +108,7 @@ module _ (desk : Desk) (live run : List ℕ) where
   fits-frame ready frame (check.Refused why) = not-taken
 
   room-run : (log : List ℕ) → noRoom live run log ≡ false → bookBytes ≤ length run
+  unfolding noRoom
   room-run log e = go (ltb (length live) bookBytes) (ltb (length run) bookBytes) refl (ltb (length log) logRoom) e
     where
       go : (a b : Bool) → ltb (length run) bookBytes ≡ b → (c : Bool) → (a || (b || c)) ≡ false → bookBytes ≤ length run
@@ -114,7 +116,7 @@ module _ (desk : Desk) (live run : List ℕ) where
       go true b q c e = let z : _≡_ {A = ℕ} 0 1 = cc in absurd (omega arith)
       go false true q c e = let z : _≡_ {A = ℕ} 0 1 = cc in absurd (omega arith)
 
-  pub fits : (frame log : List ℕ) → Fits desk live run (verdict desk frame live run log)
+  pub fits : (frame log : List ℕ) → Fits desk live run (verdict (hands desk frame live run log))
   unfolding verdict
   fits frame log =
       let rest : Verdict = byFrame desk live (checked frame) frame in
@@ -127,12 +129,12 @@ module _ (desk : Desk) (live run : List ℕ) where
   fits-book-in ready book bytes w =
       new-areas ready (copied-sound book bytes live w (sound-room (desk .book) live (sound-live desk live run (ready .state))))
 
-  pub fits-kept : (book : Book) (bytes : List ℕ) → Fits desk live run (bookVerdict desk book bytes live run)
+  pub fits-kept : (book : Book) (bytes : List ℕ) → Fits desk live run (bookVerdict (handsBook desk book bytes live run))
   unfolding bookVerdict
   fits-kept book bytes =
       let rest : Verdict = defines book (copied book bytes live) in
       let both : Bool = deskSound desk live run && sound book bytes in
-      fits-stop (ltb (length bytes) bookBytes || (ltb (length live) bookBytes || ltb (length run) bookBytes)) refusal.Room (stop (not both) refusal.State rest) (λ r.
+      fits-stop (noBookRoom bytes live run) refusal.Room (stop (not both) refusal.State rest) (λ r.
       fits-stop (not both) refusal.State rest (λ s.
       fits-book-in
       (record { state = both-left (deskSound desk live run) (sound book bytes) (not-false both s); room = last-room (ltb (length bytes) bookBytes) (ltb (length live) bookBytes) r })

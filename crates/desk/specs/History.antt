@@ -3,7 +3,7 @@ use mathlib.Core.List.{List, [], _∷_, _++_}
 use Prim.Native.Nat.{ℕ}
 use Rattle.book.specs.declared.Book.{Book}
 use Rattle.log.specs.Log.{opened, logOf}
-use Rattle.desk.specs.Take.{Verdict, refused, defines, continues, opens, verdict, bookVerdict, deskBy, liveBy, runBytesBy, entriesBy}
+use Rattle.desk.specs.Take.{Verdict, refused, defines, continues, opens, hands, verdict, handsBook, bookVerdict, deskBy, liveBy, runBytesBy, entriesBy}
 use Rattle.desk.specs.declared.Desk.{Desk}
 
 -- what a desk has between two frames: its state, and the bytes of the live book and of the run's
@@ -18,8 +18,8 @@ pub data Given : Type 0 where
   keptBook : (book : Book) (bytes : List ℕ) → Given
 
 abbrev pub verdictOn : Held → Given → Verdict
-verdictOn held (frameWith frame log) = verdict (held .desk) frame (held .live) (held .run) log
-verdictOn held (keptBook book bytes) = bookVerdict (held .desk) book bytes (held .live) (held .run)
+verdictOn held (frameWith frame log) = verdict (hands (held .desk) frame (held .live) (held .run) log)
+verdictOn held (keptBook book bytes) = bookVerdict (handsBook (held .desk) book bytes (held .live) (held .run))
 
 abbrev pub heldBy : Held → Verdict → Held
 heldBy held v = record { desk = deskBy (held .desk) v; live = liveBy (held .live) v; run = runBytesBy (held .desk) (held .live) (held .run) v }

@@ -7,7 +7,8 @@ use lib.Dec.{ltb}
 use lib.ListN.{length, take, drop}
 use Rattle.bits.specs.Part.{PartOf}
 use Rattle.area.specs.declared.AreaId.{AreaId}
-use Rattle.book.specs.Book.{bookBytes, isHeld, placeOf}
+use Rattle.sizes.specs.Sizes.{bookBytes}
+use Rattle.book.specs.Book.{isHeld, placeOf}
 use Rattle.book.specs.declared.Book.{Book}
 use Rattle.desk.specs.Desk.{deskSound}
 use Rattle.desk.specs.declared.Desk.{Desk}

@@ -4,6 +4,7 @@ use mathlib.Core.List.{List, [], _++_}
 use Prim.Native.Nat.{ℕ, _*_, _%_}
 use lib.Dec.{leb, ltb, eqb}
 use lib.ListN.{length, take, drop}
+use Rattle.sizes.specs.Sizes.{tags, bookBytes, logRoom}
 use Rattle.answer.specs.Number.{numberOf}
 use Rattle.answer.specs.declared.Refusal.{Refusal}
 use Rattle.answer.specs.declared.Refusal.the-variants as refusal
@@ -19,14 +20,14 @@ use Rattle.layout.specs.Layout as layout
 use Rattle.hpac.specs.Hpac.{Hpac}
 use Rattle.message.specs.Messages.{Message, ocbMessage, hpacMessage, gadMessage, bpacMessage}
 use Rattle.sheet.specs.Sheet.{judging}
-use Rattle.book.specs.Book.{bookBytes, sound}
+use Rattle.book.specs.Book.{sound}
 use Rattle.book.specs.Take.{takenOf, bytesAfter}
 use Rattle.book.specs.declared.Book.{Book}
 use Rattle.book.specs.declared.Taken as took
 use Rattle.book.specs.declared.Taken.the-variants as gad
 use Rattle.groups.specs.Groups.{groupsOfAll}
 use Rattle.log.specs.Log.{opened, logOf}
-use Rattle.desk.specs.Desk.{tags, deskSound}
+use Rattle.desk.specs.Desk.{deskSound}
 use Rattle.desk.specs.declared.Desk.{Desk}
 use Rattle.desk.specs.declared.Run.{Run}
 use Rattle.desk.specs.declared.Run.the-variants.{Closed, Open}
@@ -34,9 +35,17 @@ use Rattle.desk.specs.declared.Said.{Said}
 use Rattle.desk.specs.declared.Said.the-variants as said
 use Rattle.desk.specs.declared.Taken.{Taken}
 
--- "Log room: 4,096 bytes per frame"
-abbrev pub logRoom : ℕ
-logRoom = 4096
+-- ---- what a call is given: the desk and the frame, and lent the live book, the run's book and a log
+
+pub record Handed : Type 0 where
+  pub desk : Desk
+  pub frame : List ℕ
+  pub live : List ℕ
+  pub run : List ℕ
+  pub log : List ℕ
+
+abbrev pub hands : Desk → (frame live run log : List ℕ) → Handed
+hands desk frame live run log = record { desk = desk; frame = frame; live = live; run = run; log = log }
 
 -- ---- what a frame is to a desk
 
@@ -114,15 +123,15 @@ byFrame desk live (check.Short wanted) frame = refused refusal.Short
 byFrame desk live (check.Refused why) frame = refused why
 
 -- ROOM: "lent buffer under its stated size"
-abbrev pub noRoom : (live run log : List ℕ) → Bool
+unfoldable pub noRoom : (live run log : List ℕ) → Bool
 noRoom live run log = ltb (length live) bookBytes || (ltb (length run) bookBytes || ltb (length log) logRoom)
 
 -- "Order: ROOM, STATE, the frame's own refusals, NOT_OURS, SEALED, payload refusals, then for HPAC TAG, for GAD the book's refusals"
-unfoldable pub verdict : Desk → (frame live run log : List ℕ) → Verdict
-verdict desk frame live run log =
-    stop (noRoom live run log) refusal.Room
-    (stop (not (deskSound desk live run)) refusal.State
-    (byFrame desk live (checked frame) frame))
+unfoldable pub verdict : Handed → Verdict
+verdict handed =
+    stop (noRoom (handed .live) (handed .run) (handed .log)) refusal.Room
+    (stop (not (deskSound (handed .desk) (handed .live) (handed .run))) refusal.State
+    (byFrame (handed .desk) (handed .live) (checked (handed .frame)) (handed .frame)))
 
 -- ---- what a verdict leaves: "A refusal returns its number and the old state, .. and alters no lent byte"
 
@@ -188,17 +197,21 @@ takenBy desk live run v = record { said = saidBy v (length (loggedBy desk live r
 
 -- ---- what `take` answers, and its lent buffers afterwards
 
-unfoldable pub frameTaken : Desk → (frame live run log : List ℕ) → Taken
-frameTaken desk frame live run log = takenBy desk live run (verdict desk frame live run log)
+pub record Result : Type 0 where
+  pub answer : Taken
+  pub live : List ℕ
+  pub run : List ℕ
+  pub log : List ℕ
 
-unfoldable pub liveAfter : Desk → (frame live run log : List ℕ) → List ℕ
-liveAfter desk frame live run log = liveBy live (verdict desk frame live run log)
+abbrev pub results : Taken → (live run log : List ℕ) → Result
+results answer live run log = record { answer = answer; live = live; run = run; log = log }
 
-unfoldable pub runAfter : Desk → (frame live run log : List ℕ) → List ℕ
-runAfter desk frame live run log = runBytesBy desk live run (verdict desk frame live run log)
+abbrev pub resultBy : Desk → (live run log : List ℕ) → Verdict → Result
+resultBy desk live run log v =
+    results (takenBy desk live run v) (liveBy live v) (runBytesBy desk live run v) (logBy desk live run log v)
 
-unfoldable pub logAfter : Desk → (frame live run log : List ℕ) → List ℕ
-logAfter desk frame live run log = logBy desk live run log (verdict desk frame live run log)
+unfoldable pub frameTaken : Handed → Result
+frameTaken handed = resultBy (handed .desk) (handed .live) (handed .run) (handed .log) (verdict handed)
 
 -- the answer's number in document 01
 abbrev pub numberOfSaid : Said → ℕ
@@ -207,14 +220,37 @@ numberOfSaid (said.Refused refusal) = numberOf refusal
 
 -- ---- a book that was read from its kept form, in bytes of its own, is taken as the live book; an open run stays as it is
 
-unfoldable pub bookVerdict : Desk → Book → (bytes live run : List ℕ) → Verdict
-bookVerdict desk book bytes live run =
-    stop (ltb (length bytes) bookBytes || (ltb (length live) bookBytes || ltb (length run) bookBytes)) refusal.Room
-    (stop (not (deskSound desk live run && sound book bytes)) refusal.State
-    (defines book (copied book bytes live)))
+pub record BookHanded : Type 0 where
+  pub desk : Desk
+  pub book : Book
+  pub bytes : List ℕ
+  pub live : List ℕ
+  pub run : List ℕ
 
-unfoldable pub bookTaken : Desk → Book → (bytes live run : List ℕ) → Taken
-bookTaken desk book bytes live run = takenBy desk live run (bookVerdict desk book bytes live run)
+abbrev pub handsBook : Desk → Book → (bytes live run : List ℕ) → BookHanded
+handsBook desk book bytes live run = record { desk = desk; book = book; bytes = bytes; live = live; run = run }
 
-unfoldable pub liveAfterBook : Desk → Book → (bytes live run : List ℕ) → List ℕ
-liveAfterBook desk book bytes live run = liveBy live (bookVerdict desk book bytes live run)
+-- ROOM of all three slices of bytes
+abbrev pub noBookRoom : (bytes live run : List ℕ) → Bool
+noBookRoom bytes live run =
+    ltb (length bytes) bookBytes || (ltb (length live) bookBytes || ltb (length run) bookBytes)
+
+unfoldable pub bookVerdict : BookHanded → Verdict
+bookVerdict handed =
+    stop (noBookRoom (handed .bytes) (handed .live) (handed .run)) refusal.Room
+    (stop (not (deskSound (handed .desk) (handed .live) (handed .run) && sound (handed .book) (handed .bytes))) refusal.State
+    (defines (handed .book) (copied (handed .book) (handed .bytes) (handed .live))))
+
+-- the answer and the live book's bytes then
+pub record BookResult : Type 0 where
+  pub answer : Taken
+  pub live : List ℕ
+
+abbrev pub resultsBook : Taken → (live : List ℕ) → BookResult
+resultsBook answer live = record { answer = answer; live = live }
+
+abbrev pub bookResultBy : Desk → (live run : List ℕ) → Verdict → BookResult
+bookResultBy desk live run v = resultsBook (takenBy desk live run v) (liveBy live v)
+
+unfoldable pub bookTaken : BookHanded → BookResult
+bookTaken handed = bookResultBy (handed .desk) (handed .live) (handed .run) (bookVerdict handed)

@@ -10,7 +10,8 @@ use lib.ListN.{length, take, drop}
 use borrow.Author.Tests.{lt-ltb, le-leb, le-ltb}
 use Rattle.area.specs.declared.AreaId.{AreaId}
 use Rattle.hpac.specs.Hpac.{Area, Hpac}
-use Rattle.book.specs.Book.{bookBytes, headSound, areasSound, sound, isHeld, placeOf, found}
+use Rattle.sizes.specs.Sizes.{tags, bookBytes}
+use Rattle.book.specs.Book.{noBook, headSound, areasSound, sound, isHeld, placeOf, found}
 use Rattle.book.specs.Laws.{sound-room}
 use Rattle.book.specs.declared.Book.{Book}
 use Rattle.log.specs.Log.{joined, opened, areaId, bitsFor, reasonFor, reasonOf, troposphereSaid, ionosphereSaid, entryOf, logOf}
@@ -18,7 +19,7 @@ use Rattle.answer.specs.declared.Refusal.the-variants.{Field}
 use Rattle.message.specs.Messages.{constellationFor}
 use Rattle.message.specs.declared.Subtype.{Subtype}
 use Rattle.message.specs.declared.Subtype.the-variants as subtype
-use Rattle.desk.specs.Desk.{tags, sourceInRange, noBook, madeFor, newDesk, deskSound}
+use Rattle.desk.specs.Desk.{sourceInRange, madeFor, newDesk, deskSound}
 use Rattle.desk.specs.Take.{Verdict, refused, defines, continues, opens, copied, deskBy}
 use Rattle.desk.specs.Lookup.{inRun, nowhere, spotOf, bytesAt}
 use Rattle.desk.specs.Copied.{copied-sound, copied-found}
@@ -213,8 +214,8 @@ pub looks-up : (desk : Desk) (live run : List ℕ) (tag : ℕ) (book : Book) →
     → (id : AreaId) → bytesAt live run (spotOf desk live run id) ≡ found book run id
 unfolding spotOf found
 looks-up desk live run tag book e h o id =
-    let l : ltb (length live) 192 ≡ false = le-ltb (length live) 192 (sound-room (desk .book) live (sound-live desk live run e)) in
-    let r : ltb (length run) 192 ≡ false = le-ltb (length run) 192 h in
+    let l : ltb (length live) bookBytes ≡ false = le-ltb (length live) bookBytes (sound-room (desk .book) live (sound-live desk live run e)) in
+    let r : ltb (length run) bookBytes ≡ false = le-ltb (length run) bookBytes h in
     rw (l, r, e, o) (go (isHeld book run id))
   where
     go : (b : Bool) → bytesAt live run (cond b (inRun (6 * placeOf (id .0) (book .count) run)) nowhere) ≡ cond b (take 6 (drop (6 * placeOf (id .0) (book .count) run) run)) []

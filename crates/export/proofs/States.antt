@@ -6,6 +6,7 @@ use Prim.Native.Nat.{ℕ, _+_, _-_, _≤_, _<_}
 use lib.Dec.{eqb}
 use lib.ListN.{length, getD}
 use borrow.Author.Tests.{eq-eqb, ne-eqb}
+use Rattle.sizes.specs.Sizes.{mostNoise}
 use Rattle.answer.specs.Number.{numberOf}
 use Rattle.answer.specs.declared.Refusal.{Refusal}
 use Rattle.frame.specs.declared.Frame.{Frame}
@@ -14,6 +15,7 @@ use Rattle.stream.specs.declared.Said.{Said}
 use Rattle.stream.specs.declared.Answer.{Answer}
 use Rattle.stream.specs.Tray.{callAnswer, callBytes, finishAnswer, finishBytes}
 use Rattle.book.specs.declared.Book.{Book}
+use Rattle.book.specs.Book.{noBook, bookOf as bookWith}
 use Rattle.book.specs.declared.Taken.{Taken}
 use Rattle.book.specs.Take.{takenOf, bytesAfter}
 use Rattle.kept.specs.declared.Written.{Written}
@@ -34,14 +36,14 @@ pub aiou-over : (x : ℕ) → 16 ≤ x → 17 ≡ atMost 16 x + 1
 aiou-over x h = ap (λ y. y + 1) (at-most-over 16 x h)
 
 module _ (s : List ℕ) where
-  pub book-empty : getD s 1 0 ≡ 0 → record { «aiou_plus_one» = 0; count = 0 } ≡ bookIn s
+  pub book-empty : (b : Book) → b ≡ noBook → getD s 1 0 ≡ 0 → b ≡ bookIn s
   unfolding bookIn
-  book-empty h = let z : eqb (getD s 1 0) 0 ≡ true = eq-eqb _ _ h in rw z
+  book-empty b e h = let z : eqb (getD s 1 0) 0 ≡ true = eq-eqb _ _ h in rw z e
 
-  pub book-areas : (x y : ℕ) → (getD s 1 0 ≡ 0 → ⊥) → x ≡ atMost 16 (getD s 0 0) + 1 → y ≡ getD s 1 0 → record { «aiou_plus_one» = x; count = y } ≡ bookIn s
+  pub book-areas : (b : Book) (x y : ℕ) → b ≡ bookWith x y → (getD s 1 0 ≡ 0 → ⊥) → x ≡ atMost 16 (getD s 0 0) + 1 → y ≡ getD s 1 0
+      → b ≡ bookIn s
   unfolding bookIn
-  book-areas x y h p q = let z : eqb (getD s 1 0) 0 ≡ false = ne-eqb _ _ h in
-      rw z (ap₂ (λ (x : ℕ) (y : ℕ). record { «aiou_plus_one» = x; count = y }) p q)
+  book-areas b x y e h p q = let z : eqb (getD s 1 0) 0 ≡ false = ne-eqb _ _ h in rw z (e ∙ ap₂ bookWith p q)
 
 pub book-put : (b : Book) (x y : ℕ) (lent now : List ℕ) → x ≡ b .«aiou_plus_one» - 1 → y ≡ b .count → now ≡ laid (x ∷ y ∷ []) lent → now ≡ laid (bookOf b) lent
 unfolding bookOf
@@ -75,7 +77,13 @@ module _ (kept bytes : List ℕ) where
 
 -- ---- a tray as numbers
 
-pub tray-in : (s : List ℕ) (x y z : ℕ) → x ≡ getD s 0 0 → y ≡ getD s 1 0 → z ≡ atMost 65535 (getD s 2 0) → record { held = x; shown = y; noise = z } ≡ trayIn s
+pub noise-under : (x most : ℕ) → most ≡ mostNoise → x < most → x ≡ atMost mostNoise x
+noise-under x most e h = at-most-under mostNoise x (rw e at h)
+
+pub noise-over : (x most : ℕ) → most ≡ mostNoise → most ≤ x → mostNoise ≡ atMost mostNoise x
+noise-over x most e h = at-most-over mostNoise x (rw e at h)
+
+pub tray-in : (s : List ℕ) (x y z : ℕ) → x ≡ getD s 0 0 → y ≡ getD s 1 0 → z ≡ atMost mostNoise (getD s 2 0) → record { held = x; shown = y; noise = z } ≡ trayIn s
 unfolding trayIn
 tray-in s x y z p q r = ap₂ (λ (x : ℕ) (y : ℕ). record { held = x; shown = y; noise = z }) p q ∙ ap (λ (z : ℕ). record { held = getD s 0 0; shown = getD s 1 0; noise = z }) r
 

@@ -5,6 +5,7 @@ use Prim.Native.Nat.{ℕ, _+_, _-_}
 use lib.Dec.{eqb}
 use lib.ListN.{getD}
 use Rattle.book.specs.declared.Book.{Book}
+use Rattle.book.specs.Book.{noBook, bookOf as bookWith}
 use Rattle.book.specs.declared.Taken.{Taken}
 use Rattle.book.specs.declared.Taken.the-variants as taking
 use Rattle.book.specs.Take.{takenOf, bytesAfter}
@@ -22,8 +23,8 @@ bookRoom = 2
 unfoldable pub bookIn : List ℕ → Book
 bookIn s =
     cond (eqb (getD s 1 0) 0)
-    (record { «aiou_plus_one» = 0; count = 0 })
-    (record { «aiou_plus_one» = atMost 16 (getD s 0 0) + 1; count = getD s 1 0 })
+    noBook
+    (bookWith (atMost 16 (getD s 0 0) + 1) (getD s 1 0))
 
 -- the AIOU of an empty book is told as 0
 unfoldable pub bookOf : Book → List ℕ

@@ -2,6 +2,7 @@
 use mathlib.Core.List.{List, [], _∷_}
 use Prim.Native.Nat.{ℕ}
 use lib.ListN.{getD}
+use Rattle.sizes.specs.Sizes.{mostNoise}
 use Rattle.frame.specs.declared.Frame.{Frame}
 use Rattle.stream.specs.declared.Tray.{Tray}
 use Rattle.stream.specs.declared.Said.{Said}
@@ -23,7 +24,7 @@ rooms tray told header short rest = roomFor trayRoom tray short (roomFor toldRoo
 
 -- bytes held, length of the frame last shown, noise. Noise of 65,535 or more is not sound, whatever it is.
 unfoldable pub trayIn : List ℕ → Tray
-trayIn s = record { held = getD s 0 0; shown = getD s 1 0; noise = atMost 65535 (getD s 2 0) }
+trayIn s = record { held = getD s 0 0; shown = getD s 1 0; noise = atMost mostNoise (getD s 2 0) }
 
 unfoldable pub trayOf : Tray → List ℕ
 trayOf t = t .held ∷ t .shown ∷ t .noise ∷ []

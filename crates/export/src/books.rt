@@ -5,6 +5,7 @@ ghost use lib.ListN.{length};
 ghost use Rattle.kept.specs.Kept.{outAfter, readKept, answerOf, leftBy};
 ghost use Rattle.export.specs.Numbers.{roomFor, laid, answered, lentAfter, atMost};
 ghost use Rattle.export.specs.Books.{bookRoom, bookIn, bookOf, takeOf, takeLeaves, toldTaken, keptOf, keptLeaves, toldKept, readOf, readLeaves, toldRead};
+use crate::numbers::ROOM;
 use crate::numbers::count;
 use crate::numbers::put;
 use book::Book;
@@ -12,11 +13,8 @@ use book::Taken;
 use kept::ReadKept;
 use kept::Written;
 
-// The number of ROOM.
-const ROOM: u8 = 9;
-
 // The numbers of a book: AIOU and count.
-const BOOK: usize = 2;
+pub const BOOK: usize = 2;
 
 // AIOU + 1, up to 17, with which no book is sound.
 fn aiou_in(x: u64) -> u8
@@ -44,22 +42,16 @@ pub fn aiou_of(x: u8) -> u64
     (x - 1) as u64
 }
 
-// The book that two numbers say. Internal, as `put_book`: the calls here and in crate exportdesk have tested ROOM.
+// The book that two numbers say. Internal, as `put_book`: the calls here and in the crates above have tested ROOM.
 pub fn book_in(book: &[u64]) -> Book
     requires { ⌜ bookRoom ≤ length (now book) ⌝ }
     ensures { λ r. ⌜ r ≡ bookIn (now (book .entry)) ⌝ }
 {
     let areas = book[1];
     if areas == 0 {
-        return Book {
-            aiou_plus_one: 0,
-            count: 0,
-        };
+        return book::no_book();
     }
-    Book {
-        aiou_plus_one: aiou_in(book[0]),
-        count: size(areas),
-    }
+    book::book_of(aiou_in(book[0]), size(areas))
 }
 
 // A book's numbers into the places from the start on.

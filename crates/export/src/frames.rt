@@ -6,6 +6,7 @@ ghost use Rattle.frame.specs.Check.{checked};
 ghost use Rattle.frame.specs.Write.{written, outAfter};
 ghost use Rattle.export.specs.Numbers.{roomFor, laid, answered, lentAfter};
 ghost use Rattle.export.specs.Frames.{headerRoom, isSealed, sealingOf, headerOf, toldChecked, partsOf, toldWritten};
+use crate::numbers::ROOM;
 use crate::numbers::count;
 use crate::numbers::put;
 use crate::numbers::wide;
@@ -16,11 +17,8 @@ use frame::Seal;
 use frame::Sealing;
 use frame::Written;
 
-// The number of ROOM.
-const ROOM: u8 = 9;
-
 // The numbers that a header takes.
-const HEADER: usize = 15;
+pub const HEADER: usize = 15;
 
 fn is_sealed(seal: Seal) -> u64
     ensures { λ r. ⌜ r ≡ isSealed seal ⌝ }
@@ -70,7 +68,7 @@ fn header_of(frame: Frame) -> [u64; 15]
     ]
 }
 
-// A header into the places from the start on. Internal: the calls here and in crate exportdesk have tested ROOM.
+// A header into the places from the start on. Internal: the calls here and in the crates above have tested ROOM.
 pub fn put_header(frame: Frame, header: &mut [u64])
     requires { ⌜ headerRoom ≤ length (now header) ⌝ }
     ensures { λ _. ⌜ now (header .exit) ≡ laid (headerOf frame) (now (header .entry)) ⌝ }

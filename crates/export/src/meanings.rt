@@ -6,15 +6,13 @@ ghost use lib.ListN.{length, set};
 ghost use Rattle.values.specs.Values.{valueOf, orbitOf};
 ghost use Rattle.export.specs.Numbers.{room, roomFor, laid};
 ghost use Rattle.export.specs.Meanings.{unitRoom, valueRoom, orbitRoom, numbersOfResidual, floatsOfResidual, numbersOfYaw, floatsOfYaw, toldValue, floatsOfValue, toldOrbit, floatsOfOrbit};
+use crate::numbers::ROOM;
 use crate::numbers::put;
 use values::Orbit;
 use values::OrbitAnswer;
 use values::Residual;
 use values::Value;
 use values::Yaw;
-
-// The number of ROOM.
-const ROOM: u8 = 9;
 
 // The room for a unit and a count, for a value, for an orbit.
 const UNIT: usize = 2;

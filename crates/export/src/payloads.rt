@@ -6,13 +6,11 @@ ghost use Rattle.bits.specs.Bits.{toBits};
 ghost use Rattle.sheet.specs.Sheet.{judged, readAnswer, sheetAfter, judgedSheet, writeAnswer, outAfter};
 ghost use Rattle.export.specs.Numbers.{roomFor, laid, answered, lentAfter};
 ghost use Rattle.export.specs.Payloads.{countsRoom, toldRead, toldWritten};
+use crate::numbers::ROOM;
 use crate::numbers::count;
 use crate::numbers::put;
 use sheet::ReadAnswer;
 use sheet::WriteAnswer;
-
-// The number of ROOM.
-const ROOM: u8 = 9;
 
 // Two counts are told.
 const COUNTS: usize = 2;

@@ -2,34 +2,32 @@
 ghost use mathlib.Core.Path.{_≡_};
 ghost use Prim.Native.Nat.{_≤_};
 ghost use lib.ListN.{length};
+ghost use Rattle.sizes.specs.Sizes.{mostNoise};
 ghost use Rattle.export.specs.Numbers.{laid, atMost};
 ghost use Rattle.export.specs.Frames.{headerRoom};
 ghost use Rattle.export.specs.Streams.{trayRoom, toldRoom, rooms, trayIn, trayOf, eventOf, callOf, callLeaves, finishOf, finishLeaves, toldAnswer, trayTold, headerTold};
+use crate::frames::HEADER;
 use crate::frames::put_header;
+use crate::numbers::ROOM;
 use crate::numbers::count;
 use crate::numbers::put;
 use stream::Answer;
 use stream::Said;
 use stream::Tray;
 
-// The number of ROOM.
-const ROOM: u8 = 9;
-
-// The numbers of a tray, of an event, of a header.
-const TRAY: usize = 3;
+// The numbers of a tray, and of an event.
+pub const TRAY: usize = 3;
 
 const TOLD: usize = 3;
 
-const HEADER: usize = 15;
-
 // A noise count, up to 65,535: with so much a tray is not sound, nor with more.
 fn noise_in(x: u64) -> u32
-    ensures { λ r. ⌜ r ≡ atMost 65535 x ⌝ }
+    ensures { λ r. ⌜ r ≡ atMost mostNoise x ⌝ }
 {
-    if x < 65535 {
+    if x < noise_count(sizes::MOST_NOISE) {
         return x as u32;
     }
-    65535
+    sizes::MOST_NOISE
 }
 
 pub fn noise_count(x: u32) -> u64
@@ -44,7 +42,7 @@ fn size(x: u64) -> usize
     x as usize
 }
 
-// The tray that three numbers say. Internal, as `put_tray`: the calls here and in crate exportdesk have tested ROOM.
+// The tray that three numbers say. Internal, as `put_tray`: the calls here and in the crates above have tested ROOM.
 pub fn tray_in(tray: &[u64]) -> Tray
     requires { ⌜ trayRoom ≤ length (now tray) ⌝ }
     ensures { λ r. ⌜ r ≡ trayIn (now (tray .entry)) ⌝ }

@@ -2,4 +2,3 @@ pub mod Laws
 pub mod Nine
 pub mod Telling
 pub mod Finding
-pub mod Prepared

@@ -12,6 +12,7 @@ use Rattle.message.specs.Messages.{constellationFor}
 use Rattle.message.specs.declared.Subtype.{Subtype}
 use Rattle.message.specs.declared.Subtype.the-variants as subtype
 use Rattle.book.specs.declared.Book.{Book}
+use Rattle.book.specs.Book.{noBook}
 use Rattle.desk.specs.declared.Desk.{Desk}
 use Rattle.desk.specs.declared.Run.{Run}
 use Rattle.desk.specs.declared.Run.the-variants.{Closed, Open}
@@ -69,8 +70,8 @@ pub desk-in : (s : List ℕ) (a b : ℕ) (c : Constellation) (book : Book) (run 
 unfolding deskIn
 desk-in s a b c book run p q t u v = cc
 
-pub run-book-closed : (run : Run) → run ≡ Closed → record { «aiou_plus_one» = 0; count = 0 } ≡ runBook run
-run-book-closed run e = rw e
+pub run-book-closed : (run : Run) (book : Book) → run ≡ Closed → book ≡ noBook → book ≡ runBook run
+run-book-closed run book e b = rw e b
 
 pub run-book-open : (run : Run) (tag : ℕ) (book : Book) → run ≡ Open tag book → book ≡ runBook run
 run-book-open run tag book e = rw e

@@ -6,10 +6,10 @@ use Prim.Native.Nat.{ℕ, _≤_, _<_}
 use lib.ListN.{length}
 use Rattle.answer.specs.Number.{numberOf}
 use Rattle.answer.specs.declared.Refusal.{Refusal}
-use Rattle.book.specs.Book.{bookBytes}
+use Rattle.sizes.specs.Sizes.{bookBytes}
 use Rattle.book.specs.declared.Book.{Book}
 use Rattle.desk.specs.Desk.{deskSound}
-use Rattle.desk.specs.Take.{frameTaken, liveAfter, runAfter, logAfter, bookTaken, liveAfterBook}
+use Rattle.desk.specs.Take.{hands, results, frameTaken, handsBook, resultsBook, bookTaken}
 use Rattle.desk.specs.declared.Desk.{Desk}
 use Rattle.desk.specs.declared.NewDesk.{NewDesk}
 use Rattle.desk.specs.declared.NewDesk.the-variants as made
@@ -99,28 +99,36 @@ module _ (a : Said) where
   log-untold w lent e = rw e (laid-none lent)
 
 module _ (d : Desk) (desk : List ℕ) (e : d ≡ deskIn desk) (live run : List ℕ) where
-  module _ (frame log : List ℕ) where
-    pub take-of : (a : Taken) → a ≡ frameTaken d frame live run log → a ≡ takeOf frame desk live run log
+  module _ (frame log : List ℕ) (a : Taken) (live′ run′ log′ : List ℕ)
+      (p : results a live′ run′ log′ ≡ frameTaken (hands d frame live run log)) where
+    all-of : results a live′ run′ log′ ≡ frameTaken (hands (deskIn desk) frame live run log)
+    all-of = p ∙ ap (λ (x : Desk). frameTaken (hands x frame live run log)) e
+
+    pub take-of : a ≡ takeOf frame desk live run log
     unfolding takeOf
-    take-of a p = p ∙ ap (λ (x : Desk). frameTaken x frame live run log) e
+    take-of = ap (λ r. r .answer) all-of
 
-    pub take-live : (now : List ℕ) → now ≡ liveAfter d frame live run log → now ≡ takeLive frame desk live run log
+    pub take-live : live′ ≡ takeLive frame desk live run log
     unfolding takeLive
-    take-live now p = p ∙ ap (λ (x : Desk). liveAfter x frame live run log) e
+    take-live = ap (λ r. r .live) all-of
 
-    pub take-run : (now : List ℕ) → now ≡ runAfter d frame live run log → now ≡ takeRun frame desk live run log
+    pub take-run : run′ ≡ takeRun frame desk live run log
     unfolding takeRun
-    take-run now p = p ∙ ap (λ (x : Desk). runAfter x frame live run log) e
+    take-run = ap (λ r. r .run) all-of
 
-    pub take-log : (now : List ℕ) → now ≡ logAfter d frame live run log → now ≡ takeLog frame desk live run log
+    pub take-log : log′ ≡ takeLog frame desk live run log
     unfolding takeLog
-    take-log now p = p ∙ ap (λ (x : Desk). logAfter x frame live run log) e
+    take-log = ap (λ r. r .log) all-of
 
-  module _ (b : Book) (book bytes : List ℕ) (f : b ≡ bookIn book) where
-    pub take-book-of : (a : Taken) → a ≡ bookTaken d b bytes live run → a ≡ takeBookOf desk live run book bytes
+  module _ (b : Book) (book bytes : List ℕ) (f : b ≡ bookIn book) (a : Taken) (live′ : List ℕ)
+      (p : resultsBook a live′ ≡ bookTaken (handsBook d b bytes live run)) where
+    all-of-book : resultsBook a live′ ≡ bookTaken (handsBook (deskIn desk) (bookIn book) bytes live run)
+    all-of-book = p ∙ ap₂ (λ (x : Desk) (y : Book). bookTaken (handsBook x y bytes live run)) e f
+
+    pub take-book-of : a ≡ takeBookOf desk live run book bytes
     unfolding takeBookOf
-    take-book-of a p = p ∙ ap₂ (λ (x : Desk) (y : Book). bookTaken x y bytes live run) e f
+    take-book-of = ap (λ r. r .answer) all-of-book
 
-    pub take-book-live : (now : List ℕ) → now ≡ liveAfterBook d b bytes live run → now ≡ takeBookLive desk live run book bytes
+    pub take-book-live : live′ ≡ takeBookLive desk live run book bytes
     unfolding takeBookLive
-    take-book-live now p = p ∙ ap₂ (λ (x : Desk) (y : Book). liveAfterBook x y bytes live run) e f
+    take-book-live = ap (λ r. r .live) all-of-book

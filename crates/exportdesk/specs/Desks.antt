@@ -4,9 +4,9 @@ use mathlib.Core.List.{List, [], _∷_}
 use Prim.Native.Nat.{ℕ}
 use Rattle.answer.specs.Number.{numberOf}
 use Rattle.answer.specs.declared.Refusal.the-variants as refusal
-use Rattle.book.specs.Book.{bookBytes}
+use Rattle.sizes.specs.Sizes.{bookBytes}
 use Rattle.desk.specs.Desk.{deskSound}
-use Rattle.desk.specs.Take.{frameTaken, liveAfter, runAfter, logAfter, bookTaken, liveAfterBook}
+use Rattle.desk.specs.Take.{Result, hands, frameTaken, BookResult, handsBook, bookTaken}
 use Rattle.desk.specs.declared.Desk.{Desk}
 use Rattle.desk.specs.declared.NewDesk.{NewDesk}
 use Rattle.desk.specs.declared.NewDesk.the-variants as made
@@ -45,20 +45,20 @@ logTold (said.Refused why) = []
 
 -- a frame taken, and the two books and the log afterwards
 unfoldable pub takeOf : (frame desk live run log : List ℕ) → Taken
-takeOf frame desk live run log = frameTaken (deskIn desk) frame live run log
+takeOf frame desk live run log = frameTaken (hands (deskIn desk) frame live run log) .answer
 
 unfoldable pub takeLive : (frame desk live run log : List ℕ) → List ℕ
-takeLive frame desk live run log = liveAfter (deskIn desk) frame live run log
+takeLive frame desk live run log = frameTaken (hands (deskIn desk) frame live run log) .live
 
 unfoldable pub takeRun : (frame desk live run log : List ℕ) → List ℕ
-takeRun frame desk live run log = runAfter (deskIn desk) frame live run log
+takeRun frame desk live run log = frameTaken (hands (deskIn desk) frame live run log) .run
 
 unfoldable pub takeLog : (frame desk live run log : List ℕ) → List ℕ
-takeLog frame desk live run log = logAfter (deskIn desk) frame live run log
+takeLog frame desk live run log = frameTaken (hands (deskIn desk) frame live run log) .log
 
 -- a book that was read from its kept form taken, and the live book afterwards
 unfoldable pub takeBookOf : (desk live run book bytes : List ℕ) → Taken
-takeBookOf desk live run book bytes = bookTaken (deskIn desk) (bookIn book) bytes live run
+takeBookOf desk live run book bytes = bookTaken (handsBook (deskIn desk) (bookIn book) bytes live run) .answer
 
 unfoldable pub takeBookLive : (desk live run book bytes : List ℕ) → List ℕ
-takeBookLive desk live run book bytes = liveAfterBook (deskIn desk) (bookIn book) bytes live run
+takeBookLive desk live run book bytes = bookTaken (handsBook (deskIn desk) (bookIn book) bytes live run) .live

@@ -1,6 +1,7 @@
 -- Definitions to believe: the six bytes of an area, as a call for C hands them out.
 use mathlib.Core.List.{List, [], _∷_}
 use Prim.Native.Nat.{ℕ}
+use Rattle.sizes.specs.Sizes.{areaBytes}
 use Rattle.book.specs.Book.{found}
 use Rattle.desk.specs.Lookup.{spotOf, bytesAt}
 use Rattle.export.specs.Numbers.{roomFor}
@@ -9,7 +10,7 @@ use Rattle.exportdesk.specs.States.{deskRoom, deskIn}
 
 -- the bytes of an area
 abbrev pub areaRoom : ℕ
-areaRoom = 6
+areaRoom = areaBytes
 
 -- the bytes found, none where the numbers of desk or book are too few
 unfoldable pub deskFound : (desk live run : List ℕ) → (id : ℕ) → List ℕ

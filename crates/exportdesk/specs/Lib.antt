@@ -5,8 +5,3 @@ pub mod Finds
 pub mod Theorems
 pub mod FindTheorems
 pub mod Determined
-pub mod Prepares
-pub mod Puts
-pub mod DeterminedPrepares
-pub mod Refusals
-pub mod NextState

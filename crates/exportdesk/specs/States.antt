@@ -11,7 +11,7 @@ use Rattle.message.specs.Messages.{constellationFor}
 use Rattle.message.specs.declared.Subtype.{Subtype}
 use Rattle.message.specs.declared.Subtype.the-variants as subtype
 use Rattle.book.specs.declared.Book.{Book}
-use Rattle.desk.specs.Desk.{noBook}
+use Rattle.book.specs.Book.{noBook}
 use Rattle.desk.specs.declared.Desk.{Desk}
 use Rattle.desk.specs.declared.Run.{Run}
 use Rattle.desk.specs.declared.Run.the-variants.{Closed, Open}

@@ -13,10 +13,11 @@ use Rattle.area.specs.Laws.{both-left, both-right}
 use Rattle.codes.specs.Tables.{rowOf}
 use Rattle.codes.specs.declared.Constellation.{Constellation}
 use Rattle.codes.specs.declared.Constellation.the-variants.{Gps, Glonass, Galileo, BeiDou, Qzss}
-use Rattle.book.specs.Book.{mostAreas, headSound, sound}
+use Rattle.sizes.specs.Sizes.{mostAreas, tags}
+use Rattle.book.specs.Book.{bookOf, noBook, headSound, sound}
 use Rattle.book.specs.Laws.{head-parts, sound-head}
 use Rattle.book.specs.declared.Book.{Book}
-use Rattle.desk.specs.Desk.{tags, sourceInRange, runSound, deskSound}
+use Rattle.desk.specs.Desk.{sourceInRange, runSound, deskSound}
 use Rattle.desk.specs.Take.{Verdict, refused, defines, continues, opens, copied, deskBy, takenBy, frameTaken, bookTaken}
 use Rattle.desk.specs.Fits.{sound-source, sound-live, sound-run, Fits, new-areas, same-run, new-run}
 use Rattle.desk.specs.History.{Held, Given, frameWith, keptBook, verdictOn, heldBy}
@@ -79,11 +80,11 @@ module _ (s live run : List ℕ) where
       (ap (λ b. cond (leb (getD s 2 0) 4 && b) (atMost 128 (getD s 0 0)) 128) (lt-leb (getD s 5 0) 1 h)
       ∙ ap (λ b. cond b (atMost 128 (getD s 0 0)) 128) (never (leb (getD s 2 0) 4)))
 
-  pub tag-out : getD s 5 0 ≡ 1 → 43199 < getD s 6 0 → deskSound (deskIn s) live run ≡ false
+  pub tag-out : getD s 5 0 ≡ 1 → tags ≤ getD s 6 0 → deskSound (deskIn s) live run ≡ false
   unfolding deskIn runIn
   tag-out f h =
       let y : eqb (getD s 5 0) 0 ≡ false = ne-eqb (getD s 5 0) 0 (λ q. omega arith) in
-      let z : ltb (getD s 6 0) tags ≡ false = le-ltb (getD s 6 0) tags (omega arith) in
+      let z : ltb (getD s 6 0) tags ≡ false = le-ltb (getD s 6 0) tags h in
       no-run (deskIn s) live run (rw (y, z))
 
 -- ---- numbers that do not count
@@ -123,16 +124,16 @@ book-back book e = go (eqb (book .count) 0) refl
     some true q h = let z : _≡_ {A = ℕ} 0 1 = cc in absurd (omega arith)
 
     go : (b : Bool) → eqb (book .count) 0 ≡ b
-        → cond b (record { «aiou_plus_one» = 0; count = 0 }) (record { «aiou_plus_one» = atMost 16 (a - 1) + 1; count = book .count }) ≡ book
+        → cond b noBook (bookOf (atMost 16 (a - 1) + 1) (book .count)) ≡ book
     go true q =
         let h : Bool·beq (eqb a 0) true ≡ true = ap (Bool·beq (eqb a 0)) (sym q) ∙ alike in
-        ap₂ (λ (x : ℕ) (y : ℕ). record { «aiou_plus_one» = x; count = y }) (sym (none (eqb a 0) refl h)) (sym (eqb-true (book .count) 0 q))
+        ap₂ bookOf (sym (none (eqb a 0) refl h)) (sym (eqb-true (book .count) 0 q))
     go false q =
         let h : Bool·beq (eqb a 0) false ≡ true = ap (Bool·beq (eqb a 0)) (sym q) ∙ alike in
         let n : a ≡ 0 → ⊥ = some (eqb a 0) refl h in
         let k : a ≤ 16 = head-parts book e .0 in
         let w : atMost 16 (a - 1) ≡ a - 1 = most-under 16 (a - 1) (omega (arith, pos-of-ne-zero n)) in
-        ap (λ (x : ℕ). record { «aiou_plus_one» = x; count = book .count }) (ap (λ (x : ℕ). x + 1) w ∙ omega (arith, pos-of-ne-zero n))
+        ap (λ (x : ℕ). bookOf x (book .count)) (ap (λ (x : ℕ). x + 1) w ∙ omega (arith, pos-of-ne-zero n))
 
 constellation-back : (c : Constellation) → constellationIn (rowOf c) ≡ c
 unfolding constellationIn atMost

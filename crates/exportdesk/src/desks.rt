@@ -8,26 +8,20 @@ ghost use Rattle.export.specs.Books.{bookRoom};
 ghost use Rattle.exportdesk.specs.Rooms.{bothRooms};
 ghost use Rattle.exportdesk.specs.States.{deskRoom};
 ghost use Rattle.exportdesk.specs.Desks.{toldNew, soundOf, toldTaken, logTold, takeOf, takeLive, takeRun, takeLog, takeBookOf, takeBookLive};
+use crate::states::DESK;
 use crate::states::desk_in;
 use crate::states::put_desk;
 use desk::NewDesk;
 use desk::Said;
 use desk::Taken;
+use export::books::BOOK;
 use export::books::book_in;
+use export::numbers::ROOM;
 use export::numbers::count;
 use export::numbers::put;
 
-// The numbers of ROOM and STATE.
-const ROOM: u8 = 9;
-
+// The number of STATE.
 const STATE: u8 = 17;
-
-// The numbers of a desk and of a book, and a book's bytes.
-const DESK: usize = 9;
-
-const NUMBERS: usize = 2;
-
-const BOOK: usize = 192;
 
 fn tell_new(answer: NewDesk, desk: &mut [u64]) -> u8
     requires { ⌜ deskRoom ≤ length (now desk) ⌝ }
@@ -68,10 +62,10 @@ pub extern "C" fn homralgyu_desk_is_sound(desk: &[u64], live: &[u8], run: &[u8])
     if desk.len() < DESK {
         return ROOM;
     }
-    if live.len() < BOOK {
+    if live.len() < sizes::BOOK_BYTES {
         return ROOM;
     }
-    if run.len() < BOOK {
+    if run.len() < sizes::BOOK_BYTES {
         return ROOM;
     }
     if desk::is_sound(desk_in(desk), live, run) {
@@ -176,7 +170,7 @@ pub extern "C" fn homralgyu_desk_take_book(
     if desk.len() < DESK {
         return ROOM;
     }
-    if book.len() < NUMBERS {
+    if book.len() < BOOK {
         return ROOM;
     }
     let answer = take_book(desk, live, run, book, bytes);

@@ -5,21 +5,17 @@ ghost use lib.ListN.{length};
 ghost use Rattle.export.specs.Numbers.{room, laid};
 ghost use Rattle.exportdesk.specs.Rooms.{bothRooms};
 ghost use Rattle.exportdesk.specs.Finds.{areaRoom, deskFound, bookFound, countOf};
+use crate::states::DESK;
 use crate::states::desk_in;
 use area::AreaId;
+use export::books::BOOK;
 use export::books::book_in;
+use export::numbers::ROOM;
 use export::numbers::count;
 use export::numbers::put;
 
-// The number of ROOM.
-const ROOM: u8 = 9;
-
-// The bytes of an area; the numbers of a desk and of a book.
-const AREA: usize = 6;
-
-const DESK: usize = 9;
-
-const NUMBERS: usize = 2;
+// The bytes of an area.
+const AREA: usize = sizes::AREA_BYTES;
 
 fn put_area(part: &[u8], area: &mut [u8]) -> usize
     requires { ⌜ length (now part) ≤ length (now area) ⌝ }
@@ -46,7 +42,7 @@ fn find_in_book(book: &[u64], bytes: &[u8], id: u8, area: &mut [u8]) -> usize
     ensures { λ r. ⌜ r ≡ length (bookFound (now (book .entry)) (now (bytes .entry)) id) ⌝ }
     ensures { λ _. ⌜ now (area .exit) ≡ laid (bookFound (now (book .entry)) (now (bytes .entry)) id) (now (area .entry)) ⌝ }
 {
-    if book.len() < NUMBERS {
+    if book.len() < BOOK {
         return 0;
     }
     let held = book_in(book);

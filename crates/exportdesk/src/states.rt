@@ -15,6 +15,9 @@ use export::numbers::put;
 use export::numbers::wide;
 use message::Subtype;
 
+// The numbers of a desk.
+pub const DESK: usize = 9;
+
 // 128 is no solution, 16 no processor.
 const NO_SOLUTION: u8 = 128;
 
@@ -65,7 +68,7 @@ fn run_in(flag: u64, tag: u64, aiou: u64, areas: u64) -> Run
     }
 }
 
-// The desk that nine numbers say. Of this crate alone, as `put_desk`: the calls have tested ROOM.
+// The desk that nine numbers say. Internal, as `put_desk`: the calls here and in crate exportprepare have tested ROOM.
 pub fn desk_in(desk: &[u64]) -> Desk
     requires { ⌜ deskRoom ≤ length (now desk) ⌝ }
     ensures { λ r. ⌜ r ≡ deskIn (now (desk .entry)) ⌝ }
@@ -102,15 +105,12 @@ fn run_book(run: Run) -> Book
     ensures { λ r. ⌜ r ≡ runBook run ⌝ }
 {
     match run {
-        Run::Closed => Book {
-            aiou_plus_one: 0,
-            count: 0,
-        },
+        Run::Closed => book::no_book(),
         Run::Open { tag: _, book } => book,
     }
 }
 
-fn desk_of(held: Desk) -> [u64; 9]
+fn desk_of(held: Desk) -> [u64; DESK]
     ensures { λ r. ⌜ r ≡ deskOf held ⌝ }
 {
     let book = held.book;

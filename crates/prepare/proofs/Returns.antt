@@ -1,13 +1,14 @@
 -- Serves proofs, and is proved: what lacks_room, answered, give and step return, in plain variables. Assumes nothing.
-use mathlib.Core.Path.{_≡_, refl, sym, ap, _∙_, subst}
-use mathlib.Core.Bool.{true}
+use mathlib.Core.Path.{_≡_, refl, sym, ap, ap₂, _∙_, subst}
+use mathlib.Core.Bool.{Bool, true, false, not}
 use mathlib.Core.List.{List}
 use Prim.Native.Nat.{ℕ, _≤_, _<_}
 use native.Mathlib.Omega.{arith}
 use lib.Dec.{ltb}
 use lib.ListN.{length, take, length-take}
 use lib.Seq.{length-take-le}
-use borrow.Author.Tests.{lt-ltb, le-ltb}
+use borrow.Author.Tests.{lt-ltb, le-ltb, not-true, not-false}
+use Rattle.sizes.specs.Sizes.{longestFrame, bookBytes, logRoom}
 use Rattle.frame.specs.declared.Frame.{Frame}
 use Rattle.frame.specs.declared.Checked.the-variants.{Accepted}
 use Rattle.frame.specs.Check.{checked, payloadIn}
@@ -19,30 +20,59 @@ use Rattle.groups.specs.Groups.{groupsOfAll}
 use Rattle.desk.specs.declared.Desk.{Desk}
 use Rattle.desk.specs.declared.Taken.{Taken}
 use Rattle.desk.specs.declared.Said.the-variants as says
+use Rattle.desk.specs.Desk.{deskSound}
 use Rattle.desk.specs.Take as desk
-use Rattle.desk.specs.Steps.{Leaves}
 use Rattle.desk.specs.History.{heldBy}
 use Rattle.prepare.specs.declared.Answer.{Answer}
 use Rattle.prepare.specs.declared.Said.the-variants as said
 use Rattle.answer.specs.declared.Refusal.{Refusal}
+use Rattle.answer.specs.declared.Refusal.the-variants as refusal
+use Rattle.prepare.specs.declared.Tested.the-variants as test
 use Rattle.prepare.specs.Uncut.{Told, verdictOn, toldBy, entriesOf}
-use Rattle.prepare.specs.Prepare.{noRoom, booksIn, saidOf, written}
-use Rattle.prepare.specs.Moves.{taken, untaken, movedAnswer, movedBooks, movedLog, Moves, Lies}
+use Rattle.prepare.specs.Prepare.{noRoom, booksIn, saidOf, written, Result, results}
+use Rattle.prepare.specs.Moves.{testedOf, taken, untaken, moved, Lies}
 
 -- ---- lacks_room
 
 module _ (bytes live run log : List ℕ) where
-  pub room-tray : length bytes < 1103 → true ≡ noRoom bytes live run log
-  room-tray h = rw (lt-ltb (length bytes) 1103 h)
+  pub room-tray : length bytes < longestFrame → true ≡ noRoom bytes live run log
+  room-tray h = rw (lt-ltb (length bytes) longestFrame h)
 
-  pub room-live : 1103 ≤ length bytes → length live < 192 → true ≡ noRoom bytes live run log
-  room-live h k = rw (le-ltb (length bytes) 1103 h, lt-ltb (length live) 192 k)
+  pub room-live : longestFrame ≤ length bytes → length live < bookBytes → true ≡ noRoom bytes live run log
+  unfolding desk.noRoom
+  room-live h k = rw (le-ltb (length bytes) longestFrame h, lt-ltb (length live) bookBytes k)
 
-  pub room-run : 1103 ≤ length bytes → 192 ≤ length live → length run < 192 → true ≡ noRoom bytes live run log
-  room-run h k l = rw (le-ltb (length bytes) 1103 h, le-ltb (length live) 192 k, lt-ltb (length run) 192 l)
+  pub room-run : longestFrame ≤ length bytes → bookBytes ≤ length live → length run < bookBytes → true ≡ noRoom bytes live run log
+  unfolding desk.noRoom
+  room-run h k l = rw (le-ltb (length bytes) longestFrame h, le-ltb (length live) bookBytes k, lt-ltb (length run) bookBytes l)
 
-  pub room-log : 1103 ≤ length bytes → 192 ≤ length live → 192 ≤ length run → ltb (length log) 4096 ≡ noRoom bytes live run log
-  room-log h k l = rw (le-ltb (length bytes) 1103 h, le-ltb (length live) 192 k, le-ltb (length run) 192 l)
+  pub room-log : longestFrame ≤ length bytes → bookBytes ≤ length live → bookBytes ≤ length run → ltb (length log) logRoom ≡ noRoom bytes live run log
+  unfolding desk.noRoom
+  room-log h k l = rw (le-ltb (length bytes) longestFrame h, le-ltb (length live) bookBytes k, le-ltb (length run) bookBytes l)
+
+-- ---- test_lent
+
+module _ (bytes live run log : List ℕ) (d : Desk) (a : Bool) where
+  pub failed-room : a ≡ true → a ≡ noRoom bytes live run log → test.Failed refusal.Room ≡ testedOf bytes (booksIn d live run) log
+  unfolding testedOf
+  failed-room p e = let z : noRoom bytes live run log ≡ true = sym e ∙ p in rw z
+
+  module _ (b : Bool) where
+    pub failed-state : not b ≡ true → b ≡ deskSound d live run → a ≡ false → a ≡ noRoom bytes live run log
+        → test.Failed refusal.State ≡ testedOf bytes (booksIn d live run) log
+    unfolding testedOf
+    failed-state q f p e =
+        let z : noRoom bytes live run log ≡ false = sym e ∙ p in
+        let y : deskSound d live run ≡ false = sym f ∙ not-true b q in
+        rw (z, y)
+
+    pub passed : not b ≡ false → b ≡ deskSound d live run → a ≡ false → a ≡ noRoom bytes live run log
+        → test.Passed ≡ testedOf bytes (booksIn d live run) log
+    unfolding testedOf
+    passed q f p e =
+        let z : noRoom bytes live run log ≡ false = sym e ∙ p in
+        let y : deskSound d live run ≡ true = sym f ∙ not-false b q in
+        rw (z, y)
 
 -- ---- answered
 
@@ -86,49 +116,48 @@ module _ (d : Desk) (live run log : List ℕ) (heard : stream-answer.Answer) (f 
   log-by (desk.continues book message) = refl
   log-by (desk.opens tag message) = refl
 
-pub gives : (d : Desk) (live run log bytes : List ℕ) (heard : stream-answer.Answer) (f : Frame) (r : Answer) (t : Taken) (p live′ run′ log′ : List ℕ)
-    → checked (take (f .length) bytes) ≡ Accepted f
-    → p ≡ payloadIn f (take (f .length) bytes)
-    → Leaves d live run log (desk.byHeader d live f p) t live′ run′ log′
+-- what the desk leaves is what is moved
+pub gives : (d : Desk) (live run log bytes : List ℕ) (heard : stream-answer.Answer) (f : Frame) (r : Answer) (t : Taken) (live′ run′ log′ : List ℕ)
     → r ≡ taken heard f t
-    → Moves (booksIn d live run) heard (hears.Frame f) bytes log r live′ run′ log′
+    → (p : List ℕ) → p ≡ payloadIn f (take (f .length) bytes)
+    → desk.results t live′ run′ log′ ≡ desk.resultBy d live run log (desk.byHeader d live f p)
+    → checked (take (f .length) bytes) ≡ Accepted f
+    → results r bytes live′ run′ log′ ≡ moved (booksIn d live run) heard (hears.Frame f) bytes log
 unfolding verdictOn
-gives d live run log bytes heard f r t p live′ run′ log′ e q l k =
+gives d live run log bytes heard f r t live′ run′ log′ k p q l e =
     let b : List ℕ = take (f .length) bytes in
     let v : desk.byHeader d live f p ≡ verdictOn (booksIn d live run) b = ap (desk.byHeader d live f) q ∙ ap (λ c. desk.byFrame d live c b) (sym e) in
-    record {
-      answer = k ∙ ap (taken heard f) (l .taken ∙ ap (desk.takenBy d live run) v) ∙ answer-by d live run log heard f b (verdictOn (booksIn d live run) b);
-      live-is = l .live-is ∙ ap (desk.liveBy live) v;
-      run-is = l .run-is ∙ ap (desk.runBytesBy d live run) v;
-      log-is = l .log-is ∙ ap (desk.logBy d live run log) v ∙ log-by d live run log heard f b (verdictOn (booksIn d live run) b);
-    }
+    ap (λ r. results r bytes live′ run′ log′) k
+    ∙ ap (λ left. results (taken heard f (left .answer)) bytes (left .live) (left .run) (left .log)) (l ∙ ap (desk.resultBy d live run log) v)
+    ∙ ap₂ (λ x y. results x bytes (desk.liveBy live (verdictOn (booksIn d live run) b)) (desk.runBytesBy d live run (verdictOn (booksIn d live run) b)) y)
+    (answer-by d live run log heard f b (verdictOn (booksIn d live run) b)) (log-by d live run log heard f b (verdictOn (booksIn d live run) b))
 
 -- ---- step
 
 module _ (d : Desk) (live run log bytes : List ℕ) (heard : stream-answer.Answer) (r : Answer) where
-  pub step-frame : (f : Frame) (live′ run′ log′ : List ℕ) → heard .said ≡ hears.Frame f
-      → Moves (booksIn d live run) heard (hears.Frame f) bytes log r live′ run′ log′
-      → Moves (booksIn d live run) heard (heard .said) bytes log r live′ run′ log′
-  step-frame f live′ run′ log′ q m = subst (λ s. Moves (booksIn d live run) heard s bytes log r live′ run′ log′) (sym q) m
+  abbrev moved-by : stream-said.Said → Result
+  moved-by s = moved (booksIn d live run) heard s bytes log
 
-  step-other : (s : stream-said.Said) → heard .said ≡ s → r ≡ movedAnswer (booksIn d live run) heard s bytes → booksIn d live run ≡ movedBooks (booksIn d live run) s bytes
-      → log ≡ movedLog (booksIn d live run) s bytes log → Moves (booksIn d live run) heard (heard .said) bytes log r live run log
-  step-other s q e b l =
-      subst (λ s. Moves (booksIn d live run) heard s bytes log r live run log) (sym q)
-      (record { answer = e; live-is = ap (λ b. b .live) b; run-is = ap (λ b. b .run) b; log-is = l })
+  pub step-frame : (f : Frame) (live′ run′ log′ : List ℕ) → results r bytes live′ run′ log′ ≡ moved-by (hears.Frame f)
+      → heard .said ≡ hears.Frame f → results r bytes live′ run′ log′ ≡ moved-by (heard .said)
+  step-frame f live′ run′ log′ m q = m ∙ ap moved-by (sym q)
 
-  pub step-noise : (n : ℕ) → heard .said ≡ hears.Noise n → r ≡ untaken heard (said.Noise n) d → Moves (booksIn d live run) heard (heard .said) bytes log r live run log
-  step-noise n q e = step-other (hears.Noise n) q e refl refl
+  -- what is no frame does not reach the desk
+  step-other : (s : stream-said.Said) → results r bytes live run log ≡ moved-by s → heard .said ≡ s → results r bytes live run log ≡ moved-by (heard .said)
+  step-other s m q = m ∙ ap moved-by (sym q)
 
-  pub step-hungry : heard .said ≡ hears.Hungry → r ≡ untaken heard said.Hungry d → Moves (booksIn d live run) heard (heard .said) bytes log r live run log
-  step-hungry q e = step-other hears.Hungry q e refl refl
+  pub step-noise : (n : ℕ) → r ≡ untaken heard (said.Noise n) d → heard .said ≡ hears.Noise n → results r bytes live run log ≡ moved-by (heard .said)
+  step-noise n e = step-other (hears.Noise n) (ap (λ r. results r bytes live run log) e)
 
-  pub step-done : heard .said ≡ hears.Done → r ≡ untaken heard said.Done d → Moves (booksIn d live run) heard (heard .said) bytes log r live run log
-  step-done q e = step-other hears.Done q e refl refl
+  pub step-hungry : r ≡ untaken heard said.Hungry d → heard .said ≡ hears.Hungry → results r bytes live run log ≡ moved-by (heard .said)
+  step-hungry e = step-other hears.Hungry (ap (λ r. results r bytes live run log) e)
 
-  pub step-refused : (why : Refusal) → heard .said ≡ hears.Refused why → r ≡ untaken heard (said.Refused why) d
-      → Moves (booksIn d live run) heard (heard .said) bytes log r live run log
-  step-refused why q e = step-other (hears.Refused why) q e refl refl
+  pub step-done : r ≡ untaken heard said.Done d → heard .said ≡ hears.Done → results r bytes live run log ≡ moved-by (heard .said)
+  step-done e = step-other hears.Done (ap (λ r. results r bytes live run log) e)
+
+  pub step-refused : (why : Refusal) → r ≡ untaken heard (said.Refused why) d → heard .said ≡ hears.Refused why
+      → results r bytes live run log ≡ moved-by (heard .said)
+  step-refused why e = step-other (hears.Refused why) (ap (λ r. results r bytes live run log) e)
 
 -- a frame that is told lies first
 pub frame-lies : (s : stream-said.Said) (f : Frame) (bytes : List ℕ) → Lies s bytes → s ≡ hears.Frame f → checked (take (f .length) bytes) ≡ Accepted f

@@ -8,15 +8,14 @@ use lib.ListN.{length, take, drop}
 use Rattle.stream.specs.declared.Tray.{Tray}
 use Rattle.stream.specs.Tray.{freshTray, bytesOf}
 use Rattle.stream.specs.Driver.{Caller, GoesOn}
-use Rattle.book.specs.Book.{bookBytes}
+use Rattle.sizes.specs.Sizes.{bookBytes, logRoom}
 use Rattle.desk.specs.Desk.{deskSound}
-use Rattle.desk.specs.Take.{logRoom}
 use Rattle.desk.specs.History.{Held}
 use Rattle.prepare.specs.declared.Said.{Said}
 use Rattle.prepare.specs.declared.Said.the-variants as said
 use Rattle.prepare.specs.declared.Answer.{Answer}
 use Rattle.prepare.specs.Uncut.{Told, accepted, refused, noise}
-use Rattle.prepare.specs.Prepare.{callOutcome, finishOutcome, answerOf, booksOf, logOf}
+use Rattle.prepare.specs.Prepare.{Handed, callOutcome, finishOutcome, answerOf, booksOf, logOf}
 
 -- all that is kept from call to call: the tray and its bytes, the desk and the bytes of both books
 pub record State : Type 0 where
@@ -32,33 +31,36 @@ pub record Sound (books : Held) : Type 0 where
 
 -- ---- a call and finish, of the whole state
 
+abbrev pub lent : State → (log : List ℕ) → Handed
+lent s log = record { bytes = s .bytes; tray = s .tray; books = s .books; log = log }
+
 module _ (s : State) (log : List ℕ) where
   module _ (input : List ℕ) where
     abbrev pub callSays : Answer
-    callSays = answerOf (s .tray) (s .books) (callOutcome (s .bytes) (s .tray) (s .books) log input)
+    callSays = answerOf (lent s log) (callOutcome (lent s log) input)
 
     abbrev pub callLeaves : State
     callLeaves = record {
-      bytes = bytesOf (s .bytes) (callOutcome (s .bytes) (s .tray) (s .books) log input);
+      bytes = bytesOf (s .bytes) (callOutcome (lent s log) input);
       tray = callSays .tray;
-      books = booksOf (s .books) (callOutcome (s .bytes) (s .tray) (s .books) log input);
+      books = booksOf (lent s log) (callOutcome (lent s log) input);
     }
 
     abbrev pub callLogs : List ℕ
-    callLogs = logOf (s .books) log (callOutcome (s .bytes) (s .tray) (s .books) log input)
+    callLogs = logOf (lent s log) (callOutcome (lent s log) input)
 
   abbrev pub finishSays : Answer
-  finishSays = answerOf (s .tray) (s .books) (finishOutcome (s .bytes) (s .tray) (s .books) log)
+  finishSays = answerOf (lent s log) (finishOutcome (lent s log))
 
   abbrev pub finishLeaves : State
   finishLeaves = record {
-    bytes = bytesOf (s .bytes) (finishOutcome (s .bytes) (s .tray) (s .books) log);
+    bytes = bytesOf (s .bytes) (finishOutcome (lent s log));
     tray = finishSays .tray;
-    books = booksOf (s .books) (finishOutcome (s .bytes) (s .tray) (s .books) log);
+    books = booksOf (lent s log) (finishOutcome (lent s log));
   }
 
   abbrev pub finishLogs : List ℕ
-  finishLogs = logOf (s .books) log (finishOutcome (s .bytes) (s .tray) (s .books) log)
+  finishLogs = logOf (lent s log) (finishOutcome (lent s log))
 
 -- what is told by what a call says: a frame lies first among the tray's bytes afterwards, and so many bytes of entries first in the log
 abbrev pub Tells : Said → (written : ℕ) → (bytes log : List ℕ) → Told → Type 0

@@ -1,8 +1,10 @@
 -- Mirror: what the steps of a call return, by what the stream says. Serves proofs.
 use mathlib.Core.Path.{_≡_}
+use mathlib.Core.Bool.{cond}
 use mathlib.Core.List.{List}
 use Prim.Native.Nat.{ℕ}
 use lib.ListN.{length, take}
+use Rattle.answer.specs.declared.Refusal.the-variants as refusal
 use Rattle.frame.specs.declared.Frame.{Frame}
 use Rattle.frame.specs.declared.Checked.the-variants.{Accepted}
 use Rattle.frame.specs.Check.{checked}
@@ -11,6 +13,7 @@ use Rattle.stream.specs.declared.Said as stream-said
 use Rattle.stream.specs.declared.Said.the-variants as hears
 use Rattle.stream.specs.declared.Answer as stream-answer
 use Rattle.desk.specs.declared.Desk.{Desk}
+use Rattle.desk.specs.Desk.{deskSound}
 use Rattle.desk.specs.declared.Said as desk-said
 use Rattle.desk.specs.declared.Said.the-variants as desk
 use Rattle.desk.specs.declared.Taken.{Taken}
@@ -18,8 +21,17 @@ use Rattle.desk.specs.History.{Held}
 use Rattle.prepare.specs.declared.Said.{Said}
 use Rattle.prepare.specs.declared.Said.the-variants as said
 use Rattle.prepare.specs.declared.Answer.{Answer}
+use Rattle.prepare.specs.declared.Tested.{Tested}
+use Rattle.prepare.specs.declared.Tested.the-variants as test
 use Rattle.prepare.specs.Uncut.{toldOf, booksAfter, entriesOf}
-use Rattle.prepare.specs.Prepare.{saidOf, written}
+use Rattle.prepare.specs.Prepare.{noRoom, saidOf, written, Result, results}
+
+-- ---- ROOM of every lent buffer, and STATE of the desk; that of the tray is the stream's to say
+
+unfoldable pub testedOf : (bytes : List ℕ) → Held → (log : List ℕ) → Tested
+testedOf bytes books log =
+    cond (noRoom bytes (books .live) (books .run) log) (test.Failed refusal.Room)
+    (cond (deskSound (books .desk) (books .live) (books .run)) test.Passed (test.Failed refusal.State))
 
 -- ---- what the desk said of a frame
 
@@ -74,11 +86,9 @@ movedLog books hears.Done bytes log = log
 movedLog books (hears.Refused why) bytes log = log
 
 -- the answer and every lent byte are these
-pub record Moves (books : Held) (heard : stream-answer.Answer) (s : stream-said.Said) (bytes log : List ℕ) (r : Answer) (live′ run′ log′ : List ℕ) : Type 0 where
-  pub answer : r ≡ movedAnswer books heard s bytes
-  pub live-is : live′ ≡ movedBooks books s bytes .live
-  pub run-is : run′ ≡ movedBooks books s bytes .run
-  pub log-is : log′ ≡ movedLog books s bytes log
+abbrev pub moved : Held → stream-answer.Answer → stream-said.Said → (bytes log : List ℕ) → Result
+moved books heard s bytes log =
+    results (movedAnswer books heard s bytes) bytes (movedBooks books s bytes .live) (movedBooks books s bytes .run) (movedLog books s bytes log)
 
 -- a frame that is told was checked, and lies first
 abbrev pub Lies : stream-said.Said → (bytes : List ℕ) → Type 0

@@ -9,7 +9,8 @@ use lib.ListN.{length, replicate, length-replicate}
 use borrow.Author.Tests.{le-ltb}
 use Rattle.area.specs.Laws.{both-right}
 use Rattle.stream.specs.Scan.{Event, frame, noise}
-use Rattle.book.specs.Book.{bookBytes, sound}
+use Rattle.sizes.specs.Sizes.{tags, bookBytes, logRoom}
+use Rattle.book.specs.Book.{noBook, sound}
 use Rattle.book.specs.Laws.{sound-room}
 use Rattle.answer.specs.declared.Refusal.the-variants.{Field}
 use Rattle.message.specs.Messages.{constellationFor}
@@ -18,7 +19,7 @@ use Rattle.message.specs.declared.Subtype.the-variants as subtype
 use Rattle.desk.specs.declared.Desk.{Desk}
 use Rattle.desk.specs.declared.Run.the-variants.{Closed}
 use Rattle.desk.specs.declared.NewDesk.the-variants.{Made, Refused}
-use Rattle.desk.specs.Desk.{tags, sourceInRange, noBook, madeFor, newDesk, deskSound}
+use Rattle.desk.specs.Desk.{sourceInRange, madeFor, newDesk, deskSound}
 use Rattle.desk.specs.Take as desk
 use Rattle.desk.specs.Fits.{sound-live, sound-run}
 use Rattle.desk.specs.History as history
@@ -29,23 +30,23 @@ use Rattle.prepare.specs.Driver.{Sound}
 
 -- a frame as the desk is given it, with some log that has room
 abbrev someLog : List ℕ
-someLog = replicate desk.logRoom 0
+someLog = replicate logRoom 0
 
 abbrev pub given : (bytes : List ℕ) → Given
 given bytes = frameWith bytes someLog
 
 -- past ROOM and STATE the desk's own definition of taking a frame is what it makes of the frame
-pub verdict-past : (books : Held) → Sound books → (bytes log : List ℕ) → desk.logRoom ≤ length log
-    → desk.verdict (books .desk) bytes (books .live) (books .run) log ≡ verdictOn books bytes
-unfolding verdictOn desk.verdict
+pub verdict-past : (books : Held) → Sound books → (bytes log : List ℕ) → logRoom ≤ length log
+    → desk.verdict (desk.hands (books .desk) bytes (books .live) (books .run) log) ≡ verdictOn books bytes
+unfolding verdictOn desk.verdict desk.noRoom
 verdict-past books s bytes log h =
-    let b : ltb (length (books .live)) 192 ≡ false = le-ltb (length (books .live)) 192 (s .live-room) in
-    let c : ltb (length (books .run)) 192 ≡ false = le-ltb (length (books .run)) 192 (s .run-room) in
-    let d : ltb (length log) 4096 ≡ false = le-ltb (length log) 4096 h in
+    let b : ltb (length (books .live)) bookBytes ≡ false = le-ltb (length (books .live)) bookBytes (s .live-room) in
+    let c : ltb (length (books .run)) bookBytes ≡ false = le-ltb (length (books .run)) bookBytes (s .run-room) in
+    let d : ltb (length log) logRoom ≡ false = le-ltb (length log) logRoom h in
     rw (b, c, d, s .is-sound)
 
 pub verdict-is : (books : Held) → Sound books → (bytes : List ℕ) → history.verdictOn books (given bytes) ≡ verdictOn books bytes
-verdict-is books s bytes = verdict-past books s bytes someLog (omega (arith, length-replicate {A = ℕ} desk.logRoom 0))
+verdict-is books s bytes = verdict-past books s bytes someLog (omega (arith, length-replicate {A = ℕ} logRoom 0))
 
 verdict-sound : (books : Held) → Sound books → (bytes : List ℕ) → Sound (heldBy books (verdictOn books bytes))
 verdict-sound books s bytes =

@@ -9,7 +9,7 @@ use lib.Dec.{ltb}
 use lib.ListN.{length, take, drop}
 use lib.Seq.{take-at}
 use borrow.Author.Tests.{le-ltb}
-use Rattle.frame.specs.Fields.{longest}
+use Rattle.sizes.specs.Sizes.{longestFrame, bookBytes, logRoom}
 use Rattle.frame.specs.declared.Frame.{Frame}
 use Rattle.stream.specs.declared.Tray.{Tray}
 use Rattle.stream.specs.declared.Said.the-variants as heard
@@ -24,17 +24,18 @@ use Rattle.prepare.specs.declared.Said.{Said}
 use Rattle.prepare.specs.declared.Said.the-variants as said
 use Rattle.prepare.specs.Uncut as uncut
 use Rattle.prepare.specs.Uncut.{Told, toldOf, toldBy, booksAfter, verdictOn, entriesOf}
-use Rattle.prepare.specs.Prepare.{guarded, answerOf, booksOf, logOf, saidOf, written}
+use Rattle.prepare.specs.Prepare.{Handed, guarded, answerOf, booksOf, logOf, saidOf, written}
 use Rattle.prepare.specs.Driver.{Sound, Tells}
 
 -- past ROOM and STATE the step is the stream's
-pub guarded-is : (bytes : List ℕ) (tray : Tray) (books : Held) (log : List ℕ) (o : stream.Outcome)
-    → streaming.Ready bytes tray → Sound books → desk.logRoom ≤ length log → guarded bytes tray books log o ≡ o
-guarded-is bytes tray books log o r s h =
-    let a : ltb (length bytes) longest ≡ false = le-ltb (length bytes) longest (r .room) in
-    let b : ltb (length (books .live)) 192 ≡ false = le-ltb (length (books .live)) 192 (s .live-room) in
-    let c : ltb (length (books .run)) 192 ≡ false = le-ltb (length (books .run)) 192 (s .run-room) in
-    let d : ltb (length log) 4096 ≡ false = le-ltb (length log) 4096 h in
+pub guarded-is : (handed : Handed) (o : stream.Outcome) → streaming.Ready (handed .bytes) (handed .tray) → Sound (handed .books)
+    → logRoom ≤ length (handed .log) → guarded handed o ≡ o
+unfolding desk.noRoom
+guarded-is handed o r s h =
+    let a : ltb (length (handed .bytes)) longestFrame ≡ false = le-ltb (length (handed .bytes)) longestFrame (r .room) in
+    let b : ltb (length (handed .books .live)) bookBytes ≡ false = le-ltb (length (handed .books .live)) bookBytes (s .live-room) in
+    let c : ltb (length (handed .books .run)) bookBytes ≡ false = le-ltb (length (handed .books .run)) bookBytes (s .run-room) in
+    let d : ltb (length (handed .log)) logRoom ≡ false = le-ltb (length (handed .log)) logRoom h in
     rw (a, b, c, d, s .is-sound, r .is-sound)
 
 -- ---- of a frame that lies first among the bytes, with its entries first in the log
@@ -76,8 +77,8 @@ same-told (said.Refused why) n bytes log t t′ p q = absurd p
 
 -- ---- what a call tells is what the desk makes of the stream's event
 
-abbrev pub Says : (bytes : List ℕ) → Tray → Held → (log : List ℕ) → stream.Outcome → Told → Type 0
-Says bytes tray books log o t = Tells (answerOf tray books o .said) (answerOf tray books o .log) (stream.bytesOf bytes o) (logOf books log o) t
+abbrev pub Says : Handed → stream.Outcome → Told → Type 0
+Says handed o t = Tells (answerOf handed o .said) (answerOf handed o .log) (stream.bytesOf (handed .bytes) o) (logOf handed o) t
 
 abbrev pub Hears : (bytes : List ℕ) → Tray → stream.Outcome → Event → Type 0
 Hears bytes tray o e = streaming.Tells (stream.answerOf tray o .said) (stream.bytesOf bytes o) e
@@ -91,48 +92,48 @@ module _ (bytes : List ℕ) (tray : Tray) where
   itself (frame f b) c n g = the-event (frame f b) c n g (frame f (take (f .length) (stream.laid bytes (c .held)))) refl
   itself (noise k) c n g = refl
 
-  module _ (books : Held) (log : List ℕ) where
-    told-itself : (e : Event) (c : stream.Contents) (n : ℕ) → Good (stream.told e c n) → Says bytes tray books log (stream.told e c n) (toldOf books e)
-    told-itself (frame f b) c n g =
-        let q : frame f b ≡ frame f (take (f .length) (stream.laid bytes (c .held))) = itself (frame f b) c n g in
-        by-verdict books log (stream.laid bytes (c .held)) f b (verdictOn books b) cc
-    told-itself (noise k) c n g = refl
+module _ (handed : Handed) where
+  told-itself : (e : Event) (c : stream.Contents) (n : ℕ) → Good (stream.told e c n) → Says handed (stream.told e c n) (toldOf (handed .books) e)
+  told-itself (frame f b) c n g =
+      let q : frame f b ≡ frame f (take (f .length) (stream.laid (handed .bytes) (c .held))) = itself (handed .bytes) (handed .tray) (frame f b) c n g in
+      by-verdict (handed .books) (handed .log) (stream.laid (handed .bytes) (c .held)) f b (verdictOn (handed .books) b) cc
+  told-itself (noise k) c n g = refl
 
-    says : (o : stream.Outcome) → Good o → (e : Event) → Hears bytes tray o e
-        → (Says bytes tray books log o (toldOf books e)) × (booksOf books o ≡ booksAfter books e)
-    says (stream.refused r) g e k = absurd g
-    says (stream.told e c n) g e′ k =
-        let q = the-event e c n g e′ k in
-        (subst (λ e′. Says bytes tray books log (stream.told e c n) (toldOf books e′)) q (told-itself e c n g), ap (booksAfter books) q)
-    says (stream.hungry c n) g e k = absurd k
-    says (stream.done c) g e k = absurd k
+  says : (o : stream.Outcome) → Good o → (e : Event) → Hears (handed .bytes) (handed .tray) o e
+      → (Says handed o (toldOf (handed .books) e)) × (booksOf handed o ≡ booksAfter (handed .books) e)
+  says (stream.refused r) g e k = absurd g
+  says (stream.told e c n) g e′ k =
+      let q = the-event (handed .bytes) (handed .tray) e c n g e′ k in
+      (subst (λ e′. Says handed (stream.told e c n) (toldOf (handed .books) e′)) q (told-itself e c n g), ap (booksAfter (handed .books)) q)
+  says (stream.hungry c n) g e k = absurd k
+  says (stream.done c) g e k = absurd k
 
-    hears : (o : stream.Outcome) → Good o → (t : Told) → Says bytes tray books log o t → (e : Event) × Hears bytes tray o e
-    hears (stream.refused r) g t k = absurd g
-    hears (stream.told e c n) g t k = (e, itself e c n g)
-    hears (stream.hungry c n) g t k = absurd k
-    hears (stream.done c) g t k = absurd k
+  hears : (o : stream.Outcome) → Good o → (t : Told) → Says handed o t → (e : Event) × Hears (handed .bytes) (handed .tray) o e
+  hears (stream.refused r) g t k = absurd g
+  hears (stream.told e c n) g t k = (e, itself (handed .bytes) (handed .tray) e c n g)
+  hears (stream.hungry c n) g t k = absurd k
+  hears (stream.done c) g t k = absurd k
 
-module _ (tray : Tray) (books : Held) where
-  hungry-so : (o : stream.Outcome) → answerOf tray books o .said ≡ said.Hungry → (stream.answerOf tray o .said ≡ heard.Hungry) × (booksOf books o ≡ books)
+module _ (handed : Handed) where
+  hungry-so : (o : stream.Outcome) → answerOf handed o .said ≡ said.Hungry → (stream.answerOf (handed .tray) o .said ≡ heard.Hungry) × (booksOf handed o ≡ handed .books)
   hungry-so (stream.refused r) q = let z : _≡_ {A = ℕ} 0 1 = cc in absurd (omega arith)
-  hungry-so (stream.told e c n) q = absurd (never books e (inl q))
+  hungry-so (stream.told e c n) q = absurd (never (handed .books) e (inl q))
   hungry-so (stream.hungry c n) q = (refl, refl)
   hungry-so (stream.done c) q = let z : _≡_ {A = ℕ} 0 1 = cc in absurd (omega arith)
 
-  done-so : (o : stream.Outcome) → answerOf tray books o .said ≡ said.Done → (stream.answerOf tray o .said ≡ heard.Done) × (booksOf books o ≡ books)
+  done-so : (o : stream.Outcome) → answerOf handed o .said ≡ said.Done → (stream.answerOf (handed .tray) o .said ≡ heard.Done) × (booksOf handed o ≡ handed .books)
   done-so (stream.refused r) q = let z : _≡_ {A = ℕ} 0 1 = cc in absurd (omega arith)
-  done-so (stream.told e c n) q = absurd (never books e (inr q))
+  done-so (stream.told e c n) q = absurd (never (handed .books) e (inr q))
   done-so (stream.hungry c n) q = let z : _≡_ {A = ℕ} 0 1 = cc in absurd (omega arith)
   done-so (stream.done c) q = (refl, refl)
 
-  so-hungry : (o : stream.Outcome) → stream.answerOf tray o .said ≡ heard.Hungry → (answerOf tray books o .said ≡ said.Hungry) × (booksOf books o ≡ books)
+  so-hungry : (o : stream.Outcome) → stream.answerOf (handed .tray) o .said ≡ heard.Hungry → (answerOf handed o .said ≡ said.Hungry) × (booksOf handed o ≡ handed .books)
   so-hungry (stream.refused r) q = let z : _≡_ {A = ℕ} 0 1 = cc in absurd (omega arith)
   so-hungry (stream.told e c n) q = absurd (stream-never e (inl q))
   so-hungry (stream.hungry c n) q = (refl, refl)
   so-hungry (stream.done c) q = let z : _≡_ {A = ℕ} 0 1 = cc in absurd (omega arith)
 
-  so-done : (o : stream.Outcome) → stream.answerOf tray o .said ≡ heard.Done → (answerOf tray books o .said ≡ said.Done) × (booksOf books o ≡ books)
+  so-done : (o : stream.Outcome) → stream.answerOf (handed .tray) o .said ≡ heard.Done → (answerOf handed o .said ≡ said.Done) × (booksOf handed o ≡ handed .books)
   so-done (stream.refused r) q = let z : _≡_ {A = ℕ} 0 1 = cc in absurd (omega arith)
   so-done (stream.told e c n) q = absurd (stream-never e (inr q))
   so-done (stream.hungry c n) q = let z : _≡_ {A = ℕ} 0 1 = cc in absurd (omega arith)
@@ -140,59 +141,59 @@ module _ (tray : Tray) (books : Held) where
 
 -- ---- a step of stream and desk, `o`, that is the stream's, `o′`
 
-module _ (bytes : List ℕ) (tray : Tray) (books : Held) (o o′ : stream.Outcome) (q : o ≡ o′) where
+module _ (handed : Handed) (o o′ : stream.Outcome) (q : o ≡ o′) where
   -- the tray, its bytes and the bytes used are the stream's
   module _ (R : List ℕ → Tray → ℕ → Held → Type 0) where
-    pub forth : R (stream.bytesOf bytes o) (answerOf tray books o .tray) (answerOf tray books o .used) (booksOf books o)
-        → R (stream.bytesOf bytes o′) (stream.answerOf tray o′ .tray) (stream.answerOf tray o′ .used) (booksOf books o′)
-    forth x = go o′ (subst (λ o. R (stream.bytesOf bytes o) (answerOf tray books o .tray) (answerOf tray books o .used) (booksOf books o)) q x)
+    pub forth : R (stream.bytesOf (handed .bytes) o) (answerOf handed o .tray) (answerOf handed o .used) (booksOf handed o)
+        → R (stream.bytesOf (handed .bytes) o′) (stream.answerOf (handed .tray) o′ .tray) (stream.answerOf (handed .tray) o′ .used) (booksOf handed o′)
+    forth x = go o′ (subst (λ o. R (stream.bytesOf (handed .bytes) o) (answerOf handed o .tray) (answerOf handed o .used) (booksOf handed o)) q x)
       where
-        go : (o : stream.Outcome) → R (stream.bytesOf bytes o) (answerOf tray books o .tray) (answerOf tray books o .used) (booksOf books o)
-            → R (stream.bytesOf bytes o) (stream.answerOf tray o .tray) (stream.answerOf tray o .used) (booksOf books o)
+        go : (o : stream.Outcome) → R (stream.bytesOf (handed .bytes) o) (answerOf handed o .tray) (answerOf handed o .used) (booksOf handed o)
+            → R (stream.bytesOf (handed .bytes) o) (stream.answerOf (handed .tray) o .tray) (stream.answerOf (handed .tray) o .used) (booksOf handed o)
         go (stream.refused r) x = x
         go (stream.told e c n) x = x
         go (stream.hungry c n) x = x
         go (stream.done c) x = x
 
-    pub back : R (stream.bytesOf bytes o′) (stream.answerOf tray o′ .tray) (stream.answerOf tray o′ .used) (booksOf books o′)
-        → R (stream.bytesOf bytes o) (answerOf tray books o .tray) (answerOf tray books o .used) (booksOf books o)
-    back x = subst (λ o. R (stream.bytesOf bytes o) (answerOf tray books o .tray) (answerOf tray books o .used) (booksOf books o)) (sym q) (go o′ x)
+    pub back : R (stream.bytesOf (handed .bytes) o′) (stream.answerOf (handed .tray) o′ .tray) (stream.answerOf (handed .tray) o′ .used) (booksOf handed o′)
+        → R (stream.bytesOf (handed .bytes) o) (answerOf handed o .tray) (answerOf handed o .used) (booksOf handed o)
+    back x = subst (λ o. R (stream.bytesOf (handed .bytes) o) (answerOf handed o .tray) (answerOf handed o .used) (booksOf handed o)) (sym q) (go o′ x)
       where
-        go : (o : stream.Outcome) → R (stream.bytesOf bytes o) (stream.answerOf tray o .tray) (stream.answerOf tray o .used) (booksOf books o)
-            → R (stream.bytesOf bytes o) (answerOf tray books o .tray) (answerOf tray books o .used) (booksOf books o)
+        go : (o : stream.Outcome) → R (stream.bytesOf (handed .bytes) o) (stream.answerOf (handed .tray) o .tray) (stream.answerOf (handed .tray) o .used) (booksOf handed o)
+            → R (stream.bytesOf (handed .bytes) o) (answerOf handed o .tray) (answerOf handed o .used) (booksOf handed o)
         go (stream.refused r) x = x
         go (stream.told e c n) x = x
         go (stream.hungry c n) x = x
         go (stream.done c) x = x
 
   -- what is told is what the desk makes of the stream's event
-  pub is-told : (log : List ℕ) → Good o′ → (t : Told) → Says bytes tray books log o t
-      → (e : Event) × (Hears bytes tray o′ e) × (t ≡ toldOf books e) × (booksOf books o′ ≡ booksAfter books e)
-  is-told log g t k =
-      let k′ : Says bytes tray books log o′ t = subst (λ o. Says bytes tray books log o t) q k in
-      let e = hears bytes tray books log o′ g t k′ in
-      let w = says bytes tray books log o′ g (e .0) (e .1) in (
+  pub is-told : Good o′ → (t : Told) → Says handed o t
+      → (e : Event) × (Hears (handed .bytes) (handed .tray) o′ e) × (t ≡ toldOf (handed .books) e) × (booksOf handed o′ ≡ booksAfter (handed .books) e)
+  is-told g t k =
+      let k′ : Says handed o′ t = subst (λ o. Says handed o t) q k in
+      let e = hears handed o′ g t k′ in
+      let w = says handed o′ g (e .0) (e .1) in (
         e .0,
         e .1,
-        same-told (answerOf tray books o′ .said) (answerOf tray books o′ .log) (stream.bytesOf bytes o′) (logOf books log o′) t (toldOf books (e .0)) k′ (w .0),
+        same-told (answerOf handed o′ .said) (answerOf handed o′ .log) (stream.bytesOf (handed .bytes) o′) (logOf handed o′) t (toldOf (handed .books) (e .0)) k′ (w .0),
         w .1,
       )
 
-  pub tells-so : (log : List ℕ) → Good o′ → (e : Event) → Hears bytes tray o′ e
-      → (Says bytes tray books log o (toldOf books e)) × (booksOf books o′ ≡ booksAfter books e)
-  tells-so log g e k =
-      let w = says bytes tray books log o′ g e k in
-      (subst (λ o. Says bytes tray books log o (toldOf books e)) (sym q) (w .0), w .1)
+  pub tells-so : Good o′ → (e : Event) → Hears (handed .bytes) (handed .tray) o′ e
+      → (Says handed o (toldOf (handed .books) e)) × (booksOf handed o′ ≡ booksAfter (handed .books) e)
+  tells-so g e k =
+      let w = says handed o′ g e k in
+      (subst (λ o. Says handed o (toldOf (handed .books) e)) (sym q) (w .0), w .1)
 
   -- hungry and done are the stream's
-  pub is-hungry : answerOf tray books o .said ≡ said.Hungry → (stream.answerOf tray o′ .said ≡ heard.Hungry) × (booksOf books o′ ≡ books)
-  is-hungry k = hungry-so tray books o′ (ap (λ o. answerOf tray books o .said) (sym q) ∙ k)
+  pub is-hungry : answerOf handed o .said ≡ said.Hungry → (stream.answerOf (handed .tray) o′ .said ≡ heard.Hungry) × (booksOf handed o′ ≡ handed .books)
+  is-hungry k = hungry-so handed o′ (ap (λ o. answerOf handed o .said) (sym q) ∙ k)
 
-  pub is-done : answerOf tray books o .said ≡ said.Done → (stream.answerOf tray o′ .said ≡ heard.Done) × (booksOf books o′ ≡ books)
-  is-done k = done-so tray books o′ (ap (λ o. answerOf tray books o .said) (sym q) ∙ k)
+  pub is-done : answerOf handed o .said ≡ said.Done → (stream.answerOf (handed .tray) o′ .said ≡ heard.Done) × (booksOf handed o′ ≡ handed .books)
+  is-done k = done-so handed o′ (ap (λ o. answerOf handed o .said) (sym q) ∙ k)
 
-  pub hungry-is : stream.answerOf tray o′ .said ≡ heard.Hungry → (answerOf tray books o .said ≡ said.Hungry) × (booksOf books o′ ≡ books)
-  hungry-is k = let w = so-hungry tray books o′ k in (ap (λ o. answerOf tray books o .said) q ∙ w .0, w .1)
+  pub hungry-is : stream.answerOf (handed .tray) o′ .said ≡ heard.Hungry → (answerOf handed o .said ≡ said.Hungry) × (booksOf handed o′ ≡ handed .books)
+  hungry-is k = let w = so-hungry handed o′ k in (ap (λ o. answerOf handed o .said) q ∙ w .0, w .1)
 
-  pub done-is : stream.answerOf tray o′ .said ≡ heard.Done → (answerOf tray books o .said ≡ said.Done) × (booksOf books o′ ≡ books)
-  done-is k = let w = so-done tray books o′ k in (ap (λ o. answerOf tray books o .said) q ∙ w .0, w .1)
+  pub done-is : stream.answerOf (handed .tray) o′ .said ≡ heard.Done → (answerOf handed o .said ≡ said.Done) × (booksOf handed o′ ≡ handed .books)
+  done-is k = let w = so-done handed o′ k in (ap (λ o. answerOf handed o .said) q ∙ w .0, w .1)

@@ -10,21 +10,19 @@ use Rattle.groups.specs.Groups.{groupsOfAll}
 use Rattle.frame.specs.declared.Frame.{Frame}
 use Rattle.stream.specs.Scan.{frame, scan}
 use Rattle.stream.specs.Tray.{Outcome, refused, told, hungry, done}
-use Rattle.stream.specs.declared.Tray.{Tray}
 use Rattle.stream.specs.Driver as streaming
 use Rattle.stream.specs.Driver.{Caller, waits}
 use Rattle.stream.specs.Theorems as stream
 use Rattle.desk.specs.Take as desk
-use Rattle.desk.specs.Take.{logRoom}
+use Rattle.sizes.specs.Sizes.{bookBytes, logRoom}
 use Rattle.desk.specs.History.{Held, Snapshot, heldBy}
 use Rattle.desk.specs.declared.Desk.{Desk}
 use Rattle.desk.specs.declared.NewDesk.the-variants.{Made}
 use Rattle.desk.specs.Desk.{newDesk}
 use Rattle.desk.specs.Theorems.{new-sound, KeptOn, closed-kept}
-use Rattle.book.specs.Book.{bookBytes}
 use Rattle.prepare.specs.Uncut.{Told, verdictOn, toldBy, toldOf, booksAfter, toldAll, booksAll, entriesOf, runLog, uncutTold, uncutLog, uncutBooks}
-use Rattle.prepare.specs.Prepare.{callOutcome, finishOutcome, answerOf, booksOf, written, booksIn, callAnswer, callBytes, callLive, callRun, finishAnswer, finishBytes, finishLive, finishRun}
-use Rattle.prepare.specs.Driver.{State, Sound, callLeaves, finishLeaves, Feeds, start, Whole}
+use Rattle.prepare.specs.Prepare.{Handed, callOutcome, finishOutcome, answerOf, booksOf, written, booksIn, Result, byCall, byFinish}
+use Rattle.prepare.specs.Driver.{State, Sound, lent, callLeaves, finishLeaves, Feeds, start, Whole}
 use Rattle.prepare.specs.Placed.{placedLog, openingAll}
 use Rattle.prepare.specs.Placing.{placed, still-kept}
 use Rattle.prepare.specs.Stays.{verdict-past, new-closed}
@@ -127,51 +125,48 @@ module _ (solution processor constellation : ℕ) (desk : Desk) (e : newDesk sol
 
 -- ---- what these theorems carry from call to call is what the contracts hand back
 
-handed-back : (tray : Tray) (books : Held) (o : Outcome) → booksIn (answerOf tray books o .desk) (booksOf books o .live) (booksOf books o .run) ≡ booksOf books o
-handed-back tray books (refused why) = refl
-handed-back tray books (told event contents used) = refl
-handed-back tray books (hungry contents used) = refl
-handed-back tray books (done contents) = refl
+handed-back : (handed : Handed) (o : Outcome)
+    → booksIn (answerOf handed o .desk) (booksOf handed o .live) (booksOf handed o .run) ≡ booksOf handed o
+handed-back handed (refused why) = refl
+handed-back handed (told event contents used) = refl
+handed-back handed (hungry contents used) = refl
+handed-back handed (done contents) = refl
 
-module _ (bytes : List ℕ) (tray : Tray) (desk : Desk) (live run log : List ℕ) where
-  abbrev state : State
-  state = record { bytes = bytes; tray = tray; books = booksIn desk live run }
+-- The state after a call: its tray's bytes, the tray and the desk of its answer, and both books.
+abbrev pub stateIn : Result → State
+stateIn result = record {
+  bytes = result .bytes;
+  tray = result .answer .tray;
+  books = booksIn (result .answer .desk) (result .live) (result .run);
+}
 
-  -- The state after a call: its tray's bytes, the tray and the desk of its answer, and both books.
-  pub call-hands-back : (input : List ℕ) → callLeaves state log input
-      ≡ record {
-        bytes = callBytes bytes tray desk live run log input;
-        tray = callAnswer bytes tray desk live run log input .tray;
-        books = booksIn (callAnswer bytes tray desk live run log input .desk) (callLive bytes tray desk live run log input) (callRun bytes tray desk live run log input);
-      }
+module _ (s : State) (log : List ℕ) where
+  pub call-hands-back : (input : List ℕ) → callLeaves s log input ≡ stateIn (byCall (lent s log) input)
   call-hands-back input =
-      ap (λ held. record { bytes = callBytes bytes tray desk live run log input; tray = callAnswer bytes tray desk live run log input .tray; books = held })
-      (sym (handed-back tray (booksIn desk live run) (callOutcome bytes tray (booksIn desk live run) log input)))
+      ap (λ held. record { bytes = byCall (lent s log) input .bytes; tray = byCall (lent s log) input .answer .tray; books = held })
+      (sym (handed-back (lent s log) (callOutcome (lent s log) input)))
 
-  pub finish-hands-back : finishLeaves state log
-      ≡ record {
-        bytes = finishBytes bytes tray desk live run log;
-        tray = finishAnswer bytes tray desk live run log .tray;
-        books = booksIn (finishAnswer bytes tray desk live run log .desk) (finishLive bytes tray desk live run log) (finishRun bytes tray desk live run log);
-      }
+  pub finish-hands-back : finishLeaves s log ≡ stateIn (byFinish (lent s log))
   finish-hands-back =
-      ap (λ held. record { bytes = finishBytes bytes tray desk live run log; tray = finishAnswer bytes tray desk live run log .tray; books = held })
-      (sym (handed-back tray (booksIn desk live run) (finishOutcome bytes tray (booksIn desk live run) log)))
+      ap (λ held. record { bytes = byFinish (lent s log) .bytes; tray = byFinish (lent s log) .answer .tray; books = held })
+      (sym (handed-back (lent s log) (finishOutcome (lent s log))))
 
 -- ---- "Each frame event goes to the desk in order": the uncut stream's step is what `desk::take` says of the frame's bytes, lent any log that has room
 
 module _ (books : Held) (sound : Sound books) (header : Frame) (bytes log : List ℕ) (room : logRoom ≤ length log) where
-  now-is : desk.verdict (books .desk) bytes (books .live) (books .run) log ≡ verdictOn books bytes
+  abbrev handed : desk.Handed
+  handed = desk.hands (books .desk) bytes (books .live) (books .run) log
+
+  now-is : desk.verdict handed ≡ verdictOn books bytes
   now-is = verdict-past books sound bytes log room
 
   pub books-by-take : booksAfter books (frame header bytes)
-      ≡ booksIn (desk.frameTaken (books .desk) bytes (books .live) (books .run) log .desk) (desk.liveAfter (books .desk) bytes (books .live) (books .run) log)
-      (desk.runAfter (books .desk) bytes (books .live) (books .run) log)
-  unfolding desk.frameTaken desk.liveAfter desk.runAfter
+      ≡ booksIn (desk.frameTaken handed .answer .desk) (desk.frameTaken handed .live) (desk.frameTaken handed .run)
+  unfolding desk.frameTaken
   books-by-take = ap (heldBy books) (sym now-is)
 
-  pub log-by-take : written (entriesOf (toldOf books (frame header bytes))) log ≡ desk.logAfter (books .desk) bytes (books .live) (books .run) log
-  unfolding desk.logAfter desk.loggedBy groupsOfAll
+  pub log-by-take : written (entriesOf (toldOf books (frame header bytes))) log ≡ desk.frameTaken handed .log
+  unfolding desk.frameTaken desk.loggedBy groupsOfAll
   log-by-take = go (verdictOn books bytes) ∙ ap (desk.logBy (books .desk) (books .live) (books .run) log) (sym now-is)
     where
       go : (v : desk.Verdict) → written (entriesOf (toldBy books header bytes v)) log ≡ desk.logBy (books .desk) (books .live) (books .run) log v

@@ -1,26 +1,21 @@
 // Stream and desk together: a portion of bytes in, one event out, and the run log's entries with it (document 01, "The stream", "Book and run").
 ghost use mathlib.Core.Path.{_≡_};
-ghost use mathlib.Core.Bool.{true};
-ghost use Prim.Native.Nat.{_≤_};
-ghost use lib.ListN.{length, take};
-ghost use Rattle.frame.specs.Check.{checked};
+ghost use mathlib.Core.Bool.{true, false};
+ghost use lib.ListN.{take};
+ghost use Rattle.frame.specs.Check.{checked, payloadIn};
 ghost use Rattle.frame.specs.declared.Checked.the-variants.{Accepted};
 ghost use Rattle.desk.specs.Desk.{deskSound};
-ghost use Rattle.prepare.specs.Prepare.{noRoom, numberOfSaid, booksIn, callAnswer, callBytes, callLive, callRun, callLog, finishAnswer, finishBytes, finishLive, finishRun, finishLog};
-ghost use Rattle.prepare.specs.Moves.{taken, untaken, Moves, Lies};
+ghost use Rattle.desk.specs.Take as takes;
+ghost use Rattle.stream.specs.Tray.{called, finished};
+ghost use Rattle.prepare.specs.Prepare.{booksIn, hands, noRoom, results, resultOf, byCall, byFinish, numberOfSaid};
+ghost use Rattle.prepare.specs.Moves.{testedOf, taken, untaken, moved, Lies};
 ghost use Rattle.prepare.specs.declared.Said.the-variants as said;
+ghost use Rattle.prepare.specs.declared.Tested.the-variants as test;
 ghost use Rattle.stream.specs.declared.Said.the-variants as hears;
 use answer::Refusal;
 use desk::Desk;
 use frame::Frame;
 use stream::Tray;
-
-// The tray's room, a book's, and the log's.
-const TRAY: usize = 1103;
-
-const BOOK: usize = 192;
-
-const LOG: usize = 4096;
 
 // What a call says: a frame that the desk took, or refused with its reason, which lies first in the tray; a count of noise; all input is used; all is
 // told; or a refusal of the call.
@@ -60,16 +55,34 @@ pub fn number(said: Said) -> u8
 fn lacks_room(bytes: &[u8], live: &[u8], run: &[u8], log: &[u8]) -> bool
     ensures { λ r. ⌜ r ≡ noRoom (now (bytes .entry)) (now (live .entry)) (now (run .entry)) (now (log .entry)) ⌝ }
 {
-    if bytes.len() < TRAY {
+    if bytes.len() < sizes::LONGEST_FRAME {
         return true;
     }
-    if live.len() < BOOK {
+    if live.len() < sizes::BOOK_BYTES {
         return true;
     }
-    if run.len() < BOOK {
+    if run.len() < sizes::BOOK_BYTES {
         return true;
     }
-    log.len() < LOG
+    log.len() < sizes::LOG_ROOM
+}
+
+// Whether a call may be: ROOM of every lent buffer, then STATE of the desk.
+enum Tested {
+    Passed,
+    Failed(Refusal),
+}
+
+fn test_lent(bytes: &[u8], desk: Desk, live: &[u8], run: &[u8], log: &[u8]) -> Tested
+    ensures { λ r. ⌜ r ≡ testedOf (now (bytes .entry)) (booksIn desk (now (live .entry)) (now (run .entry))) (now (log .entry)) ⌝ }
+{
+    if lacks_room(bytes, live, run, log) {
+        return Tested::Failed(Refusal::Room);
+    }
+    if !desk::is_sound(desk, live, run) {
+        return Tested::Failed(Refusal::State);
+    }
+    Tested::Passed
 }
 
 // A refusal of the call: the old states, nothing used and nothing written.
@@ -127,7 +140,17 @@ fn answered(heard: stream::Answer, header: Frame, given: desk::Taken) -> Answer
     }
 }
 
-// A frame event goes to the desk. The frame lies first in the tray and was checked there, so it is not checked again.
+// The payload of the frame that lies first in the tray and was checked there; what was known of the frame is handed on.
+fn payload_first<'a>(bytes: &'a [u8], header: Frame) -> &'a [u8]
+    requires { ⌜ checked (take (header .length) (now bytes)) ≡ Accepted header ⌝ }
+    ensures { λ r. ⌜ now r ≡ payloadIn header (take (header .length) (now (bytes .entry))) ⌝ }
+    ensures { λ _. ⌜ checked (take (header .length) (now (bytes .entry))) ≡ Accepted header ⌝ }
+{
+    let length = header.length;
+    frame::payload_in(&bytes[..length], header)
+}
+
+// A frame event goes to the desk. It was checked in the tray, so it is not checked again.
 fn give(
     heard: stream::Answer,
     header: Frame,
@@ -137,12 +160,11 @@ fn give(
     run: &mut [u8],
     log: &mut [u8],
 ) -> Answer
-    requires { ⌜ (deskSound desk (now live) (now run) ≡ true) × (192 ≤ length (now live)) × (192 ≤ length (now run)) × (4096 ≤ length (now log)) ⌝ }
+    requires { ⌜ (deskSound desk (now live) (now run) ≡ true) × (takes.noRoom (now live) (now run) (now log) ≡ false) ⌝ }
     requires { ⌜ checked (take (header .length) (now bytes)) ≡ Accepted header ⌝ }
-    ensures { λ r. ⌜ Moves (booksIn desk (now (live .entry)) (now (run .entry))) heard (hears.Frame header) (now (bytes .entry)) (now (log .entry)) r (now (live .exit)) (now (run .exit)) (now (log .exit)) ⌝ }
+    ensures { λ r. ⌜ results r (now (bytes .entry)) (now (live .exit)) (now (run .exit)) (now (log .exit)) ≡ moved (booksIn desk (now (live .entry)) (now (run .entry))) heard (hears.Frame header) (now (bytes .entry)) (now (log .entry)) ⌝ }
 {
-    let length = header.length;
-    let payload = frame::payload_in(&bytes[..length], header);
+    let payload = payload_first(bytes, header);
     let given = desk::take_header(desk, header, payload, live, run, log);
     answered(heard, header, given)
 }
@@ -156,9 +178,9 @@ fn step(
     run: &mut [u8],
     log: &mut [u8],
 ) -> Answer
-    requires { ⌜ (deskSound desk (now live) (now run) ≡ true) × (192 ≤ length (now live)) × (192 ≤ length (now run)) × (4096 ≤ length (now log)) ⌝ }
+    requires { ⌜ (deskSound desk (now live) (now run) ≡ true) × (takes.noRoom (now live) (now run) (now log) ≡ false) ⌝ }
     requires { ⌜ Lies (heard .said) (now bytes) ⌝ }
-    ensures { λ r. ⌜ Moves (booksIn desk (now (live .entry)) (now (run .entry))) heard (heard .said) (now (bytes .entry)) (now (log .entry)) r (now (live .exit)) (now (run .exit)) (now (log .exit)) ⌝ }
+    ensures { λ r. ⌜ results r (now (bytes .entry)) (now (live .exit)) (now (run .exit)) (now (log .exit)) ≡ moved (booksIn desk (now (live .entry)) (now (run .entry))) heard (heard .said) (now (bytes .entry)) (now (log .entry)) ⌝ }
 {
     let said = heard.said;
     match said {
@@ -168,6 +190,39 @@ fn step(
         stream::Said::Done => beside(heard, Said::Done, desk),
         stream::Said::Refused(why) => beside(heard, Said::Refused(why), desk),
     }
+}
+
+// The stream's step on a portion, and what it says moves the desk on.
+fn hear_call(
+    bytes: &mut [u8],
+    tray: Tray,
+    desk: Desk,
+    live: &mut [u8],
+    run: &mut [u8],
+    log: &mut [u8],
+    input: &[u8],
+) -> Answer
+    requires { ⌜ testedOf (now bytes) (booksIn desk (now live) (now run)) (now log) ≡ test.Passed ⌝ }
+    ensures { λ r. ⌜ results r (now (bytes .exit)) (now (live .exit)) (now (run .exit)) (now (log .exit)) ≡ resultOf (hands (now (bytes .entry)) tray desk (now (live .entry)) (now (run .entry)) (now (log .entry))) (called (now (bytes .entry)) tray (now (input .entry))) ⌝ }
+{
+    let heard = stream::call(bytes, tray, input);
+    step(heard, bytes, desk, live, run, log)
+}
+
+// The same at the stream's end.
+fn hear_finish(
+    bytes: &mut [u8],
+    tray: Tray,
+    desk: Desk,
+    live: &mut [u8],
+    run: &mut [u8],
+    log: &mut [u8],
+) -> Answer
+    requires { ⌜ testedOf (now bytes) (booksIn desk (now live) (now run)) (now log) ≡ test.Passed ⌝ }
+    ensures { λ r. ⌜ results r (now (bytes .exit)) (now (live .exit)) (now (run .exit)) (now (log .exit)) ≡ resultOf (hands (now (bytes .entry)) tray desk (now (live .entry)) (now (run .entry)) (now (log .entry))) (finished (now (bytes .entry)) tray) ⌝ }
+{
+    let heard = stream::finish(bytes, tray);
+    step(heard, bytes, desk, live, run, log)
 }
 
 // Takes a portion and moves stream and desk one event on. Where the tray is not sound the stream refuses with the same number as the desk would, so
@@ -181,23 +236,15 @@ pub fn call(
     log: &mut [u8],
     input: &[u8],
 ) -> Answer
-    ensures { λ r. ⌜ r ≡ callAnswer (now (bytes .entry)) tray desk (now (live .entry)) (now (run .entry)) (now (log .entry)) (now (input .entry)) ⌝ }
-    ensures { λ _. ⌜ now (bytes .exit) ≡ callBytes (now (bytes .entry)) tray desk (now (live .entry)) (now (run .entry)) (now (log .entry)) (now (input .entry)) ⌝ }
-    ensures { λ _. ⌜ now (live .exit) ≡ callLive (now (bytes .entry)) tray desk (now (live .entry)) (now (run .entry)) (now (log .entry)) (now (input .entry)) ⌝ }
-    ensures { λ _. ⌜ now (run .exit) ≡ callRun (now (bytes .entry)) tray desk (now (live .entry)) (now (run .entry)) (now (log .entry)) (now (input .entry)) ⌝ }
-    ensures { λ _. ⌜ now (log .exit) ≡ callLog (now (bytes .entry)) tray desk (now (live .entry)) (now (run .entry)) (now (log .entry)) (now (input .entry)) ⌝ }
+    ensures { λ r. ⌜ results r (now (bytes .exit)) (now (live .exit)) (now (run .exit)) (now (log .exit)) ≡ byCall (hands (now (bytes .entry)) tray desk (now (live .entry)) (now (run .entry)) (now (log .entry))) (now (input .entry)) ⌝ }
 {
-    if lacks_room(bytes, live, run, log) {
-        return refused(tray, desk, Refusal::Room);
+    match test_lent(bytes, desk, live, run, log) {
+        Tested::Failed(why) => refused(tray, desk, why),
+        Tested::Passed => hear_call(bytes, tray, desk, live, run, log, input),
     }
-    if !desk::is_sound(desk, live, run) {
-        return refused(tray, desk, Refusal::State);
-    }
-    let heard = stream::call(bytes, tray, input);
-    step(heard, bytes, desk, live, run, log)
 }
 
-// The same at the stream's end: called until it says done.
+// Finishes a stream, an event a call: called until it says done.
 pub fn finish(
     bytes: &mut [u8],
     tray: Tray,
@@ -206,18 +253,10 @@ pub fn finish(
     run: &mut [u8],
     log: &mut [u8],
 ) -> Answer
-    ensures { λ r. ⌜ r ≡ finishAnswer (now (bytes .entry)) tray desk (now (live .entry)) (now (run .entry)) (now (log .entry)) ⌝ }
-    ensures { λ _. ⌜ now (bytes .exit) ≡ finishBytes (now (bytes .entry)) tray desk (now (live .entry)) (now (run .entry)) (now (log .entry)) ⌝ }
-    ensures { λ _. ⌜ now (live .exit) ≡ finishLive (now (bytes .entry)) tray desk (now (live .entry)) (now (run .entry)) (now (log .entry)) ⌝ }
-    ensures { λ _. ⌜ now (run .exit) ≡ finishRun (now (bytes .entry)) tray desk (now (live .entry)) (now (run .entry)) (now (log .entry)) ⌝ }
-    ensures { λ _. ⌜ now (log .exit) ≡ finishLog (now (bytes .entry)) tray desk (now (live .entry)) (now (run .entry)) (now (log .entry)) ⌝ }
+    ensures { λ r. ⌜ results r (now (bytes .exit)) (now (live .exit)) (now (run .exit)) (now (log .exit)) ≡ byFinish (hands (now (bytes .entry)) tray desk (now (live .entry)) (now (run .entry)) (now (log .entry))) ⌝ }
 {
-    if lacks_room(bytes, live, run, log) {
-        return refused(tray, desk, Refusal::Room);
+    match test_lent(bytes, desk, live, run, log) {
+        Tested::Failed(why) => refused(tray, desk, why),
+        Tested::Passed => hear_finish(bytes, tray, desk, live, run, log),
     }
-    if !desk::is_sound(desk, live, run) {
-        return refused(tray, desk, Refusal::State);
-    }
-    let heard = stream::finish(bytes, tray);
-    step(heard, bytes, desk, live, run, log)
 }

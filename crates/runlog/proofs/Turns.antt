@@ -1,11 +1,12 @@
 -- A call and a finish on a tray and a desk that are prepared, in plain values: they stay prepared, and each event told is one of those that are left to tell.
 use mathlib.Core.Path.{_≡_, refl, sym, ap, _∙_, subst}
 use mathlib.Core.List.{List, [], _∷_, _++_}
-use mathlib.Core.Bool.{Bool, true, false}
+use mathlib.Core.Bool.{Bool, true, false, not}
+use borrow.Author.Tests.{not-false}
 use Prim.Native.Nat.{ℕ, _+_, _-_, _≤_, _<_, _^_}
 use native.Mathlib.Omega.{arith}
 use lib.ListN.{length, take, drop, replicate, length-drop, length-append, length-replicate}
-use lib.Seq.{take-all, drop-drop}
+use lib.Seq.{take-all, drop-drop, length-take-le}
 use Rattle.stream.specs.declared.Tray.{Tray}
 use Rattle.stream.specs.Scan.{Event}
 use Rattle.stream.specs.Tray as stream
@@ -18,152 +19,236 @@ use Rattle.desk.specs.declared.Desk.{Desk}
 use Rattle.desk.specs.declared.NewDesk.{NewDesk}
 use Rattle.desk.specs.declared.NewDesk.the-variants.{Made}
 use Rattle.desk.specs.Desk.{newDesk}
-use Rattle.desk.specs.Take.{logRoom}
+use Rattle.sizes.specs.Sizes.{longestFrame, bookBytes, logRoom}
 use Rattle.desk.specs.History.{Held}
 use Rattle.prepare.specs.declared.Answer.{Answer}
 use Rattle.prepare.specs.Uncut.{toldOf, entriesOf}
-use Rattle.prepare.specs.Prepare.{booksIn, answerOf, booksOf, logOf, callOutcome, callAnswer, callBytes, callLive, callRun, callLog, finishOutcome, finishAnswer, finishBytes, finishLive, finishRun, finishLog}
+use Rattle.prepare.specs.Prepare.{Handed, booksIn, hands, answerOf, booksOf, logOf, results, resultOf, callOutcome, byCall, finishOutcome, byFinish}
 use Rattle.prepare.specs.Driver.{Sound}
 use Rattle.prepare.specs.Steps.{guarded-is, back, itself, Hears}
 use Rattle.prepare.specs.Stays.{sound-after}
 use Rattle.prepare.specs.Theorems as theorems
 use Rattle.runlog.specs.declared.hearing.Heard.{Heard}
-use Rattle.runlog.specs.Events.{isEvent, Prepared, IsNew}
+use Rattle.runlog.specs.Events.{isEvent, heardOf, countedFrom, Prepared, Hearing, Within, Step, IsNew, toTell, lastToTell}
 
 -- ---- of any outcome: the desk is that of the books, which stay sound; the entries are in the log; and an event is one that the stream tells
 
-module _ (tray : Tray) (books : Held) where
-  desk-same : (o : stream.Outcome) → answerOf tray books o .desk ≡ booksOf books o .desk
+module _ (handed : Handed) where
+  desk-same : (o : stream.Outcome) → answerOf handed o .desk ≡ booksOf handed o .desk
   desk-same (stream.refused r) = refl
   desk-same (stream.told e c n) = refl
   desk-same (stream.hungry c n) = refl
   desk-same (stream.done c) = refl
 
-  stay : (o : stream.Outcome) → Sound books → Sound (booksOf books o)
+  stay : (o : stream.Outcome) → Sound (handed .books) → Sound (booksOf handed o)
   stay (stream.refused r) s = s
   stay (stream.told e c n) s = sound-after s e
   stay (stream.hungry c n) s = s
   stay (stream.done c) s = s
 
-  entries-in : (log : List ℕ) (o : stream.Outcome) → answerOf tray books o .log ≤ length (logOf books log o)
-  entries-in log (stream.refused r) = omega arith
-  entries-in log (stream.told e c n) =
-      let es = entriesOf (toldOf books e) in
-      rw (length-append es (drop (length es) log)) (omega arith)
-  entries-in log (stream.hungry c n) = omega arith
-  entries-in log (stream.done c) = omega arith
+  entries-in : (o : stream.Outcome) → answerOf handed o .log ≤ length (logOf handed o)
+  entries-in (stream.refused r) = omega arith
+  entries-in (stream.told e c n) =
+      let es = entriesOf (toldOf (handed .books) e) in
+      rw (length-append es (drop (length es) (handed .log))) (omega arith)
+  entries-in (stream.hungry c n) = omega arith
+  entries-in (stream.done c) = omega arith
 
-  the-event : (bytes : List ℕ) (o : stream.Outcome) → Good o → isEvent (answerOf tray books o .said) ≡ true → (e : Event) × Hears bytes tray o e
-  the-event bytes (stream.refused r) g q = absurd g
-  the-event bytes (stream.told e c n) g q = (e, itself bytes tray e c n g)
-  the-event bytes (stream.hungry c n) g q = let z : _≡_ {A = ℕ} 0 1 = cc in absurd (omega arith)
-  the-event bytes (stream.done c) g q = let z : _≡_ {A = ℕ} 0 1 = cc in absurd (omega arith)
+  the-event : (o : stream.Outcome) → Good o → isEvent (answerOf handed o .said) ≡ true → (e : Event) × Hears (handed .bytes) (handed .tray) o e
+  the-event (stream.refused r) g q = absurd g
+  the-event (stream.told e c n) g q = (e, itself (handed .bytes) (handed .tray) e c n g)
+  the-event (stream.hungry c n) g q = let z : _≡_ {A = ℕ} 0 1 = cc in absurd (omega arith)
+  the-event (stream.done c) g q = let z : _≡_ {A = ℕ} 0 1 = cc in absurd (omega arith)
 
 -- ---- a step of stream and desk, `o`, that is the stream's, `o′`, as a caller sees it
 
 module _ (bytes live run log : List ℕ) (tray : Tray) (desk : Desk) (p : Prepared bytes tray desk live run log) (o o′ : stream.Outcome) (q : o ≡ o′)
-    (bytes′ live′ run′ log′ : List ℕ) (a : Answer) (ea : a ≡ answerOf tray (booksIn desk live run) o) (eb : bytes′ ≡ stream.bytesOf bytes o)
-    (el : live′ ≡ booksOf (booksIn desk live run) o .live) (er : run′ ≡ booksOf (booksIn desk live run) o .run)
-    (eg : log′ ≡ logOf (booksIn desk live run) log o) where
+    (bytes′ live′ run′ log′ : List ℕ) (a : Answer) (e : results a bytes′ live′ run′ log′ ≡ resultOf (hands bytes tray desk live run log) o) where
+  abbrev handed : Handed
+  handed = hands bytes tray desk live run log
+
+  the-answer : a ≡ answerOf handed o
+  the-answer = ap (λ r. r .answer) e
+
   -- tray, bytes and the count used are the stream's
-  along : (R : List ℕ → Tray → ℕ → Type 0) → R (stream.bytesOf bytes o′) (stream.answerOf tray o′ .tray) (stream.answerOf tray o′ .used) → R bytes′ (a .tray) (a .used)
-  along R x = rw (ea, eb) (back bytes tray (booksIn desk live run) o o′ q (λ b t u d. R b t u) x)
+  along : (R : List ℕ → Tray → ℕ → Type 0) → R (stream.bytesOf bytes o′) (stream.answerOf tray o′ .tray) (stream.answerOf tray o′ .used)
+      → R bytes′ (a .tray) (a .used)
+  along R x =
+      let eb : bytes′ ≡ stream.bytesOf bytes o = ap (λ r. r .bytes) e in
+      rw (the-answer, eb) (back handed o o′ q (λ b t u d. R b t u) x)
 
   books-stay : Sound (booksIn (a .desk) live′ run′)
   books-stay =
-      let ed = ap (λ x. x .desk) ea ∙ desk-same tray (booksIn desk live run) o in
-      let e : booksIn (a .desk) live′ run′ ≡ booksOf (booksIn desk live run) o = λ i. booksIn (ed i) (el i) (er i) in
-      subst (λ d. Sound d) (sym e) (stay tray (booksIn desk live run) o (p .books-sound))
+      let ed : a .desk ≡ booksOf handed o .desk = ap (λ x. x .desk) the-answer ∙ desk-same handed o in
+      let el : live′ ≡ booksOf handed o .live = ap (λ r. r .live) e in
+      let er : run′ ≡ booksOf handed o .run = ap (λ r. r .run) e in
+      let x : booksIn (a .desk) live′ run′ ≡ booksOf handed o = λ i. booksIn (ed i) (el i) (er i) in
+      subst (λ d. Sound d) (sym x) (stay handed o (p .books-sound))
 
   stays : streaming.Ready (stream.bytesOf bytes o′) (stream.answerOf tray o′ .tray) → length log′ ≡ length log → Prepared bytes′ (a .tray) (a .desk) live′ run′ log′
   stays r l = record { tray-ready = along (λ b t u. streaming.Ready b t) r; books-sound = books-stay; log-room = rw l (p .log-room) }
 
   entries-fit : a .log ≤ length log′
-  entries-fit = rw (ea, eg) (entries-in tray (booksIn desk live run) log o)
+  entries-fit =
+      let eg : log′ ≡ logOf handed o = ap (λ r. r .log) e in
+      rw (the-answer, eg) (entries-in handed o)
 
   event : Good o′ → isEvent (a .said) ≡ true → (e : Event) × Hears bytes tray o′ e
-  event g n = the-event tray (booksIn desk live run) bytes o′ g (rw (ea, q) at n)
-
--- what a call or a finish leaves, with so many events to tell before and after it
-pub record Step (before : ℕ) (bytes live run log : List ℕ) (a : Answer) (after : ℕ) : Type 0 where
-  pub prepared : Prepared bytes (a .tray) (a .desk) live run log
-  pub log-in : a .log ≤ length log
-  pub fewer : isEvent (a .said) ≡ true → after < before
+  event g n = the-event handed o′ g (rw (the-answer, q) at n)
 
 -- ---- a call on the rest of a portion
 
-module _ (bytes live run log portion : List ℕ) (tray : Tray) (desk : Desk) (used : ℕ) (p : Prepared bytes tray desk live run log) (inside : used ≤ length portion)
-    (bytes′ live′ run′ log′ : List ℕ) (a : Answer) where
+module _ (bytes live run log portion : List ℕ) (tray : Tray) (desk : Desk) (used : ℕ)
+    (h : Hearing bytes tray desk live run log used (length portion)) (bytes′ live′ run′ log′ : List ℕ) (a : Answer) where
   abbrev input : List ℕ
   input = take (length portion - used) (drop used portion)
 
   rest : input ≡ drop used portion
   rest = take-all (length portion - used) (drop used portion) (rw length-drop (omega arith))
 
-  call-is : callOutcome bytes tray (booksIn desk live run) log input ≡ stream.called bytes tray input
+  call-is : callOutcome (hands bytes tray desk live run log) input ≡ stream.called bytes tray input
   unfolding callOutcome
-  call-is = guarded-is bytes tray (booksIn desk live run) log (stream.called bytes tray input) (p .tray-ready) (p .books-sound) (p .log-room)
+  call-is =
+      guarded-is (hands bytes tray desk live run log) (stream.called bytes tray input)
+      (h .prepared .tray-ready) (h .prepared .books-sound) (h .prepared .log-room)
 
-  module _ (ea : a ≡ callAnswer bytes tray desk live run log input) (eb : bytes′ ≡ callBytes bytes tray desk live run log input)
-      (el : live′ ≡ callLive bytes tray desk live run log input) (er : run′ ≡ callRun bytes tray desk live run log input)
-      (eg : log′ ≡ callLog bytes tray desk live run log input) where
+  module _ (e : results a bytes′ live′ run′ log′ ≡ byCall (hands bytes tray desk live run log) input) where
     abbrev of-call : (R : List ℕ → Tray → ℕ → Type 0)
-        → R (stream.callBytes bytes tray input) (stream.callAnswer bytes tray input .tray) (stream.callAnswer bytes tray input .used) → R bytes′ (a .tray) (a .used)
-    of-call = along bytes live run log tray desk p _ _ call-is bytes′ live′ run′ log′ a ea eb el er eg
+        → R (stream.callBytes bytes tray input) (stream.callAnswer bytes tray input .tray) (stream.callAnswer bytes tray input .used)
+        → R bytes′ (a .tray) (a .used)
+    of-call = along bytes live run log tray desk (h .prepared) _ _ call-is bytes′ live′ run′ log′ a e
 
-    call-fewer : isEvent (a .said) ≡ true → length (left bytes′ (a .tray) (drop (used + a .used) portion)) < length (left bytes tray (drop used portion))
+    call-fewer : isEvent (a .said) ≡ true → toTell bytes′ (a .tray) (used + a .used) portion < toTell bytes tray used portion
     call-fewer n =
-        let w = event bytes live run log tray desk p _ _ call-is bytes′ live′ run′ log′ a ea eb el er eg (call-kept bytes tray input (p .tray-ready)) n in
-        let l = ap length (call-event (p .tray-ready) input (w .0) (w .1)) in
+        let w = event bytes live run log tray desk (h .prepared) _ _ call-is bytes′ live′ run′ log′ a e (call-kept bytes tray input (h .prepared .tray-ready)) n in
+        let l = ap length (call-event (h .prepared .tray-ready) input (w .0) (w .1)) in
         let x : length (left bytes′ (a .tray) (drop (a .used) input)) < length (left bytes tray input)
         = of-call (λ b t u. length (left b t (drop u input)) < length (left bytes tray input)) (omega arith) in
         rw (← drop-drop (a .used) used portion) (rw rest at x)
 
-    pub call-inside : used + a .used ≤ length portion
-    call-inside =
+    pub call-within : Within (used + a .used) (length portion)
+    call-within =
         let u : a .used ≤ length input = of-call (λ b t u. u ≤ length input) (call-used bytes tray input) in
-        omega (arith, ap length rest, length-drop used portion)
+        let i = h .within .inside in
+        record { inside = omega (arith, ap length rest, length-drop used portion); fits = h .within .fits }
+
+    pub call-fits : a .log ≤ length log′
+    call-fits = entries-fit bytes live run log tray desk (h .prepared) _ _ call-is bytes′ live′ run′ log′ a e
 
     pub call-step : length log′ ≡ length log
-        → Step (length (left bytes tray (drop used portion))) bytes′ live′ run′ log′ a (length (left bytes′ (a .tray) (drop (used + a .used) portion)))
+        → Step (toTell bytes tray used portion) bytes′ (a .tray) (a .desk) live′ run′ log′ (isEvent (a .said))
+        (toTell bytes′ (a .tray) (used + a .used) portion)
     call-step l = record {
-      prepared = stays bytes live run log tray desk p _ _ call-is bytes′ live′ run′ log′ a ea eb el er eg (call-sound (p .tray-ready) input) l;
-      log-in = entries-fit bytes live run log tray desk p _ _ call-is bytes′ live′ run′ log′ a ea eb el er eg;
+      prepared =
+          stays bytes live run log tray desk (h .prepared) _ _ call-is bytes′ live′ run′ log′ a e
+          (call-sound (h .prepared .tray-ready) input) l;
       fewer = call-fewer;
     }
 
+-- with the bytes used of the whole portion
+module _ (used : ℕ) (a r : Answer) (e : r ≡ countedFrom used a) where
+  pub counted-step : (before : ℕ) (bytes live run log portion : List ℕ)
+      → Step before bytes (a .tray) (a .desk) live run log (isEvent (a .said)) (toTell bytes (a .tray) (used + a .used) portion)
+      → Step before bytes (r .tray) (r .desk) live run log (isEvent (r .said)) (toTell bytes (r .tray) (r .used) portion)
+  counted-step before bytes live run log portion s = rw e s
+
+  pub counted-log : (room : ℕ) → a .log ≤ room → r .log ≤ room
+  counted-log room h = rw e h
+
+  pub counted-used : (room : ℕ) → Within (used + a .used) room → Within (r .used) room
+  counted-used room w = rw e w
+
 -- ---- a finish
 
-module _ (bytes live run log : List ℕ) (tray : Tray) (desk : Desk) (p : Prepared bytes tray desk live run log) (bytes′ live′ run′ log′ : List ℕ) (a : Answer) where
-  finish-is : finishOutcome bytes tray (booksIn desk live run) log ≡ stream.finished bytes tray
+module _ (bytes live run log : List ℕ) (tray : Tray) (desk : Desk) (p : Prepared bytes tray desk live run log)
+    (bytes′ live′ run′ log′ : List ℕ) (a : Answer) where
+  finish-is : finishOutcome (hands bytes tray desk live run log) ≡ stream.finished bytes tray
   unfolding finishOutcome
-  finish-is = guarded-is bytes tray (booksIn desk live run) log (stream.finished bytes tray) (p .tray-ready) (p .books-sound) (p .log-room)
+  finish-is = guarded-is (hands bytes tray desk live run log) (stream.finished bytes tray) (p .tray-ready) (p .books-sound) (p .log-room)
 
-  module _ (ea : a ≡ finishAnswer bytes tray desk live run log) (eb : bytes′ ≡ finishBytes bytes tray desk live run log)
-      (el : live′ ≡ finishLive bytes tray desk live run log) (er : run′ ≡ finishRun bytes tray desk live run log)
-      (eg : log′ ≡ finishLog bytes tray desk live run log) where
-    finish-fewer : isEvent (a .said) ≡ true → length (left bytes′ (a .tray) []) < length (left bytes tray [])
+  module _ (e : results a bytes′ live′ run′ log′ ≡ byFinish (hands bytes tray desk live run log)) where
+    finish-fewer : isEvent (a .said) ≡ true → lastToTell bytes′ (a .tray) < lastToTell bytes tray
     finish-fewer n =
-        let w = event bytes live run log tray desk p _ _ finish-is bytes′ live′ run′ log′ a ea eb el er eg (end-kept bytes tray (p .tray-ready)) n in
+        let w = event bytes live run log tray desk p _ _ finish-is bytes′ live′ run′ log′ a e (end-kept bytes tray (p .tray-ready)) n in
         let l = ap length (finish-event (p .tray-ready) (w .0) (w .1)) in
-        along bytes live run log tray desk p _ _ finish-is bytes′ live′ run′ log′ a ea eb el er eg
+        along bytes live run log tray desk p _ _ finish-is bytes′ live′ run′ log′ a e
         (λ b t u. length (left b t []) < length (left bytes tray [])) (omega arith)
 
-    pub finish-step : length log′ ≡ length log → Step (length (left bytes tray [])) bytes′ live′ run′ log′ a (length (left bytes′ (a .tray) []))
+    pub finish-fits : a .log ≤ length log′
+    finish-fits = entries-fit bytes live run log tray desk p _ _ finish-is bytes′ live′ run′ log′ a e
+
+    pub finish-step : length log′ ≡ length log
+        → Step (lastToTell bytes tray) bytes′ (a .tray) (a .desk) live′ run′ log′ (isEvent (a .said)) (lastToTell bytes′ (a .tray))
     finish-step l = record {
-      prepared = stays bytes live run log tray desk p _ _ finish-is bytes′ live′ run′ log′ a ea eb el er eg (finish-sound (p .tray-ready)) l;
-      log-in = entries-fit bytes live run log tray desk p _ _ finish-is bytes′ live′ run′ log′ a ea eb el er eg;
+      prepared = stays bytes live run log tray desk p _ _ finish-is bytes′ live′ run′ log′ a e (finish-sound (p .tray-ready)) l;
       fewer = finish-fewer;
     }
 
--- ---- the buffers keep their lengths from turn to turn
+-- ---- an answer that is told
 
-pub record Kept (bytes₀ live₀ run₀ log₀ out₀ bytes live run log out : List ℕ) : Type 0 where
+pub front : (n : ℕ) (s : List ℕ) → n ≤ length s → n ≡ length (take n s)
+front n s h = sym (length-take-le n s h)
+
+pub told-is : (a : Answer) (at : ℕ) (more : Bool) → more ≡ isEvent (a .said)
+    → record { tray = a .tray; desk = a .desk; used = a .used; at = at; more = more } ≡ heardOf a at
+told-is a at more e = rw e
+
+module _ (before : ℕ) (bytes live run log : List ℕ) (a : Answer) (at : ℕ) (heard : Heard) (e : heard ≡ heardOf a at) where
+  pub call-told : (portion : List ℕ)
+      → Step before bytes (a .tray) (a .desk) live run log (isEvent (a .said)) (toTell bytes (a .tray) (a .used) portion)
+      → Step before bytes (heard .tray) (heard .desk) live run log (heard .more) (toTell bytes (heard .tray) (heard .used) portion)
+  call-told portion s = rw e s
+
+  pub finish-told : Step before bytes (a .tray) (a .desk) live run log (isEvent (a .said)) (lastToTell bytes (a .tray))
+      → Step before bytes (heard .tray) (heard .desk) live run log (heard .more) (lastToTell bytes (heard .tray))
+  finish-told s = rw e s
+
+pub used-told : (room : ℕ) (a : Answer) (at : ℕ) (heard : Heard) → heard ≡ heardOf a at → Within (a .used) room → Within (heard .used) room
+used-told room a at heard e u = rw e u
+
+-- ---- from turn to turn something holds, and the buffers keep their lengths
+
+pub record Turning (Holds : Type 0) (bytes₀ live₀ run₀ log₀ out₀ bytes live run log out : List ℕ) : Type 0 where
+  pub holds : Holds
   pub same-bytes : length bytes ≡ length bytes₀
   pub same-live : length live ≡ length live₀
   pub same-run : length run ≡ length run₀
   pub same-log : length log ≡ length log₀
   pub same-out : length out ≡ length out₀
+
+pub first-turn : {Holds : Type 0} (bytes live run log out : List ℕ) → Holds → Turning Holds bytes live run log out bytes live run log out
+first-turn bytes live run log out h = record { holds = h; same-bytes = refl; same-live = refl; same-run = refl; same-log = refl; same-out = refl }
+
+-- after a call, a finish or a read, which leave the buffers as long as they were
+module _ (bytes₀ live₀ run₀ log₀ out₀ bytes live run log out bytes′ live′ run′ log′ out′ : List ℕ) (Held : Type 0)
+    (t : Turning Held bytes₀ live₀ run₀ log₀ out₀ bytes live run log out) (b : length bytes′ ≡ length bytes) (l : length live′ ≡ length live)
+    (r : length run′ ≡ length run) (g : length log′ ≡ length log) (o : length out′ ≡ length out) where
+  next-turn : {Holds : Type 0} → Holds → Turning Holds bytes₀ live₀ run₀ log₀ out₀ bytes′ live′ run′ log′ out′
+  next-turn h = record {
+    holds = h;
+    same-bytes = b ∙ t .same-bytes;
+    same-live = l ∙ t .same-live;
+    same-run = r ∙ t .same-run;
+    same-log = g ∙ t .same-log;
+    same-out = o ∙ t .same-out;
+  }
+
+  pub after-read : (tray : Tray) (desk : Desk) → Prepared bytes′ tray desk live′ run′ log′
+      → Turning (Prepared bytes′ tray desk live′ run′ log′) bytes₀ live₀ run₀ log₀ out₀ bytes′ live′ run′ log′ out′
+  after-read tray desk p = next-turn p
+
+  module _ (tray : Tray) (desk : Desk) (before : ℕ) (more : Bool) (after : ℕ) (s : Step before bytes′ tray desk live′ run′ log′ more after) where
+    pub after-call : (used room : ℕ) → Within used room
+        → Turning (Hearing bytes′ tray desk live′ run′ log′ used room) bytes₀ live₀ run₀ log₀ out₀ bytes′ live′ run′ log′ out′
+    after-call used room w = next-turn (record { prepared = s .prepared; within = w })
+
+    pub after-finish : Turning (Prepared bytes′ tray desk live′ run′ log′) bytes₀ live₀ run₀ log₀ out₀ bytes′ live′ run′ log′ out′
+    after-finish = next-turn (s .prepared)
+
+-- there is more, so an event was told
+pub fewer-left : (before : ℕ) (bytes : List ℕ) (tray : Tray) (desk : Desk) (live run log : List ℕ) (more : Bool) (after : ℕ)
+    → Step before bytes tray desk live run log more after → not more ≡ false → after < before
+fewer-left before bytes tray desk live run log more after s n = s .fewer (not-false more n)
 
 -- ---- between two portions, and at the start
 
@@ -171,15 +256,13 @@ module _ (heard r : Heard) (at : ℕ) (more : Bool) (e : r ≡ record { tray = h
   pub turned-prepared : {bytes live run log : List ℕ} → Prepared bytes (heard .tray) (heard .desk) live run log → Prepared bytes (r .tray) (r .desk) live run log
   turned-prepared p = rw e p
 
-  pub turned-used : (n : ℕ) → r .used ≤ n
-  turned-used n = rw e (omega arith)
+  pub turned-hearing : {bytes live run log : List ℕ} (room : ℕ) → room < 2 ^ 64
+      → Prepared bytes (heard .tray) (heard .desk) live run log → Hearing bytes (r .tray) (r .desk) live run log (r .used) room
+  turned-hearing room w p = rw e (record { prepared = p; within = record { inside = omega arith; fits = w } })
 
-pub start-prepared : {bytes live run log : List ℕ} {tray : Tray} {desk : Desk} → tray ≡ stream.freshTray
-    → Prepared bytes stream.freshTray desk live run log → Prepared bytes tray desk live run log
-start-prepared e p = rw e p
-
-pub one-less : (n : ℕ) → 0 < n → n - 1 < n
-one-less n h = omega arith
+pub start-prepared : (bytes live run log : List ℕ) (desk : Desk) (r : Heard) → r ≡ record { tray = stream.freshTray; desk = desk; used = 0; at = 0; more = true }
+    → Prepared bytes stream.freshTray desk live run log → Prepared bytes (r .tray) (r .desk) live run log
+start-prepared bytes live run log desk r e p = rw e p
 
 -- ---- a new desk, with the buffers that the program lends
 
@@ -187,12 +270,13 @@ pub is-new : (solution processor constellation : ℕ) (answer : NewDesk) (desk :
 is-new solution processor constellation answer desk e q =
     record { solution = solution; processor = processor; constellation = constellation; is-made = sym e ∙ q }
 
-pub new-prepared : (desk : Desk) (log : List ℕ) → IsNew desk → 4096 ≡ length log
-    → Prepared (replicate 1103 0) stream.freshTray desk (replicate 192 0) (replicate 192 0) log
+pub new-prepared : (desk : Desk) (log : List ℕ) → IsNew desk → logRoom ≡ length log
+    → Prepared (replicate longestFrame 0) stream.freshTray desk (replicate bookBytes 0) (replicate bookBytes 0) log
 new-prepared desk log n h =
-    let room : 192 ≤ length (replicate {A = ℕ} 192 0) = omega (arith, length-replicate {A = ℕ} 192 0) in
+    let room : bookBytes ≤ length (replicate {A = ℕ} bookBytes 0) = omega (arith, length-replicate {A = ℕ} bookBytes 0) in
     record {
-      tray-ready = fresh-sound (zeros-clear 1103 (omega arith));
-      books-sound = theorems.fresh-sound (n .solution) (n .processor) (n .constellation) desk (n .is-made) (replicate 192 0) (replicate 192 0) room room;
+      tray-ready = fresh-sound (zeros-clear longestFrame (omega arith));
+      books-sound =
+          theorems.fresh-sound (n .solution) (n .processor) (n .constellation) desk (n .is-made) (replicate bookBytes 0) (replicate bookBytes 0) room room;
       log-room = omega arith;
     }

@@ -8,7 +8,6 @@ ghost use Rattle.runlog.specs.Events.{Prepared, IsNew};
 use command::Wanted;
 use desk::Desk;
 use desk::NewDesk;
-use hearing::Heard;
 use hearing::hear_end;
 use hearing::hear_some;
 
@@ -25,14 +24,7 @@ fn prepare_all(
 )
     requires { ⌜ Prepared (now bytes) freshTray desk (now live) (now run) (now log) ⌝ }
 {
-    let tray = stream::fresh();
-    let mut heard = Heard {
-        tray: tray,
-        desk: desk,
-        used: 0,
-        at: 0,
-        more: true,
-    };
+    let mut heard = hearing::start(desk);
     let mut turns = u64::MAX;
     while turns > 0 && heard.more {
         heard = hear_some(bytes, live, run, log, heard, input, raw, out);
@@ -46,9 +38,9 @@ fn prepare_all(
 fn run_desk(desk: Desk, raw: bool)
     requires { ⌜ IsNew desk ⌝ }
 {
-    let mut bytes = [0u8; 1103];
-    let mut live = [0u8; 192];
-    let mut run = [0u8; 192];
+    let mut bytes = [0u8; sizes::LONGEST_FRAME];
+    let mut live = [0u8; sizes::BOOK_BYTES];
+    let mut run = [0u8; sizes::BOOK_BYTES];
     let mut log = io::buffer();
     let mut input = io::large_buffer();
     let mut out = io::buffer();

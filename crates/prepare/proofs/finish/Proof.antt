@@ -1,16 +1,23 @@
--- ROOM, STATE, and past them the stream's own step, by which the desk moves on (Moving.antt).
+-- ROOM and STATE, and then what the stream says moves the desk on (Moving.antt).
+use Rattle.prepare.proofs.Moving.{passed-is, finish-failed, finish-passed}
 use borrow.Author.Needs.{needs}
-use Rattle.stream.specs.Tray as stream
-use Rattle.prepare.specs.Prepare.{finishOutcome}
-use Rattle.prepare.proofs.Moving.{left-room, left-state, step-ready, left-by, finish-steps}
 use Rattle.prepare.proofs.finish.Statement.{statement}
 use Rattle.prepare.proofs.finish.Tie as tie
 
-lacks-room-requires : tie.Need-lacks-room-requires
-lacks-room-requires c κs = search needs
+test-lent-requires : tie.Need-test-lent-requires
+test-lent-requires c κs = search needs
+
+enum-known-why : tie.Need-enum-known-why
+enum-known-why c = search needs
 
 refused-requires : tie.Need-refused-requires
 refused-requires c κs = search needs
+
+enum-told : tie.Need-enum-told
+enum-told c = search needs
+
+hear-finish-requires : tie.Need-hear-finish-requires
+hear-finish-requires c κs = search (passed-is, needs)
 
 same-length : tie.Need-same-length
 same-length c = search needs
@@ -25,16 +32,7 @@ same-length-4 : tie.Need-same-length-4
 same-length-4 c = search needs
 
 returns : tie.Need-returns
-unfolding finishOutcome
-returns c =
-    let a = c .before .before .before .before .before .before .before .before .before .before .before .args in
-    left-room (a .bytes .now) (a .tray) (a .desk) (a .live .now) (a .run .now) (a .log .now) (stream.finished (a .bytes .now) (a .tray)) _ (c .before .before .lacks-room .ensures) (c .before .if1 .taken) (c .refused .result) (c .refused .ensures)
-
-is-sound-requires : tie.Need-is-sound-requires
-is-sound-requires c κs = search needs
-
-refused-requires-2 : tie.Need-refused-requires-2
-refused-requires-2 c κs = search needs
+returns c = search (finish-failed, needs)
 
 same-length-5 : tie.Need-same-length-5
 same-length-5 c = search needs
@@ -49,64 +47,24 @@ same-length-8 : tie.Need-same-length-8
 same-length-8 c = search needs
 
 returns-2 : tie.Need-returns-2
-unfolding finishOutcome
-returns-2 c =
-    let a = c .before .before .before .before .before .before .before .before .before .before .before .before .before .before .before .args in
-    left-state (a .bytes .now) (a .tray) (a .desk) (a .live .now) (a .run .now) (a .log .now) (stream.finished (a .bytes .now) (a .tray)) _ (c .before .before .before .before .before .before .lacks-room .ensures) (c .before .before .before .before .before .if1 .left) _ (c .before .before .is-sound .ensures) (c .before .if2 .taken) (c .refused2 .result)
-    (c .refused2 .ensures)
-
-finish-requires : tie.Need-finish-requires
-finish-requires c κs = search needs
-
-step-requires : tie.Need-step-requires
-unfolding finishOutcome
-step-requires c κs =
-    let a = c .before .before .before .before .before .before .before .before .before .before .before .before .before .before .before .before .before .before .before .before .before .before .args in
-    step-ready (a .bytes .now) (a .tray) (a .desk) (a .live .now) (a .run .now) (a .log .now) (stream.finished (a .bytes .now) (a .tray)) _ (c .before .before .before .before .before .before .before .before .before .before .before .before .before .lacks-room .ensures) (c .before .before .before .before .before .before .before .before .before .before .before .before .if1 .left) _ (c .before .before .before .before .before .before .before .before .before .is-sound .ensures) (c .before .before .before .before .before .before .before .before .if2 .left)
-    (λ h. finish-steps (a .bytes .now) (a .tray) h) (c .before .before .before .before .before .before .finish .result) (c .before .before .before .before .before .before .finish .ensures .0) _ (c .before .before .before .before .before .before .finish .ensures .1)
-
-same-length-9 : tie.Need-same-length-9
-same-length-9 c = search needs
-
-same-length-10 : tie.Need-same-length-10
-same-length-10 c = search needs
-
-same-length-11 : tie.Need-same-length-11
-same-length-11 c = search needs
-
-same-length-12 : tie.Need-same-length-12
-same-length-12 c = search needs
-
-returns-3 : tie.Need-returns-3
-unfolding finishOutcome
-returns-3 c =
-    let a = c .before .before .before .before .before .before .before .before .before .before .before .before .before .before .before .before .before .before .before .before .before .before .before .before .before .before .before .before .before .args in
-    left-by (a .bytes .now) (a .tray) (a .desk) (a .live .now) (a .run .now) (a .log .now) (stream.finished (a .bytes .now) (a .tray)) _ (c .before .before .before .before .before .before .before .before .before .before .before .before .before .before .before .before .before .before .before .before .lacks-room .ensures) (c .before .before .before .before .before .before .before .before .before .before .before .before .before .before .before .before .before .before .before .if1 .left) _ (c .before .before .before .before .before .before .before .before .before .before .before .before .before .before .before .before .is-sound .ensures) (c .before .before .before .before .before .before .before .before .before .before .before .before .before .before .before .if2 .left)
-    (λ h. finish-steps (a .bytes .now) (a .tray) h) (c .before .before .before .before .before .before .before .before .before .before .before .before .before .finish .result) (c .before .before .before .before .before .before .before .before .before .before .before .before .before .finish .ensures .0) _ (c .before .before .before .before .before .before .before .before .before .before .before .before .before .finish .ensures .1)
-    (c .before .before .before .before .before .before .step .result) _ _ _ (c .before .before .before .before .before .before .step .ensures)
+returns-2 c = search (finish-passed, needs)
 
 pub finish-spec : {M : Type 1} → statement M
 finish-spec =
     tie.close
     (tie.spec
-    lacks-room-requires
+    test-lent-requires
+    enum-known-why
     refused-requires
+    enum-told
+    hear-finish-requires
     same-length
     same-length-2
     same-length-3
     same-length-4
     returns
-    is-sound-requires
-    refused-requires-2
     same-length-5
     same-length-6
     same-length-7
     same-length-8
-    returns-2
-    finish-requires
-    step-requires
-    same-length-9
-    same-length-10
-    same-length-11
-    same-length-12
-    returns-3)
+    returns-2)

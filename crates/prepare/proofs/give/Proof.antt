@@ -1,14 +1,11 @@
--- The frame's bytes are there, since they were accepted; what the desk leaves of its header and payload is what it makes of the frame (Returns.antt).
+-- What the desk leaves of its header and payload is what it makes of the frame (Returns.antt).
+use Rattle.prepare.proofs.Returns.{gives}
 use borrow.Author.Needs.{needs}
-use Rattle.prepare.proofs.Returns.{frame-there, gives}
 use Rattle.prepare.proofs.give.Statement.{statement}
 use Rattle.prepare.proofs.give.Tie as tie
 
-slice-aggregate-payload-in : tie.Need-slice-aggregate-payload-in
-slice-aggregate-payload-in c = search (frame-there, needs)
-
-payload-in-requires : tie.Need-payload-in-requires
-payload-in-requires c κs = search needs
+payload-first-requires : tie.Need-payload-first-requires
+payload-first-requires c κs = search needs
 
 take-header-requires : tie.Need-take-header-requires
 take-header-requires c κs = search needs
@@ -26,19 +23,13 @@ same-length-3 : tie.Need-same-length-3
 same-length-3 c = search needs
 
 returns : tie.Need-returns
-returns c =
-    let s = c .before .before .before .before .before .before .before .before .before .before .before .before .before .before .before .before .before in
-    gives (s .args .desk) (s .args .live .now) (s .args .run .now) (s .args .log .now) (s .args .bytes .now) (s .args .heard) (s .args .header) _ _ _ _ _ _ (s .pre .1)
-    (c .before .before .before .before .before .before .before .before .before .before .before .payload-in .ensures .0)
-    (c .before .before .before .before .before .before .before .take-header .ensures)
-    (c .answered .ensures)
+returns c = search (gives, needs)
 
 pub give-spec : {M : Type 1} → statement M
 give-spec =
     tie.close
     (tie.spec
-    slice-aggregate-payload-in
-    payload-in-requires
+    payload-first-requires
     take-header-requires
     answered-requires
     same-length

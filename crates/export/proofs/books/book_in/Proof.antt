@@ -7,6 +7,9 @@ use Rattle.export.proofs.books.book_in.Tie as tie
 shared-slice-read-areas : tie.Need-shared-slice-read-areas
 shared-slice-read-areas c = search needs
 
+no-book-requires : tie.Need-no-book-requires
+no-book-requires c κs = search needs
+
 returns : tie.Need-returns
 returns c = search (book-empty, needs)
 
@@ -19,6 +22,9 @@ aiou-in-requires c κs = search needs
 size-requires : tie.Need-size-requires
 size-requires c κs = search needs
 
+book-of-requires : tie.Need-book-of-requires
+book-of-requires c κs = search needs
+
 returns-2 : tie.Need-returns-2
 returns-2 c = search (book-areas, needs)
 
@@ -27,8 +33,10 @@ book-in-spec =
     tie.close
     (tie.spec
     shared-slice-read-areas
+    no-book-requires
     returns
     shared-slice-read-aiou-in
     aiou-in-requires
     size-requires
+    book-of-requires
     returns-2)

@@ -7,6 +7,9 @@ use Rattle.exportdesk.proofs.states.run_book.Tie as tie
 enum-told : tie.Need-enum-told
 enum-told c = search needs
 
+no-book-requires : tie.Need-no-book-requires
+no-book-requires c κs = search needs
+
 enum-known-run : tie.Need-enum-known-run
 enum-known-run c = search needs
 
@@ -17,4 +20,4 @@ returns-2 : tie.Need-returns-2
 returns-2 c = search (run-book-open, needs)
 
 pub run-book-spec : {M : Type 1} → statement M
-run-book-spec = tie.close (tie.spec enum-told enum-known-run returns returns-2)
+run-book-spec = tie.close (tie.spec enum-told no-book-requires enum-known-run returns returns-2)

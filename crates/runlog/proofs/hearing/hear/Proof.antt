@@ -1,48 +1,50 @@
 -- Tray and desk stay prepared from call to call, and each event told is one of those left to tell.
-use mathlib.Core.Path.{refl, _∙_}
-use borrow.Author.Tests.{not-false}
-use Rattle.runlog.proofs.Turns.{Kept}
-use Prim.Native.Nat.{_≤_}
 use lib.ListN.{length}
-use Rattle.runlog.specs.Events.{Prepared, toTell}
+use Rattle.runlog.specs.Events.{Hearing, toTell}
+use Rattle.runlog.proofs.Turns.{Turning, first-turn, turned-hearing, fewer-left, after-call}
+use borrow.Author.Needs.{needs}
 use Rattle.runlog.proofs.hearing.hear.Statement.{statement}
 use Rattle.runlog.proofs.hearing.hear.Tie as tie
 
 abbrev Inv-loop : tie.InvT-loop
-Inv-loop bytes₀ live₀ run₀ log₀ portion raw out₀ next₀ bytes live run log out next = Prepared bytes (next .tray) (next .desk) live run log × (next .used ≤ length portion) × Kept bytes₀ live₀ run₀ log₀ out₀ bytes live run log out
+Inv-loop bytes₀ live₀ run₀ log₀ portion raw out₀ next₀ bytes live run log out next =
+    Turning (Hearing bytes (next .tray) (next .desk) live run log (next .used) (length portion)) bytes₀ live₀ run₀ log₀ out₀ bytes live run log out
 
 abbrev μ-loop : tie.MeasureT-loop
-μ-loop bytes₀ live₀ run₀ log₀ portion raw out₀ next₀ bytes live run log out next = toTell bytes next portion
+μ-loop bytes₀ live₀ run₀ log₀ portion raw out₀ next₀ bytes live run log out next = toTell bytes (next .tray) (next .used) portion
+
+turned-requires : tie.Need-turned-requires Inv-loop μ-loop
+turned-requires c κs = search needs
 
 loop-holds : tie.Need-loop-holds Inv-loop μ-loop
-loop-holds c = (c .before .before .before .before .before .before .pre .0, c .before .before .before .before .before .before .pre .1, record { same-bytes = refl; same-live = refl; same-run = refl; same-log = refl; same-out = refl })
+loop-holds c = search (first-turn, turned-hearing, needs)
 
 hear-one-requires : tie.Need-hear-one-requires Inv-loop μ-loop
-hear-one-requires c κs = (c .before .before .before .before .before .loop .inv .0, c .before .before .before .before .before .loop .inv .1)
+hear-one-requires c κs = search needs
 
 same-length : tie.Need-same-length Inv-loop μ-loop
-same-length c = c .before .before .before .before .before .before .before .before .before .before .before .bytes .given ∙ c .before .before .before .before .before .before .before .before .before .before .before .before .before .before .before .before .before .before .loop .inv .2 .same-bytes
+same-length c = search needs
 
 same-length-2 : tie.Need-same-length-2 Inv-loop μ-loop
-same-length-2 c = c .before .before .before .before .before .before .before .before .before .live .given ∙ c .before .before .before .before .before .before .before .before .before .before .before .before .before .before .before .before .before .before .loop .inv .2 .same-live
+same-length-2 c = search needs
 
 same-length-3 : tie.Need-same-length-3 Inv-loop μ-loop
-same-length-3 c = c .before .before .before .before .before .before .before .run .given ∙ c .before .before .before .before .before .before .before .before .before .before .before .before .before .before .before .before .before .before .loop .inv .2 .same-run
+same-length-3 c = search needs
 
 same-length-4 : tie.Need-same-length-4 Inv-loop μ-loop
-same-length-4 c = c .before .before .before .before .before .log .given ∙ c .before .before .before .before .before .before .before .before .before .before .before .before .before .before .before .before .before .before .loop .inv .2 .same-log
+same-length-4 c = search needs
 
 same-length-5 : tie.Need-same-length-5 Inv-loop μ-loop
-same-length-5 c = c .before .before .before .out .given ∙ c .before .before .before .before .before .before .before .before .before .before .before .before .before .before .before .before .before .before .loop .inv .2 .same-out
+same-length-5 c = search needs
 
 returns : tie.Need-returns Inv-loop μ-loop
-returns c = c .before .before .before .before .before .before .before .before .before .before .before .before .hear-one .ensures .0
+returns c = search needs
 
 loop-less : tie.Need-loop-less Inv-loop μ-loop
-loop-less c = c .before .before .before .before .before .before .before .before .before .before .before .before .hear-one .ensures .1 .1 (not-false _ (c .if1 .left))
+loop-less c = search (fewer-left, needs)
 
 loop-again : tie.Need-loop-again Inv-loop μ-loop
-loop-again c = (c .before .before .before .before .before .before .before .before .before .before .before .before .hear-one .ensures .0, c .before .before .before .before .before .before .before .before .before .before .before .before .hear-one .ensures .1 .0, record { same-bytes = c .before .before .before .before .before .before .before .before .before .before .before .bytes .given ∙ c .before .before .before .before .before .before .before .before .before .before .before .before .before .before .before .before .before .before .loop .inv .2 .same-bytes; same-live = c .before .before .before .before .before .before .before .before .before .live .given ∙ c .before .before .before .before .before .before .before .before .before .before .before .before .before .before .before .before .before .before .loop .inv .2 .same-live; same-run = c .before .before .before .before .before .before .before .run .given ∙ c .before .before .before .before .before .before .before .before .before .before .before .before .before .before .before .before .before .before .loop .inv .2 .same-run; same-log = c .before .before .before .before .before .log .given ∙ c .before .before .before .before .before .before .before .before .before .before .before .before .before .before .before .before .before .before .loop .inv .2 .same-log; same-out = c .before .before .before .out .given ∙ c .before .before .before .before .before .before .before .before .before .before .before .before .before .before .before .before .before .before .loop .inv .2 .same-out })
+loop-again c = search (after-call, needs)
 
 pub hear-spec : {M : Type 1} → statement M
 hear-spec =
@@ -50,6 +52,7 @@ hear-spec =
     (tie.spec
     Inv-loop
     μ-loop
+    turned-requires
     loop-holds
     hear-one-requires
     same-length

@@ -1,0 +1,38 @@
+-- The five numbers of an event.
+use Rattle.exportprepare.proofs.Prepared.{told-put}
+use borrow.Author.Needs.{needs}
+use Rattle.exportprepare.proofs.prepares.put_told.Statement.{statement}
+use Rattle.exportprepare.proofs.prepares.put_told.Tie as tie
+
+count-requires : tie.Need-count-requires
+count-requires c κs = search needs
+
+wide-requires : tie.Need-wide-requires
+wide-requires c κs = search needs
+
+count-requires-2 : tie.Need-count-requires-2
+count-requires-2 c κs = search needs
+
+slice-aggregate-put : tie.Need-slice-aggregate-put
+slice-aggregate-put c = search needs
+
+put-requires : tie.Need-put-requires
+put-requires c κs = search needs
+
+same-length : tie.Need-same-length
+same-length c = search needs
+
+returns : tie.Need-returns
+returns c = search (told-put, needs)
+
+pub put-told-spec : {M : Type 1} → statement M
+put-told-spec =
+    tie.close
+    (tie.spec
+    count-requires
+    wide-requires
+    count-requires-2
+    slice-aggregate-put
+    put-requires
+    same-length
+    returns)
