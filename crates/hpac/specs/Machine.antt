@@ -163,12 +163,6 @@ hpacStep Done code = Done
 
 -- ---- an arm of the code's `match`, and a test of its helpers
 
-pub field-arm : {s t : State} {f : Field} → s ≡ t → f ≡ hpacField t → f ≡ hpacField s
-field-arm e h = h ∙ ap hpacField (sym e)
-
-pub step-arm : {s t r : State} (c : ℕ) → s ≡ t → r ≡ hpacStep t c → r ≡ hpacStep s c
-step-arm c e h = h ∙ ap (λ x. hpacStep x c) (sym e)
-
 pub areas-more : (c : Constellation) (siou aiou n : ℕ) → (n ≡ 0 → ⊥)
     → Id (record { constellation = c; siou = siou; aiou = aiou; more = n - 1 }) ≡ areasFrom c siou aiou n
 areas-more c siou aiou n h = one-less (areasFrom c siou aiou) n h

@@ -140,12 +140,6 @@ hpacLast Done = Done
 
 -- ---- an arm of the code's `match`, and a test of its helpers
 
-pub row-arm : {s t : State} {r : Row} → s ≡ t → r ≡ hpacRow t → r ≡ hpacRow s
-row-arm e h = h ∙ ap hpacRow (sym e)
-
-pub after-arm : {s t r : State} (c : ℕ) → s ≡ t → r ≡ hpacStep (hpacLast t) c → r ≡ hpacStep (hpacLast s) c
-after-arm c e h = h ∙ ap (λ x. hpacStep (hpacLast x) c) (sym e)
-
 pub area-none : (n : ℕ) → n ≡ 0 → 0 ≡ areaTail n
 area-none n e = ap areaTail (sym e)
 

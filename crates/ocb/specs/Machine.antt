@@ -117,12 +117,6 @@ ocbStep Done code = Done
 
 -- ---- an arm of the code's `match`, and a test of its helpers
 
-pub field-arm : {s t : State} {f : Field} → s ≡ t → f ≡ ocbField t → f ≡ ocbField s
-field-arm e h = h ∙ ap ocbField (sym e)
-
-pub step-arm : {s t r : State} (c : ℕ) → s ≡ t → r ≡ ocbStep t c → r ≡ ocbStep s c
-step-arm c e h = h ∙ ap (λ x. ocbStep x c) (sym e)
-
 pub ephemeris-arm : {c d : Constellation} {f : Field} → c ≡ d → f ≡ free (ephemerisSf d) (ephemerisWidth d) → f ≡ free (ephemerisSf c) (ephemerisWidth c)
 ephemeris-arm e h = h ∙ ap (λ x. free (ephemerisSf x) (ephemerisWidth x)) (sym e)
 

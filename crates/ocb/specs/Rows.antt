@@ -135,18 +135,6 @@ ocbLast Done = Done
 
 -- ---- an arm of the code's `match`, and a test of its helpers
 
-pub row-arm : {s t : State} {r : Row} → s ≡ t → r ≡ ocbRow t → r ≡ ocbRow s
-row-arm e h = h ∙ ap ocbRow (sym e)
-
-pub after-arm : {s t r : State} (c : ℕ) → s ≡ t → r ≡ ocbStep (ocbLast t) c → r ≡ ocbStep (ocbLast s) c
-after-arm c e h = h ∙ ap (λ x. ocbStep (ocbLast x) c) (sym e)
-
-pub orbit-arm : {c d : Constellation} {r : ℕ} → c ≡ d → r ≡ orbitCells d → r ≡ orbitCells c
-orbit-arm e h = h ∙ ap orbitCells (sym e)
-
-pub yaw-arm : {c d : Constellation} {r : ℕ} → c ≡ d → r ≡ yawCells d → r ≡ yawCells c
-yaw-arm e h = h ∙ ap yawCells (sym e)
-
 pub next-none : (n : ℕ) → n ≡ 0 → 0 ≡ nextTail n
 next-none n e = ap nextTail (sym e)
 
