@@ -4,7 +4,9 @@ use Prim.Native.Nat.{ℕ, suc, _-_, _≤_, _<_}
 use native.Mathlib.Omega.{arith}
 use borrow.Author.Tests.{eq-eqb, ne-eqb, lt-ltb, le-ltb, le-leb, lt-leb}
 use lib.Dec.{eqb, ltb, leb}
+use Rattle.layout.specs.declared.Field.{Field}
 use Rattle.layout.specs.Layout.{pick}
+use Rattle.layout.specs.Parts.{free}
 
 -- what the code makes of n - 1, with n not 0, is what the definition makes of n
 pub one-less : {B : Type 0} (f : ℕ → B) (n : ℕ) → (n ≡ 0 → ⊥) → f (suc (n - 1)) ≡ f n
@@ -42,3 +44,7 @@ Matched {S} {A} f s r = ((v : S) (x : A) → s ≡ v → x ≡ f v → x ≡ f s
 
 pub matched : {S A : Type 0} (f : S → A) {s : S} {r : A} → Matched f s r → r ≡ f s
 matched f h = h (λ v x e q. arm f e q)
+
+-- a field whose number an inner call gave
+pub sf-free : (w : ℕ) {sf sf' : ℕ} {r : Field} → r ≡ free sf w → sf ≡ sf' → r ≡ free sf' w
+sf-free w p q = p ∙ ap (λ (x : ℕ). free x w) q
