@@ -88,12 +88,6 @@ bpacStep Done c = Done
 
 -- ---- an arm of the code's `match`, and a test of its helpers
 
-pub field-arm : {s t : State} {f : Field} → s ≡ t → f ≡ bpacField t → f ≡ bpacField s
-field-arm e h = h ∙ ap bpacField (sym e)
-
-pub step-arm : {s t r : State} (c : ℕ) → s ≡ t → r ≡ bpacStep t c → r ≡ bpacStep s c
-step-arm c e h = h ∙ ap (λ x. bpacStep x c) (sym e)
-
 pub areas-more : (n : ℕ) → (n ≡ 0 → ⊥) → Id (n - 1) ≡ areasFrom n
 areas-more n h = one-less areasFrom n h
 

@@ -1,5 +1,6 @@
 // BPAC, 3-0: tables 6.25 to 6.28. `more` areas come after the one at hand.
 ghost use mathlib.Core.Path.{_≡_};
+ghost use Rattle.layout.specs.Tests.{Matched};
 ghost use Prim.Native.Nat.{_%_};
 ghost use Rattle.bpac.specs.Machine.{bpacField, bpacStep, areasFrom, blocksFrom, groupField, groupsFrom, counted, lastNode};
 use codes::satellites::set_bits;
@@ -55,6 +56,12 @@ fn residual_field(size: u64) -> Field
 
 pub fn field_of(s: State) -> Field
     ensures { λ r. ⌜ r ≡ bpacField s ⌝ }
+{
+    field_by_state(s)
+}
+
+fn field_by_state(s: State) -> Field
+    ensures { λ r. ⌜ Matched bpacField s r ⌝ }
 {
     match s {
         State::Siou => up_to(5, 9, 511),
@@ -151,6 +158,12 @@ fn group_read(more: u64, last: u64, groups: u64, seen: u64, code: u64) -> State
 
 pub fn advance(s: State, code: u64) -> State
     ensures { λ r. ⌜ r ≡ bpacStep s code ⌝ }
+{
+    next_by_state(s, code)
+}
+
+fn next_by_state(s: State, code: u64) -> State
+    ensures { λ r. ⌜ Matched (λ x. bpacStep x code) s r ⌝ }
 {
     match s {
         State::Siou => State::Reserved,

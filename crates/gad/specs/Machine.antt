@@ -45,12 +45,6 @@ gadStep Done c = Done
 
 -- ---- an arm of the code's `match`: what it gives is the mirror's answer at the state it stands for
 
-pub field-arm : {s t : State} {f : Field} → s ≡ t → f ≡ gadField t → f ≡ gadField s
-field-arm e h = h ∙ ap gadField (sym e)
-
-pub step-arm : {s t r : State} (c : ℕ) → s ≡ t → r ≡ gadStep t c → r ≡ gadStep s c
-step-arm c e h = h ∙ ap (λ x. gadStep x c) (sym e)
-
 -- `if n == 0 { Done } else { Id(.. n - 1) }`
 pub blocks-more : (siou aiou n : ℕ) → (n ≡ 0 → ⊥) → Id (record { siou = siou; aiou = aiou; more = n - 1 }) ≡ blocksFrom siou aiou n
 blocks-more siou aiou n h = one-less (blocksFrom siou aiou) n h

@@ -29,9 +29,6 @@ gadRow (LatitudeSpacing head id latitude longitude rows columns) = noRow
 gadRow (LongitudeSpacing head id latitude longitude rows columns spacing) = noRow
 gadRow Done = noRow
 
-pub row-arm : {s t : State} {r : Row} → s ≡ t → r ≡ gadRow t → r ≡ gadRow s
-row-arm e h = h ∙ ap gadRow (sym e)
-
 blocks-along : (siou aiou more : ℕ)
     → Along gadField gadStep (Id (record { siou = siou; aiou = aiou; more = more }))
     (again (suc more) (0x71 ∷ 0xA5 ∷ 0xB6 ∷ 0x21 ∷ 0x21 ∷ 0x41 ∷ 0x41 ∷ []) []) (gadStep Done)

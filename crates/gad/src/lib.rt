@@ -1,5 +1,6 @@
 // GAD, 2-0: tables 6.23 and 6.24. A state carries the codes of the block that were read.
 ghost use mathlib.Core.Path.{_≡_};
+ghost use Rattle.layout.specs.Tests.{Matched};
 ghost use Rattle.gad.specs.Machine.{gadField, gadStep, blocksFrom};
 
 pub mod row;
@@ -31,6 +32,12 @@ pub enum State {
 
 pub fn field_of(s: State) -> Field
     ensures { λ r. ⌜ r ≡ gadField s ⌝ }
+{
+    field_by_state(s)
+}
+
+fn field_by_state(s: State) -> Field
+    ensures { λ r. ⌜ Matched gadField s r ⌝ }
 {
     match s {
         State::Siou => up_to(5, 9, 511),
@@ -69,6 +76,12 @@ fn next_block(head: Head) -> State
 
 pub fn advance(s: State, code: u64) -> State
     ensures { λ r. ⌜ r ≡ gadStep s code ⌝ }
+{
+    next_by_state(s, code)
+}
+
+fn next_by_state(s: State, code: u64) -> State
+    ensures { λ r. ⌜ Matched (λ x. gadStep x code) s r ⌝ }
 {
     match s {
         State::Siou => State::Aiou(code),

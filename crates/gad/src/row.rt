@@ -1,5 +1,6 @@
 // The row from a state on (crate `rows`): all blocks, since no code of a block decides what follows.
 ghost use mathlib.Core.Path.{_≡_};
+ghost use Rattle.layout.specs.Tests.{Matched};
 ghost use Rattle.gad.specs.Rows.{blocksRow, gadRow};
 use crate::Head;
 use crate::State;
@@ -18,6 +19,12 @@ fn blocks_row(head: Head) -> Row
 
 pub fn row_of(s: State) -> Row
     ensures { λ r. ⌜ r ≡ gadRow s ⌝ }
+{
+    row_by_state(s)
+}
+
+fn row_by_state(s: State) -> Row
+    ensures { λ r. ⌜ Matched gadRow s r ⌝ }
 {
     match s {
         State::Siou => none(),

@@ -161,13 +161,7 @@ hpacStep (ResidualSize area walk) code = residualsFrom area walk code (area .poi
 hpacStep (Residual area walk size more) code = residualsFrom area walk size more
 hpacStep Done code = Done
 
--- ---- an arm of the code's `match`, and a test of its helpers
-
-pub field-arm : {s t : State} {f : Field} → s ≡ t → f ≡ hpacField t → f ≡ hpacField s
-field-arm e h = h ∙ ap hpacField (sym e)
-
-pub step-arm : {s t r : State} (c : ℕ) → s ≡ t → r ≡ hpacStep t c → r ≡ hpacStep s c
-step-arm c e h = h ∙ ap (λ x. hpacStep x c) (sym e)
+-- ---- a test of the code's helpers, and what an inner call gave them
 
 pub areas-more : (c : Constellation) (siou aiou n : ℕ) → (n ≡ 0 → ⊥)
     → Id (record { constellation = c; siou = siou; aiou = aiou; more = n - 1 }) ≡ areasFrom c siou aiou n
@@ -179,6 +173,10 @@ slants-none area equation size mask n e h = h ∙ ap (slantsFrom area equation s
 pub slants-more : (area : Area) (equation size mask n : ℕ) → (n ≡ 0 → ⊥)
     → Quality area (record { equation = equation; size = size; mask = mask; more = n - 1 }) ≡ slantsFrom area equation size mask n
 slants-more area equation size mask n h = one-less (slantsFrom area equation size mask) n h
+
+pub slants-of : (area : Area) (equation size mask : ℕ) {n m : ℕ} {r : State}
+    → r ≡ slantsFrom area equation size mask n → n ≡ m → r ≡ slantsFrom area equation size mask m
+slants-of area equation size mask p q = p ∙ ap (slantsFrom area equation size mask) q
 
 pub residuals-none : (area : Area) (walk : Walk) (size n : ℕ) {r : State} → n ≡ 0 → r ≡ slantEnd area walk → r ≡ residualsFrom area walk size n
 residuals-none area walk size n e h = h ∙ ap (residualsFrom area walk size) (sym e)

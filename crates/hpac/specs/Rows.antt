@@ -1,5 +1,5 @@
 -- Mirror: the rows of row.rt, and that the machine goes along them. A row ends where a code decides, or where codes are kept.
-use mathlib.Core.Path.{_≡_, refl, ap, sym, _∙_, subst}
+use mathlib.Core.Path.{_≡_, refl, ap, ap₂, sym, _∙_, subst}
 use mathlib.Core.Bool.{Bool, true, false}
 use mathlib.Core.List.{List, [], _∷_, _++_}
 use Prim.Native.Nat.{ℕ, zero, suc, _-_, _≤_, _<_}
@@ -138,13 +138,11 @@ hpacLast (ResidualSize area walk) = Done
 hpacLast (Residual area walk size more) = slantEndLast area walk
 hpacLast Done = Done
 
--- ---- an arm of the code's `match`, and a test of its helpers
+-- ---- a test of the code's helpers, and a row whose words they gave
 
-pub row-arm : {s t : State} {r : Row} → s ≡ t → r ≡ hpacRow t → r ≡ hpacRow s
-row-arm e h = h ∙ ap hpacRow (sym e)
-
-pub after-arm : {s t r : State} (c : ℕ) → s ≡ t → r ≡ hpacStep (hpacLast t) c → r ≡ hpacStep (hpacLast s) c
-after-arm c e h = h ∙ ap (λ x. hpacStep (hpacLast x) c) (sym e)
+pub row-made : (more : ℕ) {group group' tail tail' : ℕ} → group ≡ group' → tail ≡ tail'
+    → _≡_ {A = Row} (record { group = group; more = more; tail = tail }) (record { group = group'; more = more; tail = tail' })
+row-made more p q = ap₂ (λ (g t : ℕ). record { group = g; more = more; tail = t }) p q
 
 pub area-none : (n : ℕ) → n ≡ 0 → 0 ≡ areaTail n
 area-none n e = ap areaTail (sym e)
@@ -307,9 +305,19 @@ t-residuals-along : (area : Area) (size more : ℕ) → Along hpacField hpacStep
 t-residuals-along area size zero = passes (t-residual-in size) (λ _. ionosphere-along area)
 t-residuals-along area size (suc more) = passes (t-residual-in size) (λ _. t-residuals-along area size more)
 
+-- SF042, SF043 and SF044
+t-quality-along : (area : Area) (equation : ℕ)
+    → Along hpacField hpacStep (TroposphereQuality area equation) (cellsOf (oneRow 0x017221)) (hpacStep (TroposphereSize area equation))
+unfolding cells cellsIn
+t-quality-along area equation = passes (is refl) (λ _. passes (is refl) (λ _. decides (is refl) (λ _. refl)))
+
+-- SF055 and SF056
+quality-along : (area : Area) (walk : Walk) → Along hpacField hpacStep (Quality area walk) (cellsOf (oneRow 0x0131)) (hpacStep (Size area walk))
+unfolding cells cellsIn
+quality-along area walk = passes (is refl) (λ _. decides (is refl) (λ _. refl))
+
 -- From each state that has a row the machine goes along it, to the step from its last field.
 pub rowed : (s : State) → (hpacRow s .group ≡ 0 → ⊥) → Along hpacField hpacStep s (cellsOf (hpacRow s)) (hpacStep (hpacLast s))
-unfolding cells cellsIn
 rowed (Siou c) h = absurd (h refl)
 rowed (Aiou c siou) h = absurd (h refl)
 rowed (Reserved c siou aiou) h = absurd (h refl)
@@ -319,7 +327,7 @@ rowed (Points head id) h = absurd (h refl)
 rowed (TroposphereBlocks head id points) h = absurd (h refl)
 rowed (IonosphereBlocks head id points troposphere) h = absurd (h refl)
 rowed (TroposphereEquation area) h = absurd (h refl)
-rowed (TroposphereQuality area equation) h = passes (is refl) (λ _. passes (is refl) (λ _. decides (is refl) (λ _. refl)))
+rowed (TroposphereQuality area equation) h = t-quality-along area equation
 rowed (Delay area equation) h = absurd (h refl)
 rowed (TroposphereSize area equation) h = absurd (h refl)
 rowed (T00 area equation size) h = t00-along area equation size
@@ -333,7 +341,7 @@ rowed (TroposphereResidual area size more) h =
 rowed (IonosphereEquation area) h = absurd (h refl)
 rowed (MaskSize area equation) h = absurd (h refl)
 rowed (Mask area equation size) h = absurd (h refl)
-rowed (Quality area walk) h = passes (is refl) (λ _. decides (is refl) (λ _. refl))
+rowed (Quality area walk) h = quality-along area walk
 rowed (Size area walk) h = absurd (h refl)
 rowed (C00 area walk size) h = c00-along area walk size
 rowed (C01 area walk size) h = absurd (h refl)

@@ -1,5 +1,6 @@
 // The state after a row, by the code of its last field.
 ghost use mathlib.Core.Path.{_≡_};
+ghost use Rattle.layout.specs.Tests.{Matched};
 ghost use Rattle.hpac.specs.Machine.{hpacStep, areaEnd, ionosphereFrom, tGridFrom};
 ghost use Rattle.hpac.specs.Rows.{slantEndLast, gridLast, hpacLast};
 use crate::Area;
@@ -74,6 +75,12 @@ fn t_grid_after(area: Area, code: u64) -> State
 
 pub fn after(s: State, code: u64) -> State
     ensures { λ r. ⌜ r ≡ hpacStep (hpacLast s) code ⌝ }
+{
+    after_by_state(s, code)
+}
+
+fn after_by_state(s: State, code: u64) -> State
+    ensures { λ r. ⌜ Matched (λ x. hpacStep (hpacLast x) code) s r ⌝ }
 {
     match s {
         State::Siou(_) => State::Done,

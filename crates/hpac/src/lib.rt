@@ -1,6 +1,7 @@
 // HPAC, 1-0 to 1-4: tables 6.13 to 6.22. A state carries the area's head and where its mask walk stands, so that what is told of a code can be
 // a function of state and code.
 ghost use mathlib.Core.Path.{_≡_};
+ghost use Rattle.layout.specs.Tests.{Matched};
 ghost use Rattle.hpac.specs.Machine.{hpacField, hpacStep, areasFrom, areaEnd, troposphereFrom, tSlopesFrom, tProductFrom, tGridFrom, tResidualsFrom, ionosphereFrom, slantsFrom, slantEnd, slopesFrom, productFrom, gridFrom, residualsFrom};
 
 pub mod after;
@@ -89,6 +90,12 @@ pub enum State {
 
 pub fn field_of(s: State) -> Field
     ensures { λ r. ⌜ r ≡ hpacField s ⌝ }
+{
+    field_by_state(s)
+}
+
+fn field_by_state(s: State) -> Field
+    ensures { λ r. ⌜ Matched hpacField s r ⌝ }
 {
     match s {
         State::Siou(_) => up_to(5, 9, 511),
@@ -315,6 +322,12 @@ fn grid_read(area: Area, walk: Walk, code: u64) -> State
 
 pub fn advance(s: State, code: u64) -> State
     ensures { λ r. ⌜ r ≡ hpacStep s code ⌝ }
+{
+    next_by_state(s, code)
+}
+
+fn next_by_state(s: State, code: u64) -> State
+    ensures { λ r. ⌜ Matched (λ x. hpacStep x code) s r ⌝ }
 {
     match s {
         State::Siou(constellation) => State::Aiou(constellation, code),

@@ -1,6 +1,7 @@
 // The row from a state on (crate `rows`): the coefficients of a polynomial, the residuals of a grid, and what follows them up to the next code that decides or is
 // kept. A state without a row goes on field by field.
 ghost use mathlib.Core.Path.{_≡_};
+ghost use Rattle.layout.specs.Tests.{Matched};
 ghost use Rattle.hpac.specs.Rows.{areaTail, slantTail, gridTail, ionosphereTail, tGridTail, byEquation, polynomialCells, tPolynomialCells, residualCell, tResidualCell, hpacRow};
 use crate::Area;
 use crate::State;
@@ -155,6 +156,12 @@ fn residual_row(area: Area, walk: Walk, size: u64, more: u64) -> Row
 
 pub fn row_of(s: State) -> Row
     ensures { λ r. ⌜ r ≡ hpacRow s ⌝ }
+{
+    row_by_state(s)
+}
+
+fn row_by_state(s: State) -> Row
+    ensures { λ r. ⌜ Matched hpacRow s r ⌝ }
 {
     match s {
         State::Siou(_) => none(),

@@ -13,7 +13,7 @@ use Rattle.bits.specs.Bits.{bitsOf, number}
 use Rattle.layout.specs.declared.Field.{Field}
 use Rattle.layout.specs.declared.Verdict.the-variants.{Taken}
 use Rattle.layout.specs.Layout.{Layout, done, field, pick, judge, Outcome, accepted, readL, Written, written, fitting, judgedW, behind, writeL}
-use Rattle.layout.specs.Parts.{Part, absent, present, optional, times, each}
+use Rattle.layout.specs.Parts.{Part, absent, present, times, each}
 use Rattle.layout.specs.Record.{recordFrom, recordOf}
 use Rattle.layout.specs.RoundTrip.{read-write, fitting-acc, judgedW-acc, behind-acc, enough-acc, judged-acc, before-acc}
 
@@ -156,8 +156,3 @@ module _ {A : Type 0} {sheet : List ℕ} where
   reaches-each what next h [] k at = here
   reaches-each {part} what next h (m ∷ ms) k at =
       reaches-then (h m (λ x. each ms part (λ xs. k (x ∷ xs))) at) (reaches-each what next h ms (λ xs. k (what m at ∷ xs)) (next at))
-
-  pub reaches-optional : {B : Type 0} {part : (B → Layout A) → Layout A} {x : B} {at to : ℕ} (b : Bool) → ((k : B → Layout A) → Reaches sheet (k x) to (part k) at)
-      → (k : Part B → Layout A) → Reaches sheet (k (partIf b x)) (pick b to at) (optional b part k) at
-  reaches-optional true h k = h (λ y. k (present y))
-  reaches-optional false h k = here

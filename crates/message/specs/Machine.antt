@@ -62,19 +62,10 @@ startOf kind subtype =
     pick (eqb kind 3) (bpacStart subtype)
     start.Unknown)))
 
--- ---- an arm of the code's `match`
+-- ---- an arm of the code's `match` on a subtype's constellation
 
-pub field-arm : {s t : State} {f : Field} → s ≡ t → f ≡ fieldOf t → f ≡ fieldOf s
-field-arm e h = h ∙ ap fieldOf (sym e)
-
-pub step-arm : {s t r : State} (c : ℕ) → s ≡ t → r ≡ stepOf t c → r ≡ stepOf s c
-step-arm c e h = h ∙ ap (λ x. stepOf x c) (sym e)
-
-pub ocb-arm : {x y z : Subtype} {r : Start} → x ≡ z → x ≡ y → r ≡ ocbStart y → r ≡ ocbStart z
-ocb-arm p q h = h ∙ ap ocbStart (sym q ∙ p)
-
-pub hpac-arm : {x y z : Subtype} {r : Start} → x ≡ z → x ≡ y → r ≡ hpacStart y → r ≡ hpacStart z
-hpac-arm p q h = h ∙ ap hpacStart (sym q ∙ p)
+pub start-arm : (f : Subtype → Start) {x y z : Subtype} {r : Start} → x ≡ z → x ≡ y → r ≡ f y → r ≡ f z
+start-arm f p q h = h ∙ ap f (sym q ∙ p)
 
 -- ---- the machine walks the layouts
 

@@ -29,12 +29,6 @@ lastOf (Hpac s) = Hpac (hpacLast s)
 lastOf (Gad s) = Gad gadState.Done
 lastOf (Bpac s) = Bpac s
 
-pub row-arm : {s t : State} {r : Row} → s ≡ t → r ≡ rowOf t → r ≡ rowOf s
-row-arm e h = h ∙ ap rowOf (sym e)
-
-pub after-arm : {s t r : State} (c : ℕ) → s ≡ t → r ≡ stepOf (lastOf t) c → r ≡ stepOf (lastOf s) c
-after-arm c e h = h ∙ ap (λ x. stepOf (lastOf x) c) (sym e)
-
 -- From each state that has a row the machine goes along it, to the step from its last field.
 pub rowed : (s : State) → (rowOf s .group ≡ 0 → ⊥) → Along fieldOf stepOf s (cellsOf (rowOf s)) (stepOf (lastOf s))
 rowed (Ocb s) h = along-within Ocb (λ _. refl) (λ _ _. refl) (ocb.rowed s h)

@@ -1,5 +1,6 @@
 // The twelve payloads of document 01 as one machine: which field is next, and where a code leads.
 ghost use mathlib.Core.Path.{_≡_};
+ghost use Rattle.layout.specs.Tests.{Matched};
 ghost use Rattle.message.specs.Messages.{constellationFor};
 ghost use Rattle.message.specs.Machine.{fieldOf, stepOf, startOf, ocbStart, hpacStart, gadStart, bpacStart};
 
@@ -32,6 +33,12 @@ pub enum Subtype {
 pub fn field_of(s: State) -> Field
     ensures { λ r. ⌜ r ≡ fieldOf s ⌝ }
 {
+    field_by_state(s)
+}
+
+fn field_by_state(s: State) -> Field
+    ensures { λ r. ⌜ Matched fieldOf s r ⌝ }
+{
     match s {
         State::Ocb(inner) => ocb::field_of(inner),
         State::Hpac(inner) => hpac::field_of(inner),
@@ -43,6 +50,12 @@ pub fn field_of(s: State) -> Field
 // The state after a code that the field takes.
 pub fn advance(s: State, code: u64) -> State
     ensures { λ r. ⌜ r ≡ stepOf s code ⌝ }
+{
+    next_by_state(s, code)
+}
+
+fn next_by_state(s: State, code: u64) -> State
+    ensures { λ r. ⌜ Matched (λ x. stepOf x code) s r ⌝ }
 {
     match s {
         State::Ocb(inner) => State::Ocb(ocb::advance(inner, code)),

@@ -1,5 +1,6 @@
 // The row from a state on and the state after it (crate `rows`), over all twelve payloads.
 ghost use mathlib.Core.Path.{_≡_};
+ghost use Rattle.layout.specs.Tests.{Matched};
 ghost use Rattle.message.specs.Machine.{stepOf};
 ghost use Rattle.message.specs.Rows.{rowOf, lastOf};
 use crate::State;
@@ -9,6 +10,12 @@ use rows::none;
 // The fields from here on up to the next whose code decides what follows; no row where one field at a time is as well.
 pub fn row_of(s: State) -> Row
     ensures { λ r. ⌜ r ≡ rowOf s ⌝ }
+{
+    row_by_state(s)
+}
+
+fn row_by_state(s: State) -> Row
+    ensures { λ r. ⌜ Matched rowOf s r ⌝ }
 {
     match s {
         State::Ocb(inner) => ocb::row::row_of(inner),
@@ -21,6 +28,12 @@ pub fn row_of(s: State) -> Row
 // The state after a row's last code.
 pub fn after(s: State, code: u64) -> State
     ensures { λ r. ⌜ r ≡ stepOf (lastOf s) code ⌝ }
+{
+    after_by_state(s, code)
+}
+
+fn after_by_state(s: State, code: u64) -> State
+    ensures { λ r. ⌜ Matched (λ x. stepOf (lastOf x) code) s r ⌝ }
 {
     match s {
         State::Ocb(inner) => State::Ocb(ocb::after::after(inner, code)),

@@ -115,22 +115,19 @@ ocbStep (CodeMask head size) code = codesFrom head (ones code)
 ocbStep (CodeCorrection head more) code = codesFrom head more
 ocbStep Done code = Done
 
--- ---- an arm of the code's `match`, and a test of its helpers
-
-pub field-arm : {s t : State} {f : Field} → s ≡ t → f ≡ ocbField t → f ≡ ocbField s
-field-arm e h = h ∙ ap ocbField (sym e)
-
-pub step-arm : {s t r : State} (c : ℕ) → s ≡ t → r ≡ ocbStep t c → r ≡ ocbStep s c
-step-arm c e h = h ∙ ap (λ x. ocbStep x c) (sym e)
-
-pub ephemeris-arm : {c d : Constellation} {f : Field} → c ≡ d → f ≡ free (ephemerisSf d) (ephemerisWidth d) → f ≡ free (ephemerisSf c) (ephemerisWidth c)
-ephemeris-arm e h = h ∙ ap (λ x. free (ephemerisSf x) (ephemerisWidth x)) (sym e)
-
-pub iode-arm : {c d : Constellation} {f : Field} → c ≡ d → f ≡ free (iodeSf d) (iodeWidth d) → f ≡ free (iodeSf c) (iodeWidth c)
-iode-arm e h = h ∙ ap (λ x. free (iodeSf x) (iodeWidth x)) (sym e)
+-- ---- a test of the code's helpers, and what an inner call gave them
 
 pub satellites-more : (c : Constellation) (yaw n : ℕ) → (n ≡ 0 → ⊥) → DoNotUse (record { constellation = c; yaw = yaw; more = n - 1 }) ≡ satellitesFrom c yaw n
 satellites-more c yaw n h = one-less (satellitesFrom c yaw) n h
+
+pub satellites-of : (c : Constellation) (yaw : ℕ) {n m : ℕ} {r : State} → r ≡ satellitesFrom c yaw n → n ≡ m → r ≡ satellitesFrom c yaw m
+satellites-of c yaw p q = p ∙ ap (satellitesFrom c yaw) q
+
+pub phases-of : (head : Head) {n m : ℕ} {r : State} → r ≡ phasesFrom head n → n ≡ m → r ≡ phasesFrom head m
+phases-of head p q = p ∙ ap (phasesFrom head) q
+
+pub codes-of : (head : Head) {n m : ℕ} {r : State} → r ≡ codesFrom head n → n ≡ m → r ≡ codesFrom head m
+codes-of head p q = p ∙ ap (codesFrom head) q
 
 pub phases-none : (head : Head) (n : ℕ) → n ≡ 0 → CodeMaskSize head ≡ phasesFrom head n
 phases-none head n e = ap (phasesFrom head) (sym e)

@@ -1,5 +1,5 @@
 -- Mirror: the rows of row.rt, and that the machine goes along them. A row ends where a code decides.
-use mathlib.Core.Path.{_≡_, refl, ap, sym, _∙_, subst}
+use mathlib.Core.Path.{_≡_, refl, ap, ap₂, sym, _∙_, subst}
 use mathlib.Core.Bool.{Bool, true, false}
 use mathlib.Core.List.{List, [], _∷_, _++_}
 use Prim.Native.Nat.{ℕ, zero, suc, _-_, _*_, _/_, _%_, _≤_, _<_}
@@ -133,19 +133,14 @@ ocbLast (CodeMask head size) = CodeMask head size
 ocbLast (CodeCorrection head more) = satelliteEnd head
 ocbLast Done = Done
 
--- ---- an arm of the code's `match`, and a test of its helpers
+-- ---- a test of the code's helpers, and a row whose words they gave
 
-pub row-arm : {s t : State} {r : Row} → s ≡ t → r ≡ ocbRow t → r ≡ ocbRow s
-row-arm e h = h ∙ ap ocbRow (sym e)
+pub row-made : (more : ℕ) {group group' tail tail' : ℕ} → group ≡ group' → tail ≡ tail'
+    → _≡_ {A = Row} (record { group = group; more = more; tail = tail }) (record { group = group'; more = more; tail = tail' })
+row-made more p q = ap₂ (λ (g t : ℕ). record { group = g; more = more; tail = t }) p q
 
-pub after-arm : {s t r : State} (c : ℕ) → s ≡ t → r ≡ ocbStep (ocbLast t) c → r ≡ ocbStep (ocbLast s) c
-after-arm c e h = h ∙ ap (λ x. ocbStep (ocbLast x) c) (sym e)
-
-pub orbit-arm : {c d : Constellation} {r : ℕ} → c ≡ d → r ≡ orbitCells d → r ≡ orbitCells c
-orbit-arm e h = h ∙ ap orbitCells (sym e)
-
-pub yaw-arm : {c d : Constellation} {r : ℕ} → c ≡ d → r ≡ yawCells d → r ≡ yawCells c
-yaw-arm e h = h ∙ ap yawCells (sym e)
+pub mask-made : (c : Constellation) (size width : ℕ) {r : Row} → width ≡ biasSize c size → r ≡ oneRow (width * 16 - 15) → r ≡ oneRow (maskCell c size)
+mask-made c size width e h = h ∙ ap (λ (w : ℕ). oneRow (w * 16 - 15)) e
 
 pub next-none : (n : ℕ) → n ≡ 0 → 0 ≡ nextTail n
 next-none n e = ap nextTail (sym e)

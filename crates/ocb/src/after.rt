@@ -1,5 +1,6 @@
 // The state after a row, by the code of its last field.
 ghost use mathlib.Core.Path.{_≡_};
+ghost use Rattle.layout.specs.Tests.{Matched};
 ghost use Rattle.ocb.specs.Machine.{ocbStep, satelliteEnd, biasFrom};
 ghost use Rattle.ocb.specs.Rows.{ocbLast};
 use crate::Head;
@@ -37,6 +38,12 @@ fn blocks_after(head: Head, present: u64, code: u64) -> State
 
 pub fn after(s: State, code: u64) -> State
     ensures { λ r. ⌜ r ≡ ocbStep (ocbLast s) code ⌝ }
+{
+    after_by_state(s, code)
+}
+
+fn after_by_state(s: State, code: u64) -> State
+    ensures { λ r. ⌜ Matched (λ x. ocbStep (ocbLast x) code) s r ⌝ }
 {
     match s {
         State::Siou(constellation) => State::Datum(constellation, code),

@@ -1,5 +1,6 @@
 // OCB, 0-0 to 0-4: tables 6.3 to 6.12. A satellite's flags, SF014, stay with the state until its last block.
 ghost use mathlib.Core.Path.{_≡_};
+ghost use Rattle.layout.specs.Tests.{Matched};
 ghost use Prim.Native.Nat.{_/_, _%_};
 ghost use Rattle.codes.specs.Fields.{steps, yawField};
 ghost use Rattle.ocb.specs.Machine.{ocbField, ocbStep, satellitesFrom, satelliteEnd, orbitFrom, yawFrom, clockFrom, biasFrom, phasesFrom, codesFrom};
@@ -85,6 +86,12 @@ fn correction_field() -> Field
 
 pub fn field_of(s: State) -> Field
     ensures { λ r. ⌜ r ≡ ocbField s ⌝ }
+{
+    field_by_state(s)
+}
+
+fn field_by_state(s: State) -> Field
+    ensures { λ r. ⌜ Matched ocbField s r ⌝ }
 {
     match s {
         State::Siou(_) => up_to(5, 9, 511),
@@ -246,6 +253,12 @@ fn code_mask_read(head: Head, code: u64) -> State
 
 pub fn advance(s: State, code: u64) -> State
     ensures { λ r. ⌜ r ≡ ocbStep s code ⌝ }
+{
+    next_by_state(s, code)
+}
+
+fn next_by_state(s: State, code: u64) -> State
+    ensures { λ r. ⌜ Matched (λ x. ocbStep x code) s r ⌝ }
 {
     match s {
         State::Siou(constellation) => State::EndOfSet(constellation),

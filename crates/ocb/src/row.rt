@@ -1,6 +1,7 @@
 // The row from a state on (crate `rows`): a satellite's blocks up to its bias mask, the biases of a mask, and what follows them up to the next code that decides.
 // A state without a row goes on field by field.
 ghost use mathlib.Core.Path.{_≡_};
+ghost use Rattle.layout.specs.Tests.{Matched};
 ghost use Rattle.rows.specs.Rows.{oneRow};
 ghost use Rattle.ocb.specs.Rows.{nextTail, biasTail, clockTail, blocksTail, orbitCells, yawCells, withOrbit, blocksGroup, maskCell, ocbRow};
 use crate::Head;
@@ -133,6 +134,12 @@ fn codes_row(head: Head, more: u64) -> Row
 
 pub fn row_of(s: State) -> Row
     ensures { λ r. ⌜ r ≡ ocbRow s ⌝ }
+{
+    row_by_state(s)
+}
+
+fn row_by_state(s: State) -> Row
+    ensures { λ r. ⌜ Matched ocbRow s r ⌝ }
 {
     match s {
         State::Siou(_) => one(0x01_01_01_81),

@@ -1,5 +1,5 @@
 -- Each arm of the match gives what the definition has for its case.
-use Rattle.message.specs.Machine.{hpac-arm}
+use Rattle.message.specs.Machine.{hpacStart, start-arm}
 use borrow.Author.Needs.{needs}
 use Rattle.message.proofs.hpac_start.Statement.{statement}
 use Rattle.message.proofs.hpac_start.Tie as tie
@@ -11,5 +11,5 @@ hpac-start-spec =
     (λ c κs. search needs)
     (λ c. search needs)
     (λ c. search needs)
-    (λ c. search (hpac-arm, needs))
-    (λ c. search (hpac-arm, needs)))
+    (λ c. search (start-arm hpacStart, needs))
+    (λ c. search (start-arm hpacStart, needs)))

@@ -1,5 +1,5 @@
 -- Each arm of the match gives what the definition has for its case.
-use Rattle.message.specs.Machine.{ocb-arm}
+use Rattle.message.specs.Machine.{ocbStart, start-arm}
 use borrow.Author.Needs.{needs}
 use Rattle.message.proofs.ocb_start.Statement.{statement}
 use Rattle.message.proofs.ocb_start.Tie as tie
@@ -11,5 +11,5 @@ ocb-start-spec =
     (λ c κs. search needs)
     (λ c. search needs)
     (λ c. search needs)
-    (λ c. search (ocb-arm, needs))
-    (λ c. search (ocb-arm, needs)))
+    (λ c. search (start-arm ocbStart, needs))
+    (λ c. search (start-arm ocbStart, needs)))

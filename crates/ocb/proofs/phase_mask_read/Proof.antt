@@ -1,4 +1,5 @@
--- The callee's contract, with what the inner calls ensure put in.
+-- The callee's contract, with what the inner call gave put in.
+use Rattle.ocb.specs.Machine.{phases-of}
 use borrow.Author.Needs.{needs}
 use Rattle.ocb.proofs.phase_mask_read.Statement.{statement}
 use Rattle.ocb.proofs.phase_mask_read.Tie as tie
@@ -9,4 +10,4 @@ phase-mask-read-spec =
     tie.spec
     (λ c κs. search needs)
     (λ c κs. search needs)
-    (λ c. cc))
+    (λ c. search (phases-of, needs)))

@@ -1,5 +1,5 @@
--- Each arm of the match gives the row of its state.
-use Rattle.gad.specs.Rows.{row-arm}
+-- The match gives the row at each state.
+use Rattle.layout.specs.Tests.{matched}
 use borrow.Author.Needs.{needs}
 use Rattle.gad.proofs.row.row_of.Statement.{statement}
 use Rattle.gad.proofs.row.row_of.Tie as tie
@@ -8,39 +8,5 @@ pub row-of-spec : {M : Type 1} → statement M
 row-of-spec =
     tie.close (
     tie.spec
-    (λ c. search needs)
     (λ c κs. search needs)
-    (λ c. search needs)
-    (λ c κs. search needs)
-    (λ c. search needs)
-    (λ c κs. search needs)
-    (λ c. search needs)
-    (λ c κs. search needs)
-    (λ c. search needs)
-    (λ c κs. search needs)
-    (λ c. search needs)
-    (λ c κs. search needs)
-    (λ c. search needs)
-    (λ c κs. search needs)
-    (λ c. search needs)
-    (λ c κs. search needs)
-    (λ c. search needs)
-    (λ c κs. search needs)
-    (λ c. search needs)
-    (λ c κs. search needs)
-    (λ c. search needs)
-    (λ c κs. search needs)
-    (λ c. search needs)
-    (λ c κs. search needs)
-    (λ c. search (row-arm, needs))
-    (λ c. search (row-arm, needs))
-    (λ c. search (row-arm, needs))
-    (λ c. search (row-arm, needs))
-    (λ c. search (row-arm, needs))
-    (λ c. search (row-arm, needs))
-    (λ c. search (row-arm, needs))
-    (λ c. search (row-arm, needs))
-    (λ c. search (row-arm, needs))
-    (λ c. search (row-arm, needs))
-    (λ c. search (row-arm, needs))
-    (λ c. search (row-arm, needs)))
+    (λ c. search (matched, needs)))

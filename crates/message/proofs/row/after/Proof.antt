@@ -1,5 +1,5 @@
--- Each arm of the match gives the state after the row of its state.
-use Rattle.message.specs.Rows.{after-arm}
+-- The match gives the state after the row at each state.
+use Rattle.layout.specs.Tests.{matched}
 use borrow.Author.Needs.{needs}
 use Rattle.message.proofs.row.after.Statement.{statement}
 use Rattle.message.proofs.row.after.Tie as tie
@@ -8,14 +8,5 @@ pub after-spec : {M : Type 1} → statement M
 after-spec =
     tie.close (
     tie.spec
-    (λ c. search needs)
     (λ c κs. search needs)
-    (λ c. search needs)
-    (λ c κs. search needs)
-    (λ c. search needs)
-    (λ c. search needs)
-    (λ c κs. search needs)
-    (λ c. search (after-arm, needs))
-    (λ c. search (after-arm, needs))
-    (λ c. search (after-arm, needs))
-    (λ c. search (after-arm, needs)))
+    (λ c. search (matched, needs)))

@@ -1,5 +1,5 @@
 -- The width of a bias mask is not 0.
-use Rattle.ocb.specs.Rows.{mask-some}
+use Rattle.ocb.specs.Rows.{mask-some, mask-made}
 use borrow.Author.Needs.{needs}
 use Rattle.ocb.proofs.row.mask_row.Statement.{statement}
 use Rattle.ocb.proofs.row.mask_row.Tie as tie
@@ -13,4 +13,4 @@ mask-row-spec =
     (λ c. search needs)
     (λ c. search (mask-some, needs))
     (λ c κs. search needs)
-    (λ c. cc))
+    (λ c. search (mask-made, needs)))

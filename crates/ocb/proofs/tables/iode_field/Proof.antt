@@ -1,5 +1,7 @@
 -- Each arm of the match gives what the definition has for its case.
-use Rattle.ocb.specs.Machine.{iode-arm}
+use Rattle.layout.specs.Parts.{free}
+use Rattle.layout.specs.Tests.{arm}
+use Rattle.ocb.specs.Tables.{iodeSf, iodeWidth}
 use borrow.Author.Needs.{needs}
 use Rattle.ocb.proofs.tables.iode_field.Statement.{statement}
 use Rattle.ocb.proofs.tables.iode_field.Tie as tie
@@ -18,8 +20,8 @@ iode-field-spec =
     (λ c κs. search needs)
     (λ c. search needs)
     (λ c κs. search needs)
-    (λ c. search (iode-arm, needs))
-    (λ c. search (iode-arm, needs))
-    (λ c. search (iode-arm, needs))
-    (λ c. search (iode-arm, needs))
-    (λ c. search (iode-arm, needs)))
+    (λ c. search (arm (λ x. free (iodeSf x) (iodeWidth x)), needs))
+    (λ c. search (arm (λ x. free (iodeSf x) (iodeWidth x)), needs))
+    (λ c. search (arm (λ x. free (iodeSf x) (iodeWidth x)), needs))
+    (λ c. search (arm (λ x. free (iodeSf x) (iodeWidth x)), needs))
+    (λ c. search (arm (λ x. free (iodeSf x) (iodeWidth x)), needs)))
