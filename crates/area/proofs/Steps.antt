@@ -1,16 +1,15 @@
 -- One lemma for each answer, in plain variables, its premises worded as the code makes them. Assumes nothing.
-use mathlib.Core.Path.{_≡_, refl, ap, ap₂, sym, _∙_, subst}
-use mathlib.Core.Bool.{Bool, true, false, cond, not, _&&_}
+use mathlib.Core.Path.{_≡_, ap, ap₂, sym, _∙_}
+use mathlib.Core.Bool.{Bool, true, false, not}
 use mathlib.Core.List.{List, [], _∷_, _++_, append-assoc}
-use Prim.Native.Nat.{ℕ, zero, suc, _+_, _-_, _*_, _/_, _%_, _^_, _≤_, _<_}
+use Prim.Native.Nat.{ℕ, suc, _+_, _-_, _*_, _/_, _%_, _^_, _≤_, _<_}
 use native.Mathlib.Omega.{arith}
 use native.Mathlib.Nat.{lt-of-le-of-lt, mul-le-mul}
-use native.Mathlib.Numerals.{add-one}
 use lib.Dec.{leb, ltb}
 use lib.ListN.{length, getD, take, drop, set}
 use lib.Seq.{getD-drop, sets, sets-eq}
 use borrow.Author.Tests.{lt-ltb, le-ltb, le-leb, lt-leb}
-use Rattle.area.specs.Area.{sf032, sf033, sf034, sf036, inRange, areaOff, isArea, bytesOf, numberIn, numberAt, putAt}
+use Rattle.area.specs.Area.{sf032, sf033, sf034, sf036, areaOff, isArea, numberAt, putAt}
 
 pub small-product : (x y : ℕ) → x < 256 → y < 256 → x * y < 2 ^ 64
 small-product x y h k = lt-of-le-of-lt (mul-le-mul {n₁ = x} {m₁ = y} {n₂ = 255} {m₂ = 255} (omega arith) (omega arith)) (omega arith)

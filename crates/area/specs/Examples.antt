@@ -1,8 +1,8 @@
 -- Serves readers, and is proved by computing: measured case 7.
-use mathlib.Core.Bool.{Bool, true, false}
+use mathlib.Core.Bool.{true}
 use mathlib.Core.Path.{_≡_, refl}
 use Prim.Native.Nat.{ℕ, _+_, _*_, _^_}
-use Rattle.area.specs.Area.{sf032, rows, columns, latitudeSpacing, nodes, inRange, areaOff, isArea}
+use Rattle.area.specs.Area.{sf032, rows, latitudeSpacing, nodes, areaOff, isArea}
 
 -- area 5 with this reference latitude: 8 rows at 3.2 degrees, 8 columns at 3.2 degrees, in the middle of the longitudes
 abbrev pub eightRows : ℕ → ℕ

@@ -1,23 +1,18 @@
 -- Serves proofs, and is proved: an area and its six bytes say the same. Assumes nothing.
-use mathlib.Core.Path.{_≡_, refl, ap, ap₂, sym, _∙_, subst}
-use mathlib.Core.Bool.{Bool, true, false, not, _&&_, false≢true}
+use mathlib.Core.Path.{_≡_, refl, ap, ap₂, _∙_}
+use mathlib.Core.Bool.{Bool, true, false, _&&_, false≢true}
 use mathlib.Core.List.{List, [], _∷_, _++_}
-use Prim.Native.Nat.{ℕ, zero, suc, _+_, _-_, _*_, _/_, _%_, _^_, _≤_, _<_}
+use Prim.Native.Nat.{ℕ, _+_, _-_, _*_, _/_, _%_, _^_, _≤_, _<_}
 use native.Mathlib.Omega.{arith}
-use lib.Dec.{leb, ltb}
-use lib.ListN.{length, getD, take, drop}
+use lib.ListN.{length, getD, take}
 use borrow.Author.Tests.{ltb-true}
 use Rattle.bits.specs.Bits.{Bytes}
 use Rattle.bits.specs.Laws.{bytes-none, bytes-cons}
-use Rattle.area.specs.Area.{sf031, inRange, areaOff, isArea, bytesOf, numberIn}
+use Rattle.area.specs.Area.{sf031, isArea, bytesOf, numberIn}
 
 pub bytes-area : (a : ℕ) → Bytes (bytesOf a)
 bytes-area a =
     bytes-cons (omega arith) (bytes-cons (omega arith) (bytes-cons (omega arith) (bytes-cons (omega arith) (bytes-cons (omega arith) (bytes-cons (omega arith) bytes-none)))))
-
--- the first of the six bytes is the ID
-pub id-byte : (a : ℕ) (t : List ℕ) → getD (bytesOf a ++ t) 0 0 ≡ sf031 a
-id-byte a t = refl
 
 pub number-bytes : (a : ℕ) (t : List ℕ) → a < 2 ^ 47 → numberIn (bytesOf a ++ t) ≡ 2 * a
 number-bytes a t h =

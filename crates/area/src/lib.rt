@@ -2,7 +2,7 @@
 ghost use mathlib.Core.Path.{_≡_};
 ghost use Prim.Native.Nat.{_+_, _*_, _/_, _%_, _^_, _<_, _≤_};
 ghost use lib.ListN.{length, getD};
-ghost use Rattle.area.specs.Area.{sf031, sf032, sf033, nodes, areaOff, isArea, numberAt, putAt};
+ghost use Rattle.area.specs.Area.{sf031, nodes, areaOff, isArea, numberAt, putAt};
 
 // SF031, the ID of an area of HPAC and GAD. BPAC's areas are counted apart: `bpac::BpacAreaId`.
 pub struct AreaId(pub u8);

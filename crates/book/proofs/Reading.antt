@@ -129,9 +129,6 @@ module _ (book : Book) (s : List ℕ) (e : sound book s ≡ true) where
   pub sound-count : book .count ≤ mostAreas
   sound-count = head-parts book (sound-head book s e) .1
 
-  pub sound-aiou : book .«aiou_plus_one» ≤ 16
-  sound-aiou = head-parts book (sound-head book s e) .0
-
   pub sound-image : Bytes s → Image (book .count) s
   sound-image b = let w : Sound (book .count) 0 s = sound-lists book s e b in record { ascending = w .ascending; image = w .image }
 

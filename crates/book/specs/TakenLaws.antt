@@ -59,16 +59,9 @@ module _ (book : Book) (s payload : List ℕ) (w : sound book s ≡ true) where
     unfolding outcome
     past-length = rw (le-ltb (length s) bookBytes (sound-room book s w), w, ne-eqb (length payload) 0 (λ z. omega arith), le-ltb longestPayload (length payload) few)
 
-    pub outcome-refused : (why : Refusal) → gadOf payload ≡ layout.refused why → outcome book s payload ≡ refused why
-    outcome-refused why e = past-length ∙ ap (λ o. reading o (λ m. takeAll (areasOf (m .blocks)) (before book s (m .aiou))) (λ why. refused why)) e
-
     pub outcome-read : (m : Gad) (codes : List ℕ) (used : ℕ) → gadOf payload ≡ layout.accepted m codes used
         → outcome book s payload ≡ takeAll (areasOf (m .blocks)) (before book s (m .aiou))
     outcome-read m codes used e = past-length ∙ ap (λ o. reading o (λ m. takeAll (areasOf (m .blocks)) (before book s (m .aiou))) (λ why. refused why)) e
-
-    pub answer-read : (m : Gad) (codes : List ℕ) (used : ℕ) → gadOf payload ≡ layout.accepted m codes used
-        → takenOf book s payload ≡ answerOf (takeAll (areasOf (m .blocks)) (before book s (m .aiou))) (m .aiou)
-    answer-read m codes used e = ap₂ answerOf (outcome-read m codes used e) (ap (λ o. reading o (λ m. m .aiou) (λ why. 0)) e)
 
 -- ---- the areas before and afterwards
 

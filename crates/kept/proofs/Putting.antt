@@ -1,59 +1,43 @@
 -- One lemma for each turn and each answer of the functions that write, in plain variables, premises worded as the code makes them. Assumes nothing.
-use mathlib.Core.Path.{_≡_, refl, ap, ap₂, sym, _∙_, subst}
-use mathlib.Core.Bool.{Bool, true, false, cond, not, _&&_, _||_}
+use mathlib.Core.Path.{_≡_, ap, ap₂, sym, _∙_, subst}
+use mathlib.Core.Bool.{Bool, true, false, not}
 use mathlib.Core.List.{List, [], _∷_, _++_, append-assoc, append-nil}
-use Prim.Native.Nat.{ℕ, zero, suc, _+_, _-_, _*_, _/_, _%_, _^_, _≤_, _<_}
+use Prim.Native.Nat.{ℕ, _+_, _-_, _*_, _/_, _^_, _≤_, _<_}
 use native.Mathlib.Omega.{arith}
 use native.Mathlib.Numerals.{add-one}
 use native.Mathlib.Nat.{zero-add}
-use lib.Dec.{leb, ltb, eqb}
+use lib.Dec.{ltb}
 use lib.ListN.{length, getD, take, drop, length-append, length-drop, take-append-drop}
-use lib.Seq.{take-all, take-at, drop-at, drop-drop, drop-length, length-take-le, take-suc, take-length}
-use borrow.Author.Tests.{lt-ltb, le-ltb, le-leb, not-true, not-false}
+use lib.Seq.{take-all, take-at, drop-at, drop-drop, length-take-le, take-suc}
+use borrow.Author.Tests.{lt-ltb, le-ltb, not-true, not-false}
 use mir.Syntax.{w8}
 use mir.Val.{Fits}
 use Rattle.answer.specs.declared.Refusal.the-variants.{Room, State}
 use Rattle.sizes.specs.Sizes.{mostAreas, bookBytes, keptRoom}
-use Rattle.area.specs.Area.{numberIn, numberAt}
-use Rattle.book.specs.Book.{areaIn, areasIn, headSound, sound}
-use Rattle.book.specs.Laws.{Ascending, head-parts, sound-head, length-areas, small-at, areas-at}
+use Rattle.area.specs.Area.{numberAt}
+use Rattle.book.specs.Book.{areasIn, headSound, sound}
+use Rattle.book.specs.Laws.{head-parts, sound-head, length-areas, small-at, areas-at}
 use Rattle.book.proofs.Reading.{number-there, sound-count, sound-image}
 use Rattle.book.specs.Judge.{Image}
 use Rattle.book.specs.declared.Book.{Book}
 use Rattle.groups.specs.Groups.{groupsOf, groupsOfAll}
-use Rattle.groups.proofs.Behind.{take-rest, put-behind}
+use Rattle.groups.proofs.Behind.{room-behind, lay-behind, lay-on, lay-to}
 use Rattle.groups.specs.Laws.{groups-all-append, length-le, length-last}
 use Rattle.kept.specs.Walk.{headBytes}
-use Rattle.kept.specs.Kept.{form, keptOf, keptBytes, noRoom, written, outAfter}
+use Rattle.kept.specs.Kept.{form, keptOf, keptBytes, written, outAfter}
 use Rattle.kept.specs.declared.Written.the-variants.{Bytes, Refused}
 
 -- a number put behind at bytes
 module _ (x at : ℕ) (out : List ℕ) (h : at + length (groupsOf x) ≤ length out) where
   pub number-room : length (groupsOf x) ≤ length (take (length out - at) (drop at out))
-  number-room = omega (arith, ap length (take-rest out at), length-drop at out)
+  number-room = room-behind at out (groupsOf x) h
 
   pub number-laid : (part : List ℕ) (r : ℕ) → r ≡ length (groupsOf x)
       → part ≡ groupsOf x ++ drop (length (groupsOf x)) (take (length out - at) (drop at out))
       → take at out ++ (part ++ drop (length out - at) (drop at out)) ≡ take at out ++ (groupsOf x ++ drop (at + r) out)
   number-laid part r er ep =
-      put-behind out out (take at out) (groupsOf x) part at r (sym (length-take-le at out (omega arith))) (omega arith)
-      (sym (take-append-drop at out)) er
+      lay-behind at r out (groupsOf x) part h er
       (ep ∙ ap (λ k. groupsOf x ++ drop k (take (length out - at) (drop at out))) (sym er))
-      ∙ append-assoc (take at out) (groupsOf x) (drop (at + r) out)
-
--- what is laid behind what was laid before
-pub lay-on : (out₀ out p g new : List ℕ) (e : ℕ) → out ≡ p ++ drop e out₀ → length p ≡ e → new ≡ take e out ++ (g ++ drop (e + length g) out)
-    → new ≡ (p ++ g) ++ drop (e + length g) out₀
-lay-on out₀ out p g new e eo ep en =
-    let first : take e out ≡ p = ap (take e) eo ∙ take-at p (drop e out₀) e ep in
-    let last : drop (e + length g) out ≡ drop (e + length g) out₀
-    = sym (drop-drop (length g) e out) ∙ ap (drop (length g)) (ap (drop e) eo ∙ drop-at p (drop e out₀) e ep) ∙ drop-drop (length g) e out₀ in
-    en ∙ ap₂ (λ x y. x ++ (g ++ y)) first last ∙ sym (append-assoc p g (drop (e + length g) out₀))
-
-lay-to : (out₀ out p g new : List ℕ) (e f : ℕ) → out ≡ p ++ drop e out₀ → length p ≡ e → f ≡ e + length g
-    → new ≡ take e out ++ (g ++ drop f out) → new ≡ (p ++ g) ++ drop f out₀
-lay-to out₀ out p g new e f eo ep ef en =
-    lay-on out₀ out p g new e eo ep (en ∙ ap (λ k. take e out ++ (g ++ drop k out)) ef) ∙ ap (λ k. (p ++ g) ++ drop k out₀) (sym ef)
 
 -- the areas before the i-th are laid behind at bytes
 pub record Laying (out₀ l : List ℕ) (at n i e : ℕ) (out : List ℕ) : Type 0 where

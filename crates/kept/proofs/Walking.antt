@@ -1,13 +1,13 @@
 -- One lemma for each turn and each answer of the functions that read, in plain variables, premises worded as the code makes them. Assumes nothing.
 use mathlib.Core.Path.{_≡_, refl, ap, ap₂, sym, _∙_, subst}
-use mathlib.Core.Bool.{Bool, true, false, cond, not, _&&_}
+use mathlib.Core.Bool.{Bool, true, false, not}
 use mathlib.Core.List.{List, [], _∷_, _++_, append-assoc, append-nil}
-use Prim.Native.Nat.{ℕ, zero, suc, _+_, _-_, _*_, _^_, _≤_, _<_}
+use Prim.Native.Nat.{ℕ, suc, _+_, _-_, _*_, _^_, _≤_, _<_}
 use native.Mathlib.Omega.{arith}
 use lib.Dec.{leb, ltb, eqb}
 use lib.ListN.{length, take, drop, length-append, length-drop, drop-of-length-le}
 use lib.Seq.{take-all, drop-drop, drop-cons}
-use borrow.Author.Tests.{lt-ltb, le-ltb, lt-leb, le-leb, eq-eqb, ne-eqb, not-true, not-false}
+use borrow.Author.Tests.{lt-ltb, le-ltb, lt-leb, le-leb, eq-eqb, ne-eqb, not-false}
 use Rattle.answer.specs.declared.Refusal.{Refusal}
 use Rattle.answer.specs.declared.Refusal.the-variants.{Room, Form, Leftover}
 use Rattle.sizes.specs.Sizes.{mostAreas, bookBytes}
@@ -20,6 +20,7 @@ use Rattle.groups.specs.Groups.{readGroups}
 use Rattle.groups.specs.declared.Read.{Read}
 use Rattle.groups.specs.declared.Read.the-variants as reading
 use Rattle.kept.specs.Kept.{Said, said, refused, stop, behind, number, whole, not-kept, answerOf, leftBy, readKept, fits, withArea, readAreas, readCount, readAiou, readHead}
+use Rattle.kept.specs.RoundTrip.{passed}
 use Rattle.kept.specs.Walk.{nextBy, nextOf, HeadIs, Areas, EndIs, storedBy, isSaid, step-on, step-off, read-le, next-le}
 use Rattle.kept.specs.declared.Next.{Next}
 use Rattle.kept.specs.declared.Next.the-variants as next
@@ -107,11 +108,6 @@ module _ (s : List ℕ) (v : Next) (e : v ≡ nextOf s 0) where
         p
 
 -- a head that is read is sound
-module _ (s : List ℕ) where
-  stopped : {A : Type 0} (b : Bool) (r : Refusal) (o : Said A) (x : A) (rest : List ℕ) → stop b r o ≡ said x rest → (b ≡ false) × (o ≡ said x rest)
-  stopped true r o x rest e = let w : _≡_ {A = ℕ} 0 1 = cc in absurd (omega arith)
-  stopped false r o x rest e = (refl, e)
-
 count-head : (aiou : ℕ) (s : List ℕ) (book : Book) (rest : List ℕ) → readCount aiou s ≡ said book rest → headSound book ≡ true
 unfolding readCount
 count-head aiou s book rest = go (readGroups s)
@@ -119,7 +115,7 @@ count-head aiou s book rest = go (readGroups s)
     go : (r : Read) → behind r s (λ count s. stop (not (headSound (bookOf aiou count))) Form (said (bookOf aiou count) s)) ≡ said book rest → headSound book ≡ true
     go (reading.Refused r) e = let w : _≡_ {A = ℕ} 0 1 = cc in absurd (omega arith)
     go (reading.Number x n) e =
-        let t = stopped s (not (headSound (bookOf aiou x))) Form (said (bookOf aiou x) (drop n s)) book rest e in
+        let t = passed (not (headSound (bookOf aiou x))) Form (said (bookOf aiou x) (drop n s)) book rest e in
         let z : bookOf aiou x ≡ book = said-value (t .1) in
         ap headSound (sym z) ∙ not-false (headSound (bookOf aiou x)) (t .0)
       where
@@ -132,11 +128,11 @@ head-sound s book rest = go (readGroups s)
   where
     aiou : (s : List ℕ) (r : Read) → behind r s (λ aiou s. stop (ltb 16 aiou) Form (readCount aiou s)) ≡ said book rest → headSound book ≡ true
     aiou s (reading.Refused r) e = let w : _≡_ {A = ℕ} 0 1 = cc in absurd (omega arith)
-    aiou s (reading.Number x n) e = count-head x (drop n s) book rest (stopped s (ltb 16 x) Form (readCount x (drop n s)) book rest e .1)
+    aiou s (reading.Number x n) e = count-head x (drop n s) book rest (passed (ltb 16 x) Form (readCount x (drop n s)) book rest e .1)
 
     go : (r : Read) → behind r s (λ f s. stop (not (eqb f 1)) Form (readAiou s)) ≡ said book rest → headSound book ≡ true
     go (reading.Refused r) e = let w : _≡_ {A = ℕ} 0 1 = cc in absurd (omega arith)
-    go (reading.Number x n) e = aiou (drop n s) (readGroups (drop n s)) (stopped s (not (eqb x 1)) Form (readAiou (drop n s)) book rest e .1)
+    go (reading.Number x n) e = aiou (drop n s) (readGroups (drop n s)) (passed (not (eqb x 1)) Form (readAiou (drop n s)) book rest e .1)
 
 -- ---- an area
 

@@ -1,11 +1,10 @@
 -- Serves readers, and is proved by computing: "Empty book: 1, 0, 0", and what is not one.
 use mathlib.Core.Path.{_≡_, refl}
-use mathlib.Core.List.{List, [], _∷_}
-use Prim.Native.Nat.{ℕ}
+use mathlib.Core.List.{[], _∷_}
 use Rattle.answer.specs.declared.Refusal.the-variants.{Short, Form, Leftover}
 use Rattle.book.specs.Book.{noBook, headSound}
 use Rattle.groups.specs.Groups.{groups, groupsOf, groupsOfAll, size, value, readGroups}
-use Rattle.kept.specs.Kept.{keptOf, Outcome, kept, not-kept, readCount, readAiou, readHead, readAreas, behindHead}
+use Rattle.kept.specs.Kept.{keptOf, kept, not-kept, readCount, readAiou, readHead, readAreas, behindHead}
 
 pub empty-book : keptOf noBook [] ≡ 1 ∷ 0 ∷ 0 ∷ []
 unfolding keptOf groups groupsOf groupsOfAll

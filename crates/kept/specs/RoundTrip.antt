@@ -1,8 +1,8 @@
 -- The two round trips of the kept book: what is written reads back as that book, and what reads is, written again, the same bytes. Proved; assumes nothing.
 use mathlib.Core.Path.{_≡_, refl, ap, ap₂, sym, _∙_, subst}
-use mathlib.Core.Bool.{Bool, true, false, cond, not, _&&_, false≢true}
+use mathlib.Core.Bool.{Bool, true, false, cond, not, _&&_}
 use mathlib.Core.List.{List, [], _∷_, _++_, append-assoc, append-nil}
-use Prim.Native.Nat.{ℕ, zero, suc, _+_, _-_, _*_, _^_, _≤_, _<_}
+use Prim.Native.Nat.{ℕ, zero, suc, _+_, _-_, _^_, _≤_, _<_}
 use native.Mathlib.Omega.{arith}
 use lib.Dec.{leb, ltb, eqb}
 use lib.ListN.{length, drop}
@@ -12,7 +12,7 @@ use Rattle.answer.specs.declared.Refusal.{Refusal}
 use Rattle.answer.specs.declared.Refusal.the-variants.{Room, Form}
 use Rattle.bits.specs.Bits.{Bytes}
 use Rattle.bits.specs.Laws.{bytes-drop}
-use Rattle.area.specs.Area.{sf031, isArea}
+use Rattle.area.specs.Area.{sf031}
 use Rattle.sizes.specs.Sizes.{bookBytes}
 use Rattle.book.specs.Book.{bookOf, areasIn, headSound, sound}
 use Rattle.book.specs.Laws.{Ascending, Areas, Sound, head-parts, sound-head, sound-lists, length-areas}
@@ -21,7 +21,7 @@ use Rattle.groups.specs.Groups.{groupsOf, groupsOfAll, readGroups}
 use Rattle.groups.specs.Laws.{read-written, written-read}
 use Rattle.groups.specs.declared.Read.{Read}
 use Rattle.groups.specs.declared.Read.the-variants as reading
-use Rattle.kept.specs.Kept.{form, keptOf, keptBytes, Said, said, refused, stop, behind, number, fits, withArea, readAreas, readCount, readAiou, readHead, Outcome, kept, not-kept, whole, behindHead, readKept}
+use Rattle.kept.specs.Kept.{form, keptOf, keptBytes, Said, said, refused, stop, behind, number, fits, withArea, readAreas, readCount, readAiou, readHead, kept, not-kept, whole, behindHead, readKept}
 
 -- ---- written and read
 
@@ -93,7 +93,7 @@ begins {A} s k v rest b = go (readGroups s) refl
     go (reading.Refused r) p e = let w : _≡_ {A = ℕ} 0 1 = cc in absurd (omega arith)
 
 -- a test was passed
-passed : {A : Type 0} (b : Bool) (r : Refusal) (o : Said A) (v : A) (rest : List ℕ) → stop b r o ≡ said v rest → (b ≡ false) × (o ≡ said v rest)
+pub passed : {A : Type 0} (b : Bool) (r : Refusal) (o : Said A) (v : A) (rest : List ℕ) → stop b r o ≡ said v rest → (b ≡ false) × (o ≡ said v rest)
 passed true r o v rest e = let w : _≡_ {A = ℕ} 0 1 = cc in absurd (omega arith)
 passed false r o v rest e = (refl, e)
 

@@ -1,7 +1,7 @@
 -- Serves proofs, and is proved: what the functions that read answer, by places in the bytes. Assumes nothing.
 use mathlib.Core.Path.{_≡_, refl, ap, ap₂, sym, _∙_, subst}
 use mathlib.Core.List.{List, [], _∷_, _++_}
-use Prim.Native.Nat.{ℕ, zero, suc, _+_, _-_, _*_, _≤_, _<_}
+use Prim.Native.Nat.{ℕ, _+_, _-_, _*_, _≤_}
 use native.Mathlib.Omega.{arith}
 use lib.ListN.{length, drop, length-drop}
 use lib.Seq.{drop-drop}
@@ -10,7 +10,7 @@ use mathlib.Core.Bool.{Bool, true, false}
 use Rattle.book.specs.Book.{bytesOfAll}
 use Rattle.book.specs.declared.Book.{Book}
 use Rattle.groups.specs.Groups.{groupsOfAll, readGroups}
-use Rattle.groups.specs.Laws.{is-read, IsRead, size-le}
+use Rattle.groups.specs.Laws.{is-read, size-le}
 use Rattle.groups.specs.declared.Read.{Read}
 use Rattle.groups.specs.declared.Read.the-variants as reading
 use Rattle.kept.specs.Kept.{form, Said, said, refused, behind, number}
