@@ -10,6 +10,7 @@ use Rattle.message.specs.Messages.{constellationFor}
 use Rattle.message.specs.declared.Subtype.{Subtype}
 use Rattle.message.specs.declared.Subtype.the-variants as subtype
 use Rattle.book.specs.Book.{noBook, sound}
+use Rattle.book.specs.declared.Book.{Book}
 use Rattle.desk.specs.declared.Desk.{Desk}
 use Rattle.desk.specs.declared.Run.{Run}
 use Rattle.desk.specs.declared.Run.the-variants.{Closed, Open}
@@ -19,6 +20,11 @@ use Rattle.desk.specs.declared.NewDesk.the-variants.{Made, Refused}
 -- "A desk is made for one solution, processor and constellation." TF010 has 7 bits, TF011 4.
 abbrev pub sourceInRange : (solution processor : ℕ) → Bool
 sourceInRange solution processor = ltb solution 128 && ltb processor 16
+
+-- the same desk with another live book or run
+abbrev pub deskWith : Desk → Book → Run → Desk
+deskWith desk book run =
+    record { solution = desk .solution; processor = desk .processor; constellation = desk .constellation; book = book; run = run }
 
 -- "A new desk with an argument out of range: FIELD." Constellations are 0 to 4, as the subtypes of HPAC.
 abbrev pub madeFor : (solution processor : ℕ) → Subtype → NewDesk

@@ -27,7 +27,7 @@ use Rattle.book.specs.declared.Taken as took
 use Rattle.book.specs.declared.Taken.the-variants as gad
 use Rattle.groups.specs.Groups.{groupsOfAll}
 use Rattle.log.specs.Log.{opened, logOf}
-use Rattle.desk.specs.Desk.{deskSound}
+use Rattle.desk.specs.Desk.{deskWith, deskSound}
 use Rattle.desk.specs.declared.Desk.{Desk}
 use Rattle.desk.specs.declared.Run.{Run}
 use Rattle.desk.specs.declared.Run.the-variants.{Closed, Open}
@@ -154,8 +154,7 @@ bookBy desk (continues book message) = desk .book
 bookBy desk (opens tag message) = desk .book
 
 abbrev pub deskBy : Desk → Verdict → Desk
-deskBy desk v =
-    record { solution = desk .solution; processor = desk .processor; constellation = desk .constellation; book = bookBy desk v; run = runBy desk v }
+deskBy desk v = deskWith desk (bookBy desk v) (runBy desk v)
 
 -- the bytes of the live book, and of the run's
 abbrev pub liveBy : (live : List ℕ) → Verdict → List ℕ

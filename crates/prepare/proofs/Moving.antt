@@ -50,22 +50,26 @@ good-settled (stream.done c) g = tt
 
 record Steps (bytes : List ℕ) (tray : Tray) (o : stream.Outcome) : Type 0 where
   is-settled : Settled o
-  when-not : ltb (length bytes) longestFrame ≡ false → stream.sound bytes tray ≡ false → o ≡ stream.refused refusal.State
+  when-not : ltb (length bytes) longestFrame ≡ false → stream.sound bytes tray ≡ false
+      → o ≡ stream.refused refusal.State
 
-steps-of : (bytes : List ℕ) (tray : Tray) (o : stream.Outcome) → (streaming.Ready bytes tray → Good o)
+steps-of : (bytes : List ℕ) (tray : Tray) (o : stream.Outcome)
+    → (streaming.Ready bytes tray → Good o)
     → (ltb (length bytes) longestFrame ≡ true → o ≡ stream.refused refusal.Room)
     → (ltb (length bytes) longestFrame ≡ false → stream.sound bytes tray ≡ false → o ≡ stream.refused refusal.State)
     → Steps bytes tray o
 steps-of bytes tray o k f g =
     record { is-settled = go (ltb (length bytes) longestFrame) (stream.sound bytes tray) refl refl; when-not = g }
   where
-    go : (a b : Bool) → ltb (length bytes) longestFrame ≡ a → stream.sound bytes tray ≡ b → Settled o
+    go : (a b : Bool) → ltb (length bytes) longestFrame ≡ a → stream.sound bytes tray ≡ b
+        → Settled o
     go true b p q = subst (λ o. Settled o) (sym (f p)) tt
     go false false p q = subst (λ o. Settled o) (sym (g p q)) tt
     go false true p q = good-settled o (k (record { room = ltb-false _ _ p; is-sound = q }))
 
 -- `call` and `finish` differ in this alone
-call-steps : (bytes : List ℕ) (tray : Tray) (input : List ℕ) → Steps bytes tray (stream.called bytes tray input)
+call-steps : (bytes : List ℕ) (tray : Tray) (input : List ℕ)
+    → Steps bytes tray (stream.called bytes tray input)
 unfolding stream.called
 call-steps bytes tray input =
     steps-of bytes tray (stream.called bytes tray input) (call-kept bytes tray input) (λ p. rw p) (λ p q. rw (p, q))
@@ -76,7 +80,8 @@ finish-steps bytes tray = steps-of bytes tray (stream.finished bytes tray) (end-
 
 -- ---- a frame that is told lies first
 
-lies : (bytes : List ℕ) (tray : Tray) (o : stream.Outcome) → Settled o → Lies (stream.answerOf tray o .said) (stream.bytesOf bytes o)
+lies : (bytes : List ℕ) (tray : Tray) (o : stream.Outcome) → Settled o
+    → Lies (stream.answerOf tray o .said) (stream.bytesOf bytes o)
 lies bytes tray (stream.refused r) g = tt
 lies bytes tray (stream.told (frame f b) c n) g =
     let q : frame f b ≡ frame f (take (f .length) (stream.laid bytes (c .held))) = itself bytes tray (frame f b) c n g in
@@ -86,15 +91,18 @@ lies bytes tray (stream.told (noise k) c n) g = tt
 lies bytes tray (stream.hungry c n) g = tt
 lies bytes tray (stream.done c) g = tt
 
-said-lies : (bytes : List ℕ) (tray : Tray) (o : stream.Outcome) → Steps bytes tray o → (heard : stream-answer.Answer) → heard ≡ stream.answerOf tray o
+said-lies : (bytes : List ℕ) (tray : Tray) (o : stream.Outcome) → Steps bytes tray o
+    → (heard : stream-answer.Answer) → heard ≡ stream.answerOf tray o
     → (bytes′ : List ℕ) → bytes′ ≡ stream.bytesOf bytes o → Lies (heard .said) bytes′
 said-lies bytes tray o w heard a bytes′ x = rw (a, x) (lies bytes tray o (w .is-settled))
 
-pub call-lies : (bytes : List ℕ) (tray : Tray) (input : List ℕ) (heard : stream-answer.Answer) → heard ≡ stream.callAnswer bytes tray input
+pub call-lies : (bytes : List ℕ) (tray : Tray) (input : List ℕ) (heard : stream-answer.Answer)
+    → heard ≡ stream.callAnswer bytes tray input
     → (bytes′ : List ℕ) → bytes′ ≡ stream.callBytes bytes tray input → Lies (heard .said) bytes′
 call-lies bytes tray input = said-lies bytes tray (stream.called bytes tray input) (call-steps bytes tray input)
 
-pub finish-lies : (bytes : List ℕ) (tray : Tray) (heard : stream-answer.Answer) → heard ≡ stream.finishAnswer bytes tray
+pub finish-lies : (bytes : List ℕ) (tray : Tray) (heard : stream-answer.Answer)
+    → heard ≡ stream.finishAnswer bytes tray
     → (bytes′ : List ℕ) → bytes′ ≡ stream.finishBytes bytes tray → Lies (heard .said) bytes′
 finish-lies bytes tray = said-lies bytes tray (stream.finished bytes tray) (finish-steps bytes tray)
 
@@ -117,34 +125,42 @@ moved-is handed (stream.done c) g = refl
 -- ---- past ROOM and STATE, and what was tested
 
 data Testing (bytes : List ℕ) (books : Held) (log : List ℕ) : Tested → Type 0 where
-  no-room : noRoom bytes (books .live) (books .run) log ≡ true → Testing bytes books log (test.Failed refusal.Room)
-  unsound : noRoom bytes (books .live) (books .run) log ≡ false → deskSound (books .desk) (books .live) (books .run) ≡ false
+  no-room : noRoom bytes (books .live) (books .run) log ≡ true
+      → Testing bytes books log (test.Failed refusal.Room)
+  unsound : noRoom bytes (books .live) (books .run) log ≡ false
+      → deskSound (books .desk) (books .live) (books .run) ≡ false
       → Testing bytes books log (test.Failed refusal.State)
-  goes-on : noRoom bytes (books .live) (books .run) log ≡ false → deskSound (books .desk) (books .live) (books .run) ≡ true
+  goes-on : noRoom bytes (books .live) (books .run) log ≡ false
+      → deskSound (books .desk) (books .live) (books .run) ≡ true
       → Testing bytes books log test.Passed
 
-testing : (bytes : List ℕ) (books : Held) (log : List ℕ) → Testing bytes books log (testedOf bytes books log)
+testing : (bytes : List ℕ) (books : Held) (log : List ℕ)
+    → Testing bytes books log (testedOf bytes books log)
 unfolding testedOf
 testing bytes books log = go (noRoom bytes (books .live) (books .run) log) (deskSound (books .desk) (books .live) (books .run)) refl refl
   where
-    go : (a b : Bool) → noRoom bytes (books .live) (books .run) log ≡ a → deskSound (books .desk) (books .live) (books .run) ≡ b
+    go : (a b : Bool) → noRoom bytes (books .live) (books .run) log ≡ a
+        → deskSound (books .desk) (books .live) (books .run) ≡ b
         → Testing bytes books log (cond a (test.Failed refusal.Room) (cond b test.Passed (test.Failed refusal.State)))
     go true b p q = no-room p
     go false false p q = unsound p q
     go false true p q = goes-on p q
 
 module _ (bytes : List ℕ) (books : Held) (log : List ℕ) where
-  is-sound : Testing bytes books log test.Passed → deskSound (books .desk) (books .live) (books .run) ≡ true
+  is-sound : Testing bytes books log test.Passed
+      → deskSound (books .desk) (books .live) (books .run) ≡ true
   is-sound (goes-on p q) = q
 
-  has-room : Testing bytes books log test.Passed → noRoom bytes (books .live) (books .run) log ≡ false
+  has-room : Testing bytes books log test.Passed
+      → noRoom bytes (books .live) (books .run) log ≡ false
   has-room (goes-on p q) = p
 
 neither : (a b : Bool) → (a || b) ≡ false → (a ≡ false) × (b ≡ false)
 neither false b e = (refl, e)
 neither true b e = let z : _≡_ {A = ℕ} 0 1 = cc in absurd (omega arith)
 
-pub passed-is : (bytes : List ℕ) (books : Held) (log : List ℕ) (x : Tested) → x ≡ test.Passed → x ≡ testedOf bytes books log
+pub passed-is : (bytes : List ℕ) (books : Held) (log : List ℕ) (x : Tested) → x ≡ test.Passed
+    → x ≡ testedOf bytes books log
     → testedOf bytes books log ≡ test.Passed
 passed-is bytes books log x p e = sym e ∙ p
 
@@ -175,12 +191,14 @@ module _ (bytes : List ℕ) (tray : Tray) (d : Desk) (live run log : List ℕ) (
       ∙ go (test.Failed why) (subst (λ x. Testing bytes (booksIn d live run) log x) (sym e ∙ p) (testing bytes (booksIn d live run) log)) refl
     where
       go : (t : Tested) → Testing bytes (booksIn d live run) log t → test.Failed why ≡ t
-          → results (record { said = said.Refused why; used = 0; log = 0; tray = tray; desk = d }) bytes live run log ≡ resultOf handed (guarded handed o)
+          → results (record { said = said.Refused why; used = 0; log = 0; tray = tray; desk = d }) bytes live run log
+          ≡ resultOf handed (guarded handed o)
       go t (no-room a) q = let z : why ≡ refusal.Room = cc in rw (z, a)
       go t (unsound a b) q = let z : why ≡ refusal.State = cc in rw (z, a, b)
       go t (goes-on a b) q = let z : _≡_ {A = ℕ} 0 1 = cc in absurd (omega arith)
 
-  left-passed : Steps bytes tray o → (r : Answer) (bytes′ live′ run′ log′ : List ℕ) → results r bytes′ live′ run′ log′ ≡ resultOf handed o
+  left-passed : Steps bytes tray o → (r : Answer) (bytes′ live′ run′ log′ : List ℕ)
+      → results r bytes′ live′ run′ log′ ≡ resultOf handed o
       → (x : Tested) → x ≡ test.Passed → x ≡ testedOf bytes (booksIn d live run) log
       → results r bytes′ live′ run′ log′ ≡ resultOf handed (guarded handed o)
   left-passed w r bytes′ live′ run′ log′ l x p e = l ∙ ap (resultOf handed) (sym step-is)
@@ -195,7 +213,8 @@ module _ (bytes : List ℕ) (tray : Tray) (d : Desk) (live run log : List ℕ) (
           go true q = refl
           go false q = sym (w .when-not (rooms bytes d live run log (sym e ∙ p) .0) q)
 
-  left-heard : Steps bytes tray o → (r : Answer) (bytes′ live′ run′ log′ : List ℕ) (heard : stream-answer.Answer)
+  left-heard : Steps bytes tray o
+      → (r : Answer) (bytes′ live′ run′ log′ : List ℕ) (heard : stream-answer.Answer)
       → results r bytes′ live′ run′ log′ ≡ moved (booksIn d live run) heard (heard .said) bytes′ log
       → heard ≡ stream.answerOf tray o → bytes′ ≡ stream.bytesOf bytes o
       → results r bytes′ live′ run′ log′ ≡ resultOf handed o
@@ -212,7 +231,8 @@ module _ (bytes : List ℕ) (tray : Tray) (d : Desk) (live run log input : List 
   call-failed = left-failed bytes tray d live run log (stream.called bytes tray input)
 
   pub call-passed : (r : Answer) (bytes′ live′ run′ log′ : List ℕ)
-      → results r bytes′ live′ run′ log′ ≡ resultOf (hands bytes tray d live run log) (stream.called bytes tray input)
+      → results r bytes′ live′ run′ log′
+      ≡ resultOf (hands bytes tray d live run log) (stream.called bytes tray input)
       → (x : Tested) → x ≡ test.Passed → x ≡ testedOf bytes (booksIn d live run) log
       → results r bytes′ live′ run′ log′ ≡ byCall (hands bytes tray d live run log) input
   unfolding callOutcome
@@ -221,7 +241,8 @@ module _ (bytes : List ℕ) (tray : Tray) (d : Desk) (live run log input : List 
   pub call-heard : (r : Answer) (bytes′ live′ run′ log′ : List ℕ) (heard : stream-answer.Answer)
       → results r bytes′ live′ run′ log′ ≡ moved (booksIn d live run) heard (heard .said) bytes′ log
       → heard ≡ stream.callAnswer bytes tray input → bytes′ ≡ stream.callBytes bytes tray input
-      → results r bytes′ live′ run′ log′ ≡ resultOf (hands bytes tray d live run log) (stream.called bytes tray input)
+      → results r bytes′ live′ run′ log′
+      ≡ resultOf (hands bytes tray d live run log) (stream.called bytes tray input)
   call-heard = left-heard bytes tray d live run log (stream.called bytes tray input) (call-steps bytes tray input)
 
 -- .. and `finish`
@@ -234,7 +255,8 @@ module _ (bytes : List ℕ) (tray : Tray) (d : Desk) (live run log : List ℕ) w
   finish-failed = left-failed bytes tray d live run log (stream.finished bytes tray)
 
   pub finish-passed : (r : Answer) (bytes′ live′ run′ log′ : List ℕ)
-      → results r bytes′ live′ run′ log′ ≡ resultOf (hands bytes tray d live run log) (stream.finished bytes tray)
+      → results r bytes′ live′ run′ log′
+      ≡ resultOf (hands bytes tray d live run log) (stream.finished bytes tray)
       → (x : Tested) → x ≡ test.Passed → x ≡ testedOf bytes (booksIn d live run) log
       → results r bytes′ live′ run′ log′ ≡ byFinish (hands bytes tray d live run log)
   unfolding finishOutcome
@@ -243,5 +265,6 @@ module _ (bytes : List ℕ) (tray : Tray) (d : Desk) (live run log : List ℕ) w
   pub finish-heard : (r : Answer) (bytes′ live′ run′ log′ : List ℕ) (heard : stream-answer.Answer)
       → results r bytes′ live′ run′ log′ ≡ moved (booksIn d live run) heard (heard .said) bytes′ log
       → heard ≡ stream.finishAnswer bytes tray → bytes′ ≡ stream.finishBytes bytes tray
-      → results r bytes′ live′ run′ log′ ≡ resultOf (hands bytes tray d live run log) (stream.finished bytes tray)
+      → results r bytes′ live′ run′ log′
+      ≡ resultOf (hands bytes tray d live run log) (stream.finished bytes tray)
   finish-heard = left-heard bytes tray d live run log (stream.finished bytes tray) (finish-steps bytes tray)

@@ -38,27 +38,32 @@ module _ (bytes live run log : List ℕ) where
   pub room-tray : length bytes < longestFrame → true ≡ noRoom bytes live run log
   room-tray h = rw (lt-ltb (length bytes) longestFrame h)
 
-  pub room-live : longestFrame ≤ length bytes → length live < bookBytes → true ≡ noRoom bytes live run log
+  pub room-live : longestFrame ≤ length bytes → length live < bookBytes
+      → true ≡ noRoom bytes live run log
   unfolding desk.noRoom
   room-live h k = rw (le-ltb (length bytes) longestFrame h, lt-ltb (length live) bookBytes k)
 
-  pub room-run : longestFrame ≤ length bytes → bookBytes ≤ length live → length run < bookBytes → true ≡ noRoom bytes live run log
+  pub room-run : longestFrame ≤ length bytes → bookBytes ≤ length live → length run < bookBytes
+      → true ≡ noRoom bytes live run log
   unfolding desk.noRoom
   room-run h k l = rw (le-ltb (length bytes) longestFrame h, le-ltb (length live) bookBytes k, lt-ltb (length run) bookBytes l)
 
-  pub room-log : longestFrame ≤ length bytes → bookBytes ≤ length live → bookBytes ≤ length run → ltb (length log) logRoom ≡ noRoom bytes live run log
+  pub room-log : longestFrame ≤ length bytes → bookBytes ≤ length live → bookBytes ≤ length run
+      → ltb (length log) logRoom ≡ noRoom bytes live run log
   unfolding desk.noRoom
   room-log h k l = rw (le-ltb (length bytes) longestFrame h, le-ltb (length live) bookBytes k, le-ltb (length run) bookBytes l)
 
 -- ---- test_lent
 
 module _ (bytes live run log : List ℕ) (d : Desk) (a : Bool) where
-  pub failed-room : a ≡ true → a ≡ noRoom bytes live run log → test.Failed refusal.Room ≡ testedOf bytes (booksIn d live run) log
+  pub failed-room : a ≡ true → a ≡ noRoom bytes live run log
+      → test.Failed refusal.Room ≡ testedOf bytes (booksIn d live run) log
   unfolding testedOf
   failed-room p e = let z : noRoom bytes live run log ≡ true = sym e ∙ p in rw z
 
   module _ (b : Bool) where
-    pub failed-state : not b ≡ true → b ≡ deskSound d live run → a ≡ false → a ≡ noRoom bytes live run log
+    pub failed-state : not b ≡ true → b ≡ deskSound d live run → a ≡ false
+        → a ≡ noRoom bytes live run log
         → test.Failed refusal.State ≡ testedOf bytes (booksIn d live run) log
     unfolding testedOf
     failed-state q f p e =
@@ -66,7 +71,8 @@ module _ (bytes live run log : List ℕ) (d : Desk) (a : Bool) where
         let y : deskSound d live run ≡ false = sym f ∙ not-true b q in
         rw (z, y)
 
-    pub passed : not b ≡ false → b ≡ deskSound d live run → a ≡ false → a ≡ noRoom bytes live run log
+    pub passed : not b ≡ false → b ≡ deskSound d live run → a ≡ false
+        → a ≡ noRoom bytes live run log
         → test.Passed ≡ testedOf bytes (booksIn d live run) log
     unfolding testedOf
     passed q f p e =
@@ -78,17 +84,20 @@ module _ (bytes live run log : List ℕ) (d : Desk) (a : Bool) where
 
 module _ (heard : stream-answer.Answer) (f : Frame) (t : Taken) where
   pub answered-accepted : (log : ℕ) → t .said ≡ says.Accepted log
-      → record { said = said.Accepted f; used = heard .used; log = log; tray = heard .tray; desk = t .desk } ≡ taken heard f t
+      → record { said = said.Accepted f; used = heard .used; log = log; tray = heard .tray; desk = t .desk }
+      ≡ taken heard f t
   answered-accepted log q = rw q
 
   pub answered-refused : (why : Refusal) → t .said ≡ says.Refused why
-      → record { said = said.FrameRefused f why; used = heard .used; log = 0; tray = heard .tray; desk = t .desk } ≡ taken heard f t
+      → record { said = said.FrameRefused f why; used = heard .used; log = 0; tray = heard .tray; desk = t .desk }
+      ≡ taken heard f t
   answered-refused why q = rw q
 
 -- ---- give
 
 -- an accepted frame's bytes are there
-pub frame-there : (f : Frame) (bytes : List ℕ) → checked (take (f .length) bytes) ≡ Accepted f → f .length ≡ length (take (f .length) bytes)
+pub frame-there : (f : Frame) (bytes : List ℕ) → checked (take (f .length) bytes) ≡ Accepted f
+    → f .length ≡ length (take (f .length) bytes)
 frame-there f bytes e =
     let h : f .length ≤ length (take (f .length) bytes) = accepted-length (take (f .length) bytes) f e .1 in
     sym (length-take-le (f .length) bytes (omega (arith, length-take (f .length) bytes)))
@@ -138,27 +147,34 @@ module _ (d : Desk) (live run log bytes : List ℕ) (heard : stream-answer.Answe
   abbrev moved-by : stream-said.Said → Result
   moved-by s = moved (booksIn d live run) heard s bytes log
 
-  pub step-frame : (f : Frame) (live′ run′ log′ : List ℕ) → results r bytes live′ run′ log′ ≡ moved-by (hears.Frame f)
+  pub step-frame : (f : Frame) (live′ run′ log′ : List ℕ)
+      → results r bytes live′ run′ log′ ≡ moved-by (hears.Frame f)
       → heard .said ≡ hears.Frame f → results r bytes live′ run′ log′ ≡ moved-by (heard .said)
   step-frame f live′ run′ log′ m q = m ∙ ap moved-by (sym q)
 
   -- what is no frame does not reach the desk
-  step-other : (s : stream-said.Said) → results r bytes live run log ≡ moved-by s → heard .said ≡ s → results r bytes live run log ≡ moved-by (heard .said)
+  step-other : (s : stream-said.Said) → results r bytes live run log ≡ moved-by s → heard .said ≡ s
+      → results r bytes live run log ≡ moved-by (heard .said)
   step-other s m q = m ∙ ap moved-by (sym q)
 
-  pub step-noise : (n : ℕ) → r ≡ untaken heard (said.Noise n) d → heard .said ≡ hears.Noise n → results r bytes live run log ≡ moved-by (heard .said)
+  pub step-noise : (n : ℕ) → r ≡ untaken heard (said.Noise n) d → heard .said ≡ hears.Noise n
+      → results r bytes live run log ≡ moved-by (heard .said)
   step-noise n e = step-other (hears.Noise n) (ap (λ r. results r bytes live run log) e)
 
-  pub step-hungry : r ≡ untaken heard said.Hungry d → heard .said ≡ hears.Hungry → results r bytes live run log ≡ moved-by (heard .said)
+  pub step-hungry : r ≡ untaken heard said.Hungry d → heard .said ≡ hears.Hungry
+      → results r bytes live run log ≡ moved-by (heard .said)
   step-hungry e = step-other hears.Hungry (ap (λ r. results r bytes live run log) e)
 
-  pub step-done : r ≡ untaken heard said.Done d → heard .said ≡ hears.Done → results r bytes live run log ≡ moved-by (heard .said)
+  pub step-done : r ≡ untaken heard said.Done d → heard .said ≡ hears.Done
+      → results r bytes live run log ≡ moved-by (heard .said)
   step-done e = step-other hears.Done (ap (λ r. results r bytes live run log) e)
 
-  pub step-refused : (why : Refusal) → r ≡ untaken heard (said.Refused why) d → heard .said ≡ hears.Refused why
+  pub step-refused : (why : Refusal) → r ≡ untaken heard (said.Refused why) d
+      → heard .said ≡ hears.Refused why
       → results r bytes live run log ≡ moved-by (heard .said)
   step-refused why e = step-other (hears.Refused why) (ap (λ r. results r bytes live run log) e)
 
 -- a frame that is told lies first
-pub frame-lies : (s : stream-said.Said) (f : Frame) (bytes : List ℕ) → Lies s bytes → s ≡ hears.Frame f → checked (take (f .length) bytes) ≡ Accepted f
+pub frame-lies : (s : stream-said.Said) (f : Frame) (bytes : List ℕ) → Lies s bytes
+    → s ≡ hears.Frame f → checked (take (f .length) bytes) ≡ Accepted f
 frame-lies s f bytes l q = subst (λ s. Lies s bytes) q l

@@ -28,7 +28,8 @@ use Rattle.prepare.specs.Prepare.{Handed, guarded, answerOf, booksOf, lo
 use Rattle.prepare.specs.Driver.{Sound, Tells}
 
 -- past ROOM and STATE the step is the stream's
-pub guarded-is : (handed : Handed) (o : stream.Outcome) → streaming.Ready (handed .bytes) (handed .tray) → Sound (handed .books)
+pub guarded-is : (handed : Handed) (o : stream.Outcome)
+    → streaming.Ready (handed .bytes) (handed .tray) → Sound (handed .books)
     → logRoom ≤ length (handed .log) → guarded handed o ≡ o
 unfolding desk.noRoom
 guarded-is handed o r s h =
@@ -41,17 +42,20 @@ guarded-is handed o r s h =
 -- ---- of a frame that lies first among the bytes, with its entries first in the log
 
 by-entries : (log bytes : List ℕ) (f : Frame) (b entries : List ℕ) → b ≡ take (f .length) bytes
-    → uncut.accepted f b entries ≡ uncut.accepted f (take (f .length) bytes) (take (length entries) (written entries log))
+    → uncut.accepted f b entries
+    ≡ uncut.accepted f (take (f .length) bytes) (take (length entries) (written entries log))
 by-entries log bytes f b entries q = ap₂ (uncut.accepted f) q (sym (take-at entries (drop (length entries) log) (length entries) refl))
 
-by-verdict : (books : Held) (log bytes : List ℕ) (f : Frame) (b : List ℕ) (v : desk.Verdict) → b ≡ take (f .length) bytes
+by-verdict : (books : Held) (log bytes : List ℕ) (f : Frame) (b : List ℕ) (v : desk.Verdict)
+    → b ≡ take (f .length) bytes
     → Tells (saidOf (toldBy books f b v)) (length (entriesOf (toldBy books f b v))) bytes (written (entriesOf (toldBy books f b v)) log) (toldBy books f b v)
 by-verdict books log bytes f b (desk.refused why) q = ap (λ b. uncut.refused f b why) q
 by-verdict books log bytes f b (desk.defines book live) q = by-entries log bytes f b _ q
 by-verdict books log bytes f b (desk.continues book message) q = by-entries log bytes f b _ q
 by-verdict books log bytes f b (desk.opens tag message) q = by-entries log bytes f b _ q
 
-not-said : (books : Held) (f : Frame) (b : List ℕ) (v : desk.Verdict) → (saidOf (toldBy books f b v) ≡ said.Hungry) ⊎ (saidOf (toldBy books f b v) ≡ said.Done) → ⊥
+not-said : (books : Held) (f : Frame) (b : List ℕ) (v : desk.Verdict)
+    → (saidOf (toldBy books f b v) ≡ said.Hungry) ⊎ (saidOf (toldBy books f b v) ≡ said.Done) → ⊥
 not-said books f b (desk.refused why) (inl q) = let z : _≡_ {A = ℕ} 0 1 = cc in omega arith
 not-said books f b (desk.defines book live) (inl q) = let z : _≡_ {A = ℕ} 0 1 = cc in omega arith
 not-said books f b (desk.continues book message) (inl q) = let z : _≡_ {A = ℕ} 0 1 = cc in omega arith
@@ -61,13 +65,15 @@ not-said books f b (desk.defines book live) (inr q) = let z : _≡_ {A = ℕ} 0 
 not-said books f b (desk.continues book message) (inr q) = let z : _≡_ {A = ℕ} 0 1 = cc in omega arith
 not-said books f b (desk.opens tag message) (inr q) = let z : _≡_ {A = ℕ} 0 1 = cc in omega arith
 
-never : (books : Held) (e : Event) → (saidOf (toldOf books e) ≡ said.Hungry) ⊎ (saidOf (toldOf books e) ≡ said.Done) → ⊥
+never : (books : Held) (e : Event)
+    → (saidOf (toldOf books e) ≡ said.Hungry) ⊎ (saidOf (toldOf books e) ≡ said.Done) → ⊥
 never books (frame f b) q = not-said books f b (verdictOn books b) q
 never books (noise n) (inl q) = let z : _≡_ {A = ℕ} 0 1 = cc in omega arith
 never books (noise n) (inr q) = let z : _≡_ {A = ℕ} 0 1 = cc in omega arith
 
 -- what is told is one thing
-same-told : (w : Said) (n : ℕ) (bytes log : List ℕ) (t t′ : Told) → Tells w n bytes log t → Tells w n bytes log t′ → t ≡ t′
+same-told : (w : Said) (n : ℕ) (bytes log : List ℕ) (t t′ : Told) → Tells w n bytes log t
+    → Tells w n bytes log t′ → t ≡ t′
 same-told (said.Accepted header) n bytes log t t′ p q = p ∙ sym q
 same-told (said.FrameRefused header why) n bytes log t t′ p q = p ∙ sym q
 same-told (said.Noise count) n bytes log t t′ p q = p ∙ sym q
@@ -85,15 +91,18 @@ Hears bytes tray o e = streaming.Tells (stream.answerOf tray o .said) (stream.by
 
 module _ (bytes : List ℕ) (tray : Tray) where
   -- the event is the one that is heard, and it is told as it is
-  the-event : (e : Event) (c : stream.Contents) (n : ℕ) → Good (stream.told e c n) → (e′ : Event) → Hears bytes tray (stream.told e c n) e′ → e ≡ e′
+  the-event : (e : Event) (c : stream.Contents) (n : ℕ) → Good (stream.told e c n) → (e′ : Event)
+      → Hears bytes tray (stream.told e c n) e′ → e ≡ e′
   the-event e c n g e′ k = event-step (λ x y. x) (λ _ _. e) bytes tray [] (λ _. e) (stream.told e c n) g (λ _. refl) e′ k []
 
-  pub itself : (e : Event) (c : stream.Contents) (n : ℕ) → Good (stream.told e c n) → Hears bytes tray (stream.told e c n) e
+  pub itself : (e : Event) (c : stream.Contents) (n : ℕ) → Good (stream.told e c n)
+      → Hears bytes tray (stream.told e c n) e
   itself (frame f b) c n g = the-event (frame f b) c n g (frame f (take (f .length) (stream.laid bytes (c .held)))) refl
   itself (noise k) c n g = refl
 
 module _ (handed : Handed) where
-  told-itself : (e : Event) (c : stream.Contents) (n : ℕ) → Good (stream.told e c n) → Says handed (stream.told e c n) (toldOf (handed .books) e)
+  told-itself : (e : Event) (c : stream.Contents) (n : ℕ) → Good (stream.told e c n)
+      → Says handed (stream.told e c n) (toldOf (handed .books) e)
   told-itself (frame f b) c n g =
       let q : frame f b ≡ frame f (take (f .length) (stream.laid (handed .bytes) (c .held))) = itself (handed .bytes) (handed .tray) (frame f b) c n g in
       by-verdict (handed .books) (handed .log) (stream.laid (handed .bytes) (c .held)) f b (verdictOn (handed .books) b) cc
@@ -108,32 +117,37 @@ module _ (handed : Handed) where
   says (stream.hungry c n) g e k = absurd k
   says (stream.done c) g e k = absurd k
 
-  hears : (o : stream.Outcome) → Good o → (t : Told) → Says handed o t → (e : Event) × Hears (handed .bytes) (handed .tray) o e
+  hears : (o : stream.Outcome) → Good o → (t : Told) → Says handed o t
+      → (e : Event) × Hears (handed .bytes) (handed .tray) o e
   hears (stream.refused r) g t k = absurd g
   hears (stream.told e c n) g t k = (e, itself (handed .bytes) (handed .tray) e c n g)
   hears (stream.hungry c n) g t k = absurd k
   hears (stream.done c) g t k = absurd k
 
 module _ (handed : Handed) where
-  hungry-so : (o : stream.Outcome) → answerOf handed o .said ≡ said.Hungry → (stream.answerOf (handed .tray) o .said ≡ heard.Hungry) × (booksOf handed o ≡ handed .books)
+  hungry-so : (o : stream.Outcome) → answerOf handed o .said ≡ said.Hungry
+      → (stream.answerOf (handed .tray) o .said ≡ heard.Hungry) × (booksOf handed o ≡ handed .books)
   hungry-so (stream.refused r) q = let z : _≡_ {A = ℕ} 0 1 = cc in absurd (omega arith)
   hungry-so (stream.told e c n) q = absurd (never (handed .books) e (inl q))
   hungry-so (stream.hungry c n) q = (refl, refl)
   hungry-so (stream.done c) q = let z : _≡_ {A = ℕ} 0 1 = cc in absurd (omega arith)
 
-  done-so : (o : stream.Outcome) → answerOf handed o .said ≡ said.Done → (stream.answerOf (handed .tray) o .said ≡ heard.Done) × (booksOf handed o ≡ handed .books)
+  done-so : (o : stream.Outcome) → answerOf handed o .said ≡ said.Done
+      → (stream.answerOf (handed .tray) o .said ≡ heard.Done) × (booksOf handed o ≡ handed .books)
   done-so (stream.refused r) q = let z : _≡_ {A = ℕ} 0 1 = cc in absurd (omega arith)
   done-so (stream.told e c n) q = absurd (never (handed .books) e (inr q))
   done-so (stream.hungry c n) q = let z : _≡_ {A = ℕ} 0 1 = cc in absurd (omega arith)
   done-so (stream.done c) q = (refl, refl)
 
-  so-hungry : (o : stream.Outcome) → stream.answerOf (handed .tray) o .said ≡ heard.Hungry → (answerOf handed o .said ≡ said.Hungry) × (booksOf handed o ≡ handed .books)
+  so-hungry : (o : stream.Outcome) → stream.answerOf (handed .tray) o .said ≡ heard.Hungry
+      → (answerOf handed o .said ≡ said.Hungry) × (booksOf handed o ≡ handed .books)
   so-hungry (stream.refused r) q = let z : _≡_ {A = ℕ} 0 1 = cc in absurd (omega arith)
   so-hungry (stream.told e c n) q = absurd (stream-never e (inl q))
   so-hungry (stream.hungry c n) q = (refl, refl)
   so-hungry (stream.done c) q = let z : _≡_ {A = ℕ} 0 1 = cc in absurd (omega arith)
 
-  so-done : (o : stream.Outcome) → stream.answerOf (handed .tray) o .said ≡ heard.Done → (answerOf handed o .said ≡ said.Done) × (booksOf handed o ≡ handed .books)
+  so-done : (o : stream.Outcome) → stream.answerOf (handed .tray) o .said ≡ heard.Done
+      → (answerOf handed o .said ≡ said.Done) × (booksOf handed o ≡ handed .books)
   so-done (stream.refused r) q = let z : _≡_ {A = ℕ} 0 1 = cc in absurd (omega arith)
   so-done (stream.told e c n) q = absurd (stream-never e (inr q))
   so-done (stream.hungry c n) q = let z : _≡_ {A = ℕ} 0 1 = cc in absurd (omega arith)
@@ -148,7 +162,8 @@ module _ (handed : Handed) (o o′ : stream.Outcome) (q : o ≡ o′) where
         → R (stream.bytesOf (handed .bytes) o′) (stream.answerOf (handed .tray) o′ .tray) (stream.answerOf (handed .tray) o′ .used) (booksOf handed o′)
     forth x = go o′ (subst (λ o. R (stream.bytesOf (handed .bytes) o) (answerOf handed o .tray) (answerOf handed o .used) (booksOf handed o)) q x)
       where
-        go : (o : stream.Outcome) → R (stream.bytesOf (handed .bytes) o) (answerOf handed o .tray) (answerOf handed o .used) (booksOf handed o)
+        go : (o : stream.Outcome)
+            → R (stream.bytesOf (handed .bytes) o) (answerOf handed o .tray) (answerOf handed o .used) (booksOf handed o)
             → R (stream.bytesOf (handed .bytes) o) (stream.answerOf (handed .tray) o .tray) (stream.answerOf (handed .tray) o .used) (booksOf handed o)
         go (stream.refused r) x = x
         go (stream.told e c n) x = x
@@ -159,7 +174,8 @@ module _ (handed : Handed) (o o′ : stream.Outcome) (q : o ≡ o′) where
         → R (stream.bytesOf (handed .bytes) o) (answerOf handed o .tray) (answerOf handed o .used) (booksOf handed o)
     back x = subst (λ o. R (stream.bytesOf (handed .bytes) o) (answerOf handed o .tray) (answerOf handed o .used) (booksOf handed o)) (sym q) (go o′ x)
       where
-        go : (o : stream.Outcome) → R (stream.bytesOf (handed .bytes) o) (stream.answerOf (handed .tray) o .tray) (stream.answerOf (handed .tray) o .used) (booksOf handed o)
+        go : (o : stream.Outcome)
+            → R (stream.bytesOf (handed .bytes) o) (stream.answerOf (handed .tray) o .tray) (stream.answerOf (handed .tray) o .used) (booksOf handed o)
             → R (stream.bytesOf (handed .bytes) o) (answerOf handed o .tray) (answerOf handed o .used) (booksOf handed o)
         go (stream.refused r) x = x
         go (stream.told e c n) x = x
@@ -186,14 +202,18 @@ module _ (handed : Handed) (o o′ : stream.Outcome) (q : o ≡ o′) where
       (subst (λ o. Says handed o (toldOf (handed .books) e)) (sym q) (w .0), w .1)
 
   -- hungry and done are the stream's
-  pub is-hungry : answerOf handed o .said ≡ said.Hungry → (stream.answerOf (handed .tray) o′ .said ≡ heard.Hungry) × (booksOf handed o′ ≡ handed .books)
+  pub is-hungry : answerOf handed o .said ≡ said.Hungry
+      → (stream.answerOf (handed .tray) o′ .said ≡ heard.Hungry) × (booksOf handed o′ ≡ handed .books)
   is-hungry k = hungry-so handed o′ (ap (λ o. answerOf handed o .said) (sym q) ∙ k)
 
-  pub is-done : answerOf handed o .said ≡ said.Done → (stream.answerOf (handed .tray) o′ .said ≡ heard.Done) × (booksOf handed o′ ≡ handed .books)
+  pub is-done : answerOf handed o .said ≡ said.Done
+      → (stream.answerOf (handed .tray) o′ .said ≡ heard.Done) × (booksOf handed o′ ≡ handed .books)
   is-done k = done-so handed o′ (ap (λ o. answerOf handed o .said) (sym q) ∙ k)
 
-  pub hungry-is : stream.answerOf (handed .tray) o′ .said ≡ heard.Hungry → (answerOf handed o .said ≡ said.Hungry) × (booksOf handed o′ ≡ handed .books)
+  pub hungry-is : stream.answerOf (handed .tray) o′ .said ≡ heard.Hungry
+      → (answerOf handed o .said ≡ said.Hungry) × (booksOf handed o′ ≡ handed .books)
   hungry-is k = let w = so-hungry handed o′ k in (ap (λ o. answerOf handed o .said) q ∙ w .0, w .1)
 
-  pub done-is : stream.answerOf (handed .tray) o′ .said ≡ heard.Done → (answerOf handed o .said ≡ said.Done) × (booksOf handed o′ ≡ handed .books)
+  pub done-is : stream.answerOf (handed .tray) o′ .said ≡ heard.Done
+      → (answerOf handed o .said ≡ said.Done) × (booksOf handed o′ ≡ handed .books)
   done-is k = let w = so-done handed o′ k in (ap (λ o. answerOf handed o .said) q ∙ w .0, w .1)
