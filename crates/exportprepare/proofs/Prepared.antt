@@ -22,26 +22,26 @@ use Rattle.export.proofs.Laws.{laid-none}
 use Rattle.exportdesk.specs.States.{deskRoom, deskIn, deskOf}
 use Rattle.exportprepare.specs.Prepares.{Lent, lends, toldRoom, noRoom, eventOf, toldSaid, toldAnswer, headerSaid, stateSaid, numberBy, lentBy}
 use Rattle.exportprepare.specs.Refusals.{neither}
-use Rattle.exportprepare.specs.Puts.{StatesThere, AllThere, Puts}
+use Rattle.exportprepare.specs.Puts.{Judged, StatesThere, AllThere, Puts}
 
 -- ---- lacks_room
 
 module _ (tray desk told header : List ℕ) where
-  pub room-tray : length tray < trayRoom → true ≡ noRoom tray desk told header
+  pub room-tray : length tray < trayRoom → Judged true tray desk told header
   unfolding noRoom
-  room-tray h = rw (lt-ltb (length tray) trayRoom h)
+  room-tray h = record { is-judged = rw (lt-ltb (length tray) trayRoom h) }
 
-  pub room-desk : trayRoom ≤ length tray → length desk < deskRoom → true ≡ noRoom tray desk told header
+  pub room-desk : trayRoom ≤ length tray → length desk < deskRoom → Judged true tray desk told header
   unfolding noRoom
-  room-desk h k = rw (le-ltb (length tray) trayRoom h, lt-ltb (length desk) deskRoom k)
+  room-desk h k = record { is-judged = rw (le-ltb (length tray) trayRoom h, lt-ltb (length desk) deskRoom k) }
 
-  pub room-told : trayRoom ≤ length tray → deskRoom ≤ length desk → length told < toldRoom → true ≡ noRoom tray desk told header
+  pub room-told : trayRoom ≤ length tray → deskRoom ≤ length desk → length told < toldRoom → Judged true tray desk told header
   unfolding noRoom
-  room-told h k l = rw (le-ltb (length tray) trayRoom h, le-ltb (length desk) deskRoom k, lt-ltb (length told) toldRoom l)
+  room-told h k l = record { is-judged = rw (le-ltb (length tray) trayRoom h, le-ltb (length desk) deskRoom k, lt-ltb (length told) toldRoom l) }
 
-  pub room-header : trayRoom ≤ length tray → deskRoom ≤ length desk → toldRoom ≤ length told → ltb (length header) headerRoom ≡ noRoom tray desk told header
+  pub room-header : trayRoom ≤ length tray → deskRoom ≤ length desk → toldRoom ≤ length told → Judged (ltb (length header) headerRoom) tray desk told header
   unfolding noRoom
-  room-header h k l = rw (le-ltb (length tray) trayRoom h, le-ltb (length desk) deskRoom k, le-ltb (length told) toldRoom l)
+  room-header h k l = record { is-judged = rw (le-ltb (length tray) trayRoom h, le-ltb (length desk) deskRoom k, le-ltb (length told) toldRoom l) }
 
 -- ---- put_told
 
@@ -102,12 +102,12 @@ module _ (bytes live run log bytes′ live′ run′ log′ ts ds : List ℕ) (t
 
 -- ---- the calls for other languages
 
-module _ (tray desk told header : List ℕ) (b : Bool) (e : b ≡ noRoom tray desk told header) (h : b ≡ false) where
+module _ (tray desk told header : List ℕ) (b : Bool) (e : Judged b tray desk told header) (h : b ≡ false) where
   -- what telling wants, and what the call below wants
   pub all-there : AllThere tray desk told header
   unfolding noRoom
   all-there =
-      let x = neither (ltb (length tray) trayRoom) _ (sym e ∙ h) in
+      let x = neither (ltb (length tray) trayRoom) _ (sym (e .is-judged) ∙ h) in
       let y = neither (ltb (length desk) deskRoom) _ (x .1) in
       let z = neither (ltb (length told) toldRoom) _ (y .1) in
       record {
@@ -121,26 +121,26 @@ module _ (tray desk told header : List ℕ) (b : Bool) (e : b ≡ noRoom tray de
   states-there = record { tray-room = all-there .tray-room; desk-room = all-there .desk-room }
 
 -- a call or a finish: what it comes to by what the call below leaves
-module _ (bytes tray desk live run log told header : List ℕ) (result : Result) (b : Bool) (e : b ≡ noRoom tray desk told header) where
+module _ (bytes tray desk live run log told header : List ℕ) (result : Result) (b : Bool) (e : Judged b tray desk told header) where
   abbrev lent : Lent
   lent = lends bytes tray desk live run log told header
 
   pub short-number : b ≡ true → 9 ≡ numberBy lent result
   unfolding numberBy
-  short-number h = let z : noRoom tray desk told header ≡ true = sym e ∙ h in rw z
+  short-number h = let z : noRoom tray desk told header ≡ true = sym (e .is-judged) ∙ h in rw z
 
   pub short-leaves : b ≡ true → lent ≡ lentBy lent result
   unfolding lentBy
-  short-leaves h = let z : noRoom tray desk told header ≡ true = sym e ∙ h in rw z
+  short-leaves h = let z : noRoom tray desk told header ≡ true = sym (e .is-judged) ∙ h in rw z
 
   module _ (h : b ≡ false) (a : Answer) (bytes′ tray′ desk′ live′ run′ log′ told′ header′ : List ℕ) (n : ℕ)
       (t : Puts a tray desk told header n tray′ desk′ told′ header′) (q : results a bytes′ live′ run′ log′ ≡ result) where
     pub told-number : n ≡ numberBy lent result
     unfolding numberBy
-    told-number = let z : noRoom tray desk told header ≡ false = sym e ∙ h in rw (z, ← q) (t .number-is)
+    told-number = let z : noRoom tray desk told header ≡ false = sym (e .is-judged) ∙ h in rw (z, ← q) (t .number-is)
 
     pub told-leaves : lends bytes′ tray′ desk′ live′ run′ log′ told′ header′ ≡ lentBy lent result
     unfolding lentBy
     told-leaves =
-        let z : noRoom tray desk told header ≡ false = sym e ∙ h in
+        let z : noRoom tray desk told header ≡ false = sym (e .is-judged) ∙ h in
         rw (z, ← q, t .tray-is, t .desk-is, t .told-is, t .header-is)

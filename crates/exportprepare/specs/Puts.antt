@@ -1,5 +1,6 @@
 -- Mirror: what the steps of a call of `prepare` leave. Serves proofs.
 use mathlib.Core.Path.{_≡_}
+use mathlib.Core.Bool.{Bool}
 use mathlib.Core.List.{List}
 use Prim.Native.Nat.{ℕ, _≤_}
 use lib.ListN.{length}
@@ -8,7 +9,11 @@ use Rattle.export.specs.Frames.{headerRoom}
 use Rattle.export.specs.Streams.{trayRoom, trayOf}
 use Rattle.prepare.specs.declared.Answer.{Answer}
 use Rattle.exportdesk.specs.States.{deskRoom, deskOf}
-use Rattle.exportprepare.specs.Prepares.{toldRoom, toldAnswer, stateSaid, headerSaid}
+use Rattle.exportprepare.specs.Prepares.{toldRoom, noRoom, toldAnswer, stateSaid, headerSaid}
+
+-- whether one of the slices of numbers is short
+pub record Judged (answer : Bool) (tray desk told header : List ℕ) : Type 0 where
+  pub is-judged : answer ≡ noRoom tray desk told header
 
 -- the slices of numbers have their rooms: of both states, and of all four
 pub record StatesThere (tray desk : List ℕ) : Type 0 where

@@ -6,8 +6,8 @@ ghost use Rattle.prepare.specs.Prepare.{hands, results, byCall, byFinish};
 ghost use Rattle.export.specs.Numbers.{laid};
 ghost use Rattle.export.specs.Streams.{trayRoom, trayIn, trayOf};
 ghost use Rattle.exportdesk.specs.States.{deskRoom, deskIn, deskOf};
-ghost use Rattle.exportprepare.specs.Prepares.{lends, toldRoom, noRoom, eventOf, callNumber, callLeaves, finishNumber, finishLeaves};
-ghost use Rattle.exportprepare.specs.Puts.{StatesThere, AllThere, Puts};
+ghost use Rattle.exportprepare.specs.Prepares.{lends, toldRoom, eventOf, callNumber, callLeaves, finishNumber, finishLeaves};
+ghost use Rattle.exportprepare.specs.Puts.{Judged, StatesThere, AllThere, Puts};
 use export::frames::HEADER;
 use export::frames::put_header;
 use export::numbers::ROOM;
@@ -29,7 +29,7 @@ const TOLD: usize = 5;
 
 // A slice of numbers is under its stated size.
 fn lacks_room(tray: &[u64], desk: &[u64], told: &[u64], header: &[u64]) -> bool
-    ensures { λ r. ⌜ r ≡ noRoom (now (tray .entry)) (now (desk .entry)) (now (told .entry)) (now (header .entry)) ⌝ }
+    ensures { λ r. ⌜ Judged r (now (tray .entry)) (now (desk .entry)) (now (told .entry)) (now (header .entry)) ⌝ }
 {
     if tray.len() < TRAY {
         return true;
