@@ -1,15 +1,19 @@
 -- Serves proofs, and is proved: one law for each step of the code, in the code's own terms. Assumes nothing.
-use mathlib.Core.Path.{_≡_, sym, ap, ap₂, _∙_, subst}
+use mathlib.Core.Bool.{Bool, true, false, not}
+use mathlib.Core.Path.{_≡_, refl, sym, ap, ap₂, _∙_, subst}
 use mathlib.Core.List.{List}
 use Prim.Native.Nat.{ℕ, _+_, _-_, _*_, _/_, _%_, _^_, _≤_, _<_}
-use native.Mathlib.Nat.{add-mul, mul-assoc, mod-lt}
+use native.Mathlib.Nat.{add-mul, add-zero, div-one, mul-assoc, mod-lt, sub-self}
 use native.Mathlib.Omega.{arith}
+use borrow.Author.Tests.{not-true, not-false}
 use lib.Bits.{bitAnd, bitOr, and-high, and-mask, or-shifted}
-use lib.ListN.{length, getD, set}
+use lib.ListN.{length, getD, set, length-set, take-append-drop}
 use lib.Pow.{pow-add, pow-pos, shl-exact, shl-lt, shl-shr, shr-lt, shr-shr, split, high, high-ones, mod-pow-add, ones-lt, ones-split}
 use lib.Pow.{field as middle}
-use Rattle.bits.specs.Bits.{toBits, Bytes, field, got, putTo, leaves}
-use Rattle.bits.specs.Laws.{placed, more-lt, appended, byte-put, field-byte, field-lt, field-part, field-split, got-there, leaves-there, put-back, put-join, put-mod}
+use mir.Syntax.{w8}
+use mir.Val.{Fits}
+use Rattle.bits.specs.Bits.{toBits, bitsOf, number, Bytes, field, there, got, putTo, leaves}
+use Rattle.bits.specs.Laws.{placed, InOneWord, more-lt, appended, byte-put, field-byte, field-lt, field-part, field-split, length-toBits, is-there, not-there, there-width, there-end, got-there, got-not, leaves-there, leaves-not, put-back, put-join, put-mod}
 
 -- ---- words
 
@@ -43,6 +47,22 @@ old-bits v n m mask e h =
 pub new-code : (code n m mask : ℕ) → mask ≡ 2 ^ n - 1 → n + m ≤ 64 → bitAnd code mask * 2 ^ m % 2 ^ 64 ≡ code % 2 ^ n * 2 ^ m
 new-code code n m mask e h =
     ap (λ (z : ℕ). z * 2 ^ m % 2 ^ 64) (ap (λ (z : ℕ). bitAnd code z) e ∙ and-mask code n) ∙ shl-exact n m 64 (mod-lt code (pow-pos n)) h
+
+-- `v - (v & (mask << m)) + ((code & mask) << m)`
+module _ (v n m code mask : ℕ) (ones : mask ≡ 2 ^ n - 1) (all : n + m ≤ 64) where
+  pub old-under : bitAnd v (mask * 2 ^ m % 2 ^ 64) ≤ v
+  old-under = omega (arith, old-bits v n m mask ones all, old-le v n m)
+
+  pub word-placed : v - bitAnd v (mask * 2 ^ m % 2 ^ 64) + bitAnd code mask * 2 ^ m % 2 ^ 64 ≡ placed v n m (code % 2 ^ n)
+  word-placed =
+      ap₂ (λ (y z : ℕ). v - y + z) (old-bits v n m mask ones all) (new-code code n m mask ones all) ∙ put-word v n m (code % 2 ^ n)
+
+  pub word-fits : v < 2 ^ 64 → v - bitAnd v (mask * 2 ^ m % 2 ^ 64) + bitAnd code mask * 2 ^ m % 2 ^ 64 < 2 ^ 64
+  word-fits h =
+      let o : ℕ = 64 - (n + m) in
+      let e : o + (n + m) ≡ 64 = omega arith in
+      let small : v < 2 ^ (o + (n + m)) = rw e h in
+      omega (arith, word-placed, rw e at (new-lt o n m v (code % 2 ^ n) (mod-lt code (pow-pos n)) small))
 
 -- `(v << o) >> (64 - w)`
 pub cut : (v o w m : ℕ) → o + (w + m) ≡ 64 → v * 2 ^ o % 2 ^ 64 / 2 ^ (64 - w) ≡ v / 2 ^ m % 2 ^ w
@@ -147,3 +167,180 @@ module _ (s : List ℕ) (pos w v : ℕ) (some : 0 < w) (ends : pos % 8 + w ≤ 6
       ∙ put-back s p o w m code (omega arith)
       ∙ ap (λ (z : ℕ). putTo l z w code) at
       ∙ sym (leaves-there s pos w code (omega arith) (omega arith))
+
+-- the same, where the test for one word says that they do
+module _ {s : List ℕ} {pos w : ℕ} {r : Bool} (t : InOneWord s pos w r) (yes : r ≡ true) where
+  says : (0 < w) × (pos % 8 + w ≤ 64) × (pos / 8 + 8 ≤ length s)
+  says = t .says yes
+
+  pub word-here : pos / 8 + 8 ≤ length s
+  word-here = says .2
+
+  pub word-there : true ≡ there s pos w
+  word-there = let h = says in sym (is-there s pos w (omega arith) (omega arith))
+
+  pub word-some : 0 < w
+  word-some = says .0
+
+  pub word-width : w ≤ 64
+  word-width = let h = says in omega arith
+
+  pub word-left : w ≤ 64 - pos % 8
+  word-left = let h = says in omega arith
+
+  pub word-all : w + (64 - pos % 8 - w) ≤ 64
+  word-all = let h = says in omega arith
+
+  pub word-shift : 64 - w < 64
+  word-shift = let h = says in omega arith
+
+  pub get-by-word : (v : ℕ) → v ≡ field s (8 * (pos / 8)) 64 → v * 2 ^ (pos % 8) % 2 ^ 64 / 2 ^ (64 - w) ≡ got s pos w
+  get-by-word v e = let h = says in get-word s pos w v (h .0) (h .1) (h .2) e
+
+  pub put-by-word : (v code x : ℕ) (u : List ℕ) → v ≡ field s (8 * (pos / 8)) 64 → x ≡ placed v w (64 - pos % 8 - w) (code % 2 ^ w)
+      → toBits u ≡ putTo (toBits s) (8 * (pos / 8)) 64 x
+      → toBits u ≡ leaves s pos w code
+  put-by-word v code x u e = let h = says in put-in-word s pos w v (h .0) (h .1) (h .2) e code x u
+
+-- ---- whether the bits are there, test by test
+
+module _ (s : List ℕ) (pos w : ℕ) where
+  pub too-many : 64 < w → false ≡ there s pos w
+  too-many h = sym (not-there s pos w (λ k. omega arith))
+
+  pub starts-behind : length s < pos / 8 → false ≡ there s pos w
+  starts-behind h = sym (not-there s pos w (λ k. omega arith))
+
+  pub ends-behind : pos / 8 ≤ length s → length s - pos / 8 < (pos % 8 + w + 7) / 8 → false ≡ there s pos w
+  ends-behind h k = sym (not-there s pos w (λ q. omega arith))
+
+  pub ends-inside : w ≤ 64 → pos / 8 ≤ length s → (pos % 8 + w + 7) / 8 ≤ length s - pos / 8 → true ≡ there s pos w
+  ends-inside h k q = sym (is-there s pos w h (omega arith))
+
+-- ---- a byte at a time
+
+-- where they are not there
+module _ (s : List ℕ) (pos w : ℕ) (r : Bool) (e : r ≡ there s pos w) (no : not r ≡ true) where
+  away : there s pos w ≡ false
+  away = sym e ∙ not-true r no
+
+  pub not-here : false ≡ there s pos w
+  not-here = sym away
+
+  pub nothing-got : 0 ≡ got s pos w
+  nothing-got = sym (got-not s pos w away)
+
+  pub nothing-put : (code : ℕ) → toBits s ≡ leaves s pos w code
+  nothing-put code = sym (leaves-not s pos w code away)
+
+-- what is read so far is the field of the first k bits
+pub record Reading (s : List ℕ) (pos w acc k : ℕ) : Type 0 where
+  pub width : w ≤ 64
+  pub ends : pos + w ≤ 8 * length s
+  pub some : k ≤ w
+  pub read : acc ≡ field s pos k
+
+-- the first k bits of the code are put
+pub record Writing (s₀ : List ℕ) (pos w code : ℕ) (s : List ℕ) (k : ℕ) : Type 0 where
+  pub width : w ≤ 64
+  pub ends : pos + w ≤ 8 * length s₀
+  pub some : k ≤ w
+  pub same : length s ≡ length s₀
+  pub put : toBits s ≡ putTo (toBits s₀) pos k (code / 2 ^ (w - k))
+
+module _ (s : List ℕ) (pos w : ℕ) (r : Bool) (e : r ≡ there s pos w) (yes : not r ≡ false) where
+  here : there s pos w ≡ true
+  here = sym e ∙ not-false r yes
+
+  pub reading-first : Reading s pos w 0 0
+  unfolding field number
+  reading-first = record { width = there-width s pos w here; ends = there-end s pos w here; some = omega arith; read = refl }
+
+  pub writing-first : (code : ℕ) → Writing s pos w code s 0
+  unfolding bitsOf
+  writing-first code =
+      record {
+        width = there-width s pos w here;
+        ends = there-end s pos w here;
+        some = omega arith;
+        same = refl;
+        put = rw add-zero (sym (take-append-drop pos (toBits s)));
+      }
+
+-- a step takes the next n bits, which lie in one byte
+pub reading-on : (s : List ℕ) (pos w acc k n b mask : ℕ) → Reading s pos w acc k → ((i : ℕ) → Fits w8 (getD s i 0)) → k < w
+    → (0 < n) × ((pos % 8 + k) % 8 + n ≤ 8) × (n ≤ w - k) → b ≡ getD s (pos / 8 + (pos % 8 + k) / 8) 0 → mask ≡ 2 ^ n - 1
+    → Reading s pos w (bitOr (acc * 2 ^ n % 2 ^ 64) (bitAnd (b / 2 ^ (8 - (pos % 8 + k) % 8 - n)) mask)) (k + n)
+reading-on s pos w acc k n b mask h bytes less c eb em =
+    let at : ℕ = pos % 8 + k in
+    let q : ℕ = pos / 8 + at / 8 in
+    let m : ℕ = 8 - at % 8 - n in
+    let next : bitAnd (b / 2 ^ m) mask ≡ field s (pos + k) n
+    = ap (λ (z : ℕ). bitAnd (b / 2 ^ m) z) em
+    ∙ and-mask (b / 2 ^ m) n
+    ∙ ap (λ (z : ℕ). z / 2 ^ m % 2 ^ n) eb
+    ∙ sym (field-in-byte (record { byte = λ i. bytes i .fits }) (pos + k) q (at % 8) n m (omega arith) (omega arith) (omega arith)) in
+    record {
+      width = h .width;
+      ends = h .ends;
+      some = omega arith;
+      read = field-more s pos (pos + k) k n acc _ refl (omega arith) (omega arith) (h .read) next;
+    }
+
+pub reading-end : {s : List ℕ} {pos w acc k : ℕ} → Reading s pos w acc k → w ≤ k → acc ≡ got s pos w
+reading-end {s} {pos} {w} {acc} {k} h e =
+    let all : k ≡ w = omega arith in
+    h .read ∙ ap (λ (x : ℕ). field s pos x) all ∙ sym (got-there s pos w (h .width) (h .ends))
+
+pub writing-on : (s₀ s : List ℕ) (pos w code k n b x v : ℕ) → v ≡ x % 256
+    → x ≡ placed b n (8 - (pos % 8 + k) % 8 - n) (code / 2 ^ (w - k - n) % 2 ^ n) → b ≡ getD s (pos / 8 + (pos % 8 + k) / 8) 0
+    → (0 < n) × ((pos % 8 + k) % 8 + n ≤ 8) × (n ≤ w - k) → k < w → Writing s₀ pos w code s k → ((i : ℕ) → Fits w8 (getD s i 0))
+    → Writing s₀ pos w code (set s (pos / 8 + (pos % 8 + k) / 8) v) (k + n)
+writing-on s₀ s pos w code k n b x v ev ex eb c less h bytes =
+    let at : ℕ = pos % 8 + k in
+    let q : ℕ = pos / 8 + at / 8 in
+    let m : ℕ = 8 - at % 8 - n in
+    let r : ℕ = w - k - n in
+    let l : List ℕ = toBits s₀ in
+    let y : ℕ = code / 2 ^ r in
+    let left : w - k ≡ r + n = omega arith in
+    let rest : r ≡ w - (k + n) = omega arith in
+    let stored : v ≡ placed (getD s q 0) n m (y % 2 ^ n) % 256
+    = ev ∙ ap (λ (z : ℕ). z % 256) (ex ∙ ap (λ (z : ℕ). placed z n m (y % 2 ^ n)) eb) in
+    let so-far : toBits s ≡ putTo l pos k (y / 2 ^ n)
+    = h .put ∙ ap (λ (z : ℕ). putTo l pos k z) (ap (λ (z : ℕ). code / 2 ^ z) left ∙ sym (shr-shr code r n)) in
+    record {
+      width = h .width;
+      ends = h .ends;
+      some = omega arith;
+      same = length-set s q v ∙ h .same;
+      put = store-in-byte (record { byte = λ i. bytes i .fits }) (pos + k) q (at % 8) n m y v (omega arith) (omega arith) (omega arith) stored
+          ∙ put-join l (toBits s) pos k n y (omega (arith, length-toBits s₀)) so-far
+          ∙ ap (λ (z : ℕ). putTo l pos (k + n) (code / 2 ^ z)) rest;
+    }
+
+module _ (s₀ s : List ℕ) (pos w code k : ℕ) (h : Writing s₀ pos w code s k) where
+  pub all-here : true ≡ there s₀ pos w
+  all-here = sym (is-there s₀ pos w (h .width) (h .ends))
+
+  pub writing-end : w ≤ k → toBits s ≡ leaves s₀ pos w code
+  writing-end e =
+      let all : k ≡ w = omega arith in
+      let none : w - k ≡ 0 = omega arith in
+      h .put
+      ∙ ap₂ (λ (i z : ℕ). putTo (toBits s₀) pos i z) all (ap (λ (z : ℕ). code / 2 ^ z) none ∙ div-one code)
+      ∙ sym (leaves-there s₀ pos w code (h .width) (h .ends))
+
+-- ---- two halves in a row
+
+-- `put_two` twice is `put_four`, and that twice `put_eight`
+module _ (s s₁ s₂ : List ℕ) (at x : ℕ) where
+  pub put-four-is : at + 4 ≤ length s → toBits s₁ ≡ putTo (toBits s) (8 * at) 16 (x / 2 ^ 16) → toBits s₂ ≡ putTo (toBits s₁) (8 * (at + 2)) 16 x
+      → toBits s₂ ≡ putTo (toBits s) (8 * at) 32 x
+  put-four-is h e₁ e₂ =
+      put-or (toBits s) (toBits s₁) (toBits s₂) (8 * at) (8 * (at + 2)) 16 16 x (omega arith) (omega (arith, length-toBits s)) e₁ e₂
+
+  pub put-eight-is : at + 8 ≤ length s → toBits s₁ ≡ putTo (toBits s) (8 * at) 32 (x / 2 ^ 32) → toBits s₂ ≡ putTo (toBits s₁) (8 * (at + 4)) 32 x
+      → toBits s₂ ≡ putTo (toBits s) (8 * at) 64 x
+  put-eight-is h e₁ e₂ =
+      put-or (toBits s) (toBits s₁) (toBits s₂) (8 * at) (8 * (at + 4)) 32 32 x (omega arith) (omega (arith, length-toBits s)) e₁ e₂

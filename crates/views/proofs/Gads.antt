@@ -1,7 +1,7 @@
 -- The turns of the search in a GAD sheet, worded as the code makes its tests.
 use mathlib.Core.Path.{_≡_, ap, sym, _∙_, subst}
 use mathlib.Core.List.{List}
-use Prim.Native.Nat.{ℕ, _+_, _-_, _≤_}
+use Prim.Native.Nat.{ℕ, _+_, _-_, _^_, _≤_, _<_}
 use native.Mathlib.Omega.{arith}
 use lib.ListN.{length, getD}
 use Rattle.gad.specs.Gad as gad
@@ -41,6 +41,9 @@ gad-first id sheet left h e =
 module _ (id : ℕ) (sheet : List ℕ) (left at : ℕ) (t : GadTurn id sheet left at) where
   pub gad-inside : at + 7 ≤ length sheet
   gad-inside = look-inside (gads sheet) id (firstGad id (gadBlocks sheet)) left at t
+
+  pub gad-fits : length sheet < 2 ^ 64 → at + 7 < 2 ^ 64
+  gad-fits h = omega (arith, gad-inside)
 
   pub gad-here : at ≤ length sheet
   gad-here = omega (arith, gad-inside)

@@ -1,7 +1,7 @@
 -- The turns of the search in an HPAC sheet and of the counts that it needs, worded as the code makes its tests.
 use mathlib.Core.Path.{_≡_, ap, ap₂, sym, _∙_, subst}
 use mathlib.Core.List.{List, _∷_}
-use Prim.Native.Nat.{ℕ, _+_, _-_, _*_, _≤_, _<_}
+use Prim.Native.Nat.{ℕ, _+_, _-_, _*_, _^_, _≤_, _<_}
 use native.Mathlib.Nat.{mul-le-mul}
 use native.Mathlib.Omega.{arith}
 use borrow.Author.Tests.{le-leb, lt-leb}
@@ -58,8 +58,18 @@ module _ (indicator points : ℕ) where
       pub ionosphere-none : indicator < 1 → 0 ≡ ionosphereCount indicator points equation satellites
       ionosphere-none h = rw (lt-leb 1 indicator h)
 
-pub slants-few : (satellites p g : ℕ) → satellites ≤ 64 → p ≤ 4 → g ≤ 128 → satellites * (2 + (p + g)) ≤ 64 * 134
-slants-few satellites p g a b c = mul-le-mul {n₂ = 64} {m₂ = 134} a (omega arith)
+module _ (satellites p g : ℕ) (few : satellites ≤ 64) (coefficients : p ≤ 4) (residuals : g ≤ 128) where
+  slants-few : satellites * (2 + (p + g)) ≤ 64 * 134
+  slants-few = mul-le-mul {n₂ = 64} {m₂ = 134} few (omega arith)
+
+  pub slants-fit : satellites * (2 + (p + g)) < 2 ^ 64
+  slants-fit = omega (arith, slants-few)
+
+  pub ionosphere-fits : 3 + satellites * (2 + (p + g)) < 2 ^ 64
+  ionosphere-fits = omega (arith, slants-few)
+
+  pub ionosphere-few : 3 + satellites * (2 + (p + g)) ≤ 10000
+  ionosphere-few = omega (arith, slants-few)
 
 -- ---- where a block's ionosphere starts, and where the block ends
 
@@ -85,6 +95,9 @@ module _ (sheet : List ℕ) (at points : ℕ) (ep : points ≡ getD sheet (at + 
 pub satellites-few : (c : Constellation) (size mask satellites : ℕ) → satellites ≡ length (satellitesOf c size mask) → satellites ≤ 64
 satellites-few c size mask satellites e =
     omega (arith, numbered-few (firstSatellite c) (maskSize c size) mask, mask-word c size .most)
+
+pub points-few : {sheet : List ℕ} {at : ℕ} (points : ℕ) → Few sheet at → points ≡ getD sheet (at + 1) 0 → points < 128
+points-few points h e = omega (arith, h .points)
 
 -- ---- the search
 

@@ -1,19 +1,12 @@
 -- What is read so far is the field of the first k bits; a step appends the next n bits, which lie in one byte.
-use mathlib.Core.Path.{_≡_, refl, sym, ap, _∙_}
-use Prim.Native.Nat.{ℕ, _+_, _-_, _*_, _/_, _%_, _^_, _≤_}
-use native.Mathlib.Omega.{arith}
-use borrow.Author.Tests.{not-true, not-false}
-use lib.Bits.{bitAnd, and-mask}
-use lib.ListN.{length}
-use Rattle.bits.specs.Bits.{Bytes, number, field}
-use Rattle.bits.specs.Laws.{there-width, there-end, got-there, got-not}
-use Rattle.bits.proofs.Steps.{field-in-byte, field-more}
+use Prim.Native.Nat.{_-_}
+use Rattle.bits.proofs.Steps.{Reading, nothing-got, reading-first, reading-on, reading-end}
 use borrow.Author.Needs.{needs}
 use Rattle.bits.proofs.get_by_bytes.Statement.{statement}
 use Rattle.bits.proofs.get_by_bytes.Tie as tie
 
 abbrev Inv-loop : tie.InvT-loop
-Inv-loop s pos width acc₀ k₀ acc k = (width ≤ 64) × (pos + width ≤ 8 * length s) × (k ≤ width) × (acc ≡ field s pos k)
+Inv-loop s pos width acc₀ k₀ acc k = Reading s pos width acc k
 
 abbrev μ-loop : tie.MeasureT-loop
 μ-loop s pos width acc₀ k₀ acc k = width - k
@@ -22,16 +15,10 @@ is-there-requires : tie.Need-is-there-requires Inv-loop μ-loop
 is-there-requires c κs = search needs
 
 returns : tie.Need-returns Inv-loop μ-loop
-returns c =
-    let x = c .before .before .before .args in
-    sym (got-not (x .s .now) (x .pos) (x .width) (sym (c .before .is-there .ensures) ∙ not-true _ (c .if1 .taken)))
+returns c = search (nothing-got, needs)
 
 loop-holds : tie.Need-loop-holds Inv-loop μ-loop
-unfolding field number
-loop-holds c =
-    let x = c .before .before .before .args in
-    let e = sym (c .before .is-there .ensures) ∙ not-false _ (c .if1 .left) in
-    (there-width (x .s .now) (x .pos) (x .width) e, there-end (x .s .now) (x .pos) (x .width) e, omega arith, refl)
+loop-holds c = search (reading-first, needs)
 
 cast-at : tie.Need-cast-at Inv-loop μ-loop
 cast-at c = search needs
@@ -85,33 +72,10 @@ loop-less : tie.Need-loop-less Inv-loop μ-loop
 loop-less c = search needs
 
 loop-again : tie.Need-loop-again Inv-loop μ-loop
-loop-again c =
-    let x = c .before .before .before .before .before .before .before .before .before .args in
-    let v = c .before .before .before .before .before .loop in
-    let n = c .before .before .before .chunk .result in
-    let at : ℕ = x .pos % 8 + v .k in
-    let q : ℕ = x .pos / 8 + at / 8 in
-    let m : ℕ = 8 - at % 8 - n in
-    let bytes : Bytes (x .s .now) = record { byte = λ i. c .before .before .shared-slice-known2 .given i .fits } in
-    let next : bitAnd (c .before .wide .result / 2 ^ m) (c .ones .result) ≡ field (x .s .now) (x .pos + v .k) n
-    = ap (λ (z : ℕ). bitAnd (c .before .wide .result / 2 ^ m) z) (c .ones .ensures)
-    ∙ and-mask (c .before .wide .result / 2 ^ m) n
-    ∙ ap (λ (z : ℕ). z / 2 ^ m % 2 ^ n) (c .before .wide .ensures)
-    ∙ sym (field-in-byte bytes (x .pos + v .k) q (at % 8) n m (omega arith) (omega arith) (omega arith)) in (
-      omega arith,
-      omega arith,
-      omega arith,
-      field-more (x .s .now) (x .pos) (x .pos + v .k) (v .k) n (v .acc) _ refl (omega arith) (omega arith) (v .inv .3) next,
-    )
+loop-again c = search (reading-on, needs)
 
 returns-2 : tie.Need-returns-2 Inv-loop μ-loop
-returns-2 c =
-    let x = c .before .before .before .before .before .args in
-    let v = c .before .loop in
-    let e : v .k ≡ x .width = omega arith in
-    v .inv .3
-    ∙ ap (λ (k : ℕ). field (x .s .now) (x .pos) k) e
-    ∙ sym (got-there (x .s .now) (x .pos) (x .width) (v .inv .0) (v .inv .1))
+returns-2 c = search (reading-end, needs)
 
 pub get-by-bytes-spec : {M : Type 1} → statement M
 get-by-bytes-spec =

@@ -8,25 +8,25 @@ use Rattle.bits.proofs.in_one_word.Statement.{statement}
 use Rattle.bits.proofs.in_one_word.Tie as tie
 
 returns : tie.Need-returns
-returns c = λ e. absurd (false≢true e)
+returns c = record { says = λ e. absurd (false≢true e) }
 
 sub-if2 : tie.Need-sub-if2
 sub-if2 c = search needs
 
 returns-2 : tie.Need-returns-2
-returns-2 c = λ e. absurd (false≢true e)
+returns-2 c = record { says = λ e. absurd (false≢true e) }
 
 returns-3 : tie.Need-returns-3
-returns-3 c = λ e. absurd (false≢true e)
+returns-3 c = record { says = λ e. absurd (false≢true e) }
 
 returns-4 : tie.Need-returns-4
-returns-4 c = λ e. (pos-of-ne-zero (c .before .if3 .left), omega arith, omega arith)
+returns-4 c = record { says = λ e. (pos-of-ne-zero (c .before .if3 .left), omega arith, omega arith) }
 
 sub-result : tie.Need-sub-result
 sub-result c = search needs
 
 returns-5 : tie.Need-returns-5
-returns-5 c = λ e. (pos-of-ne-zero (c .before .if3 .left), omega (arith, leb-true), omega arith)
+returns-5 c = record { says = λ e. (pos-of-ne-zero (c .before .if3 .left), omega (arith, leb-true), omega arith) }
 
 pub in-one-word-spec : {M : Type 1} → statement M
 in-one-word-spec =

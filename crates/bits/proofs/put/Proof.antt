@@ -1,22 +1,11 @@
 -- In one word where there is one (`put-in-word`), and else by bytes, which is proved to do the same.
-use mathlib.Core.Path.{sym}
-use Prim.Native.Nat.{_+_, _/_, _%_, _≤_, _<_}
-use native.Mathlib.Omega.{arith}
-use lib.ListN.{length}
-use Rattle.bits.specs.Laws.{is-there}
-use Rattle.bits.proofs.Steps.{put-in-word}
+use Rattle.bits.proofs.Steps.{word-here, word-there, word-some, word-left, word-all, put-by-word}
 use borrow.Author.Needs.{needs}
 use Rattle.bits.proofs.put.Statement.{statement}
 use Rattle.bits.proofs.put.Tie as tie
 
 in-one-word-requires : tie.Need-in-one-word-requires
 in-one-word-requires c κs = search needs
-
--- what the test for one word says
-inside : (c : tie.Then1)
-    → (0 < c .before .before .before .before .args .width) × (c .before .before .before .before .args .pos % 8 + c .before .before .before .before .args .width ≤ 64)
-    × (c .before .before .before .before .args .pos / 8 + 8 ≤ length (c .before .before .before .before .args .s .now))
-inside c = c .before .in-one-word .ensures (c .if1 .taken)
 
 cast-m : tie.Need-cast-m
 cast-m c = search needs
@@ -25,16 +14,16 @@ sub-m : tie.Need-sub-m
 sub-m c = search needs
 
 sub-m-2 : tie.Need-sub-m-2
-sub-m-2 c = let w = inside c in omega arith
+sub-m-2 c = search (word-left, needs)
 
 eight-at-requires : tie.Need-eight-at-requires
-eight-at-requires c κs = let w = inside (c .before) in omega arith
+eight-at-requires c κs = search (word-here, needs)
 
 in-word-requires : tie.Need-in-word-requires
-in-word-requires c κs = let w = inside (c .before .before) in omega arith
+in-word-requires c κs = search (word-some, word-all, needs)
 
 put-eight-requires : tie.Need-put-eight-requires
-put-eight-requires c κs = let w = inside (c .before .before .before .before) in omega arith
+put-eight-requires c κs = search (word-here, needs)
 
 put-by-bytes-requires : tie.Need-put-by-bytes-requires
 put-by-bytes-requires c κs = search needs
@@ -43,13 +32,7 @@ same-length : tie.Need-same-length
 same-length c = search needs
 
 returns : tie.Need-returns
-returns c =
-    let x = c .before .before .before .before .before .before .before .before .before .before .before .args in
-    let w = inside (c .before .before .before .before .before .before .before) in (
-      sym (is-there (x .s .now) (x .pos) (x .width) (omega arith) (omega arith)),
-      put-in-word (x .s .now) (x .pos) (x .width) _ (w .0) (w .1) (w .2) (c .before .before .before .before .before .eight-at .ensures) (x .code) _ _
-          (c .before .before .before .before .in-word .ensures) (c .before .before .put-eight .ensures),
-    )
+returns c = search (word-there, put-by-word, needs)
 
 same-length-2 : tie.Need-same-length-2
 same-length-2 c = search needs

@@ -1,22 +1,12 @@
 -- The first k bits of the code are put; a step puts the next n, which lie in one byte.
-use mathlib.Core.Path.{_≡_, refl, sym, ap, ap₂, _∙_}
-use Prim.Native.Nat.{ℕ, _+_, _-_, _*_, _/_, _%_, _^_, _≤_}
-use native.Mathlib.Nat.{add-zero, sub-self, div-one}
-use native.Mathlib.Omega.{arith}
-use borrow.Author.Tests.{not-true, not-false}
-use lib.ListN.{length, getD, length-set, take-append-drop}
-use lib.Pow.{shr-shr}
-use Rattle.bits.specs.Bits.{toBits, bitsOf, Bytes, putTo}
-use Rattle.bits.specs.Laws.{placed, is-there, there-width, there-end, leaves-there, leaves-not, length-toBits, put-join}
-use Rattle.bits.proofs.Steps.{store-in-byte}
+use Prim.Native.Nat.{_-_}
+use Rattle.bits.proofs.Steps.{Writing, not-here, nothing-put, writing-first, writing-on, all-here, writing-end}
 use borrow.Author.Needs.{needs}
 use Rattle.bits.proofs.put_by_bytes.Statement.{statement}
 use Rattle.bits.proofs.put_by_bytes.Tie as tie
 
 abbrev Inv-loop : tie.InvT-loop
-Inv-loop s₀ pos width code k₀ s k =
-    (width ≤ 64) × (pos + width ≤ 8 * length s₀) × (k ≤ width) × (length s ≡ length s₀)
-    × (toBits s ≡ putTo (toBits s₀) pos k (code / 2 ^ (width - k)))
+Inv-loop s₀ pos width code k₀ s k = Writing s₀ pos width code s k
 
 abbrev μ-loop : tie.MeasureT-loop
 μ-loop s₀ pos width code k₀ s k = width - k
@@ -28,22 +18,10 @@ same-length : tie.Need-same-length Inv-loop μ-loop
 same-length c = search needs
 
 returns : tie.Need-returns Inv-loop μ-loop
-returns c =
-    let x = c .before .before .before .before .args in
-    let e = sym (c .before .is-there .ensures) ∙ not-true _ (c .if1 .taken) in
-    (sym e, sym (leaves-not (x .s .now) (x .pos) (x .width) (x .code) e))
+returns c = search (not-here, nothing-put, needs)
 
 loop-holds : tie.Need-loop-holds Inv-loop μ-loop
-unfolding bitsOf
-loop-holds c =
-    let x = c .before .before .before .before .args in
-    let e = sym (c .before .is-there .ensures) ∙ not-false _ (c .if1 .left) in (
-      there-width (x .s .now) (x .pos) (x .width) e,
-      there-end (x .s .now) (x .pos) (x .width) e,
-      omega arith,
-      refl,
-      rw add-zero (sym (take-append-drop (x .pos) (toBits (x .s .now)))),
-    )
+loop-holds c = search (writing-first, needs)
 
 cast-at : tie.Need-cast-at Inv-loop μ-loop
 cast-at c = search needs
@@ -104,48 +82,19 @@ loop-less c = search needs
 
 loop-again : tie.Need-loop-again Inv-loop μ-loop
 loop-again c =
-    let x = c .before .before .before .before .before .before .before .before .before .before .before .args in
-    let v = c .before .before .before .before .before .before .loop in
-    let n = c .before .before .before .before .chunk .result in
-    let at : ℕ = x .pos % 8 + v .k in
-    let q : ℕ = x .pos / 8 + at / 8 in
-    let m : ℕ = 8 - at % 8 - n in
-    let r : ℕ = x .width - v .k - n in
-    let l = toBits (x .s .now) in
-    let bytes : Bytes (v .s) = record { byte = λ i. c .before .before .before .slice-known2 .given i .fits } in
-    let y : ℕ = x .code / 2 ^ r in
-    let left : x .width - v .k ≡ r + n = omega arith in
-    let less : r ≡ x .width - (v .k + n) = omega arith in
-    let stored : c .narrow .result ≡ placed (getD (v .s) q 0) n m (y % 2 ^ n) % 256
-    = c .narrow .ensures
-    ∙ ap (λ (z : ℕ). z % 256)
-    (c .before .in-word .ensures ∙ ap (λ (b : ℕ). placed b n m (y % 2 ^ n)) (c .before .before .wide .ensures)) in
-    let before : toBits (v .s) ≡ putTo l (x .pos) (v .k) (y / 2 ^ n)
-    = v .inv .4 ∙ ap (λ (z : ℕ). putTo l (x .pos) (v .k) z) (ap (λ (z : ℕ). x .code / 2 ^ z) left ∙ sym (shr-shr (x .code) r n)) in (
-      omega arith,
-      omega arith,
-      omega arith,
-      length-set (v .s) q (c .narrow .result) ∙ v .inv .3,
-      store-in-byte bytes (x .pos + v .k) q (at % 8) n m y _ (omega arith) (omega arith) (omega arith) stored
-          ∙ put-join l (toBits (v .s)) (x .pos) (v .k) n y (omega (arith, length-toBits (x .s .now))) before
-          ∙ ap (λ (z : ℕ). putTo l (x .pos) (v .k + n) (x .code / 2 ^ z)) less,
-    )
+    let worded = c .before in
+    let widened = worded .before in
+    let known = widened .before in
+    let cut = known .before in
+    let turn = cut .before in
+    writing-on _ _ _ _ _ _ _ _ _ _ (c .narrow .ensures) (worded .in-word .ensures) (widened .wide .ensures) (cut .chunk .ensures)
+    (turn .loop-test .taken) (turn .before .loop .inv) (λ i. known .slice-known2 .given i)
 
 same-length-2 : tie.Need-same-length-2 Inv-loop μ-loop
 same-length-2 c = search needs
 
 returns-2 : tie.Need-returns-2 Inv-loop μ-loop
-returns-2 c =
-    let x = c .before .before .before .before .before .before .args in
-    let v = c .before .loop in
-    let l = toBits (x .s .now) in
-    let e : v .k ≡ x .width = omega arith in (
-      sym (is-there (x .s .now) (x .pos) (x .width) (v .inv .0) (v .inv .1)),
-      v .inv .4
-          ∙ ap₂ (λ (k z : ℕ). putTo l (x .pos) k z)
-          e (ap (λ (k : ℕ). x .code / 2 ^ (x .width - k)) e ∙ ap (λ (z : ℕ). x .code / 2 ^ z) (sub-self (x .width)) ∙ div-one (x .code))
-          ∙ sym (leaves-there (x .s .now) (x .pos) (x .width) (x .code) (v .inv .0) (v .inv .1)),
-    )
+returns-2 c = search (all-here, writing-end, needs)
 
 pub put-by-bytes-spec : {M : Type 1} → statement M
 put-by-bytes-spec =

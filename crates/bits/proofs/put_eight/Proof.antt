@@ -1,9 +1,5 @@
--- Two codes of 32 bits put in a row are one (`put-or`).
-use Prim.Native.Nat.{_+_, _*_}
-use native.Mathlib.Omega.{arith}
-use Rattle.bits.specs.Bits.{toBits}
-use Rattle.bits.specs.Laws.{length-toBits}
-use Rattle.bits.proofs.Steps.{put-or}
+-- Two codes of 32 bits put in a row are one (`put-eight-is`).
+use Rattle.bits.proofs.Steps.{put-eight-is}
 use borrow.Author.Needs.{needs}
 use Rattle.bits.proofs.put_eight.Statement.{statement}
 use Rattle.bits.proofs.put_eight.Tie as tie
@@ -21,12 +17,7 @@ same-length : tie.Need-same-length
 same-length c = search needs
 
 returns : tie.Need-returns
-returns c =
-    let x = c .before .before .before .before .before .before .before .before .before .args in
-    let first = c .before .before .before .before .before .before .put-four in
-    let second = c .before .before .put-four2 in
-    put-or (toBits (x .s .now)) (toBits (first .last .0)) (toBits (second .last .0)) (8 * x .at) (8 * (x .at + 4)) 32 32 (x .x)
-    (omega arith) (omega (arith, length-toBits (x .s .now))) (first .ensures) (second .ensures)
+returns c = search (put-eight-is, needs)
 
 pub put-eight-spec : {M : Type 1} → statement M
 put-eight-spec =

@@ -1,6 +1,5 @@
 -- `find_gad`: one law for the start, for each answer and for a turn (Gads.antt).
-use Rattle.views.proofs.Gads.{GadTurn, gad-first, gad-inside, gad-here, gad-found, gad-none, gad-on}
-use native.Mathlib.Omega.{arith}
+use Rattle.views.proofs.Gads.{GadTurn, gad-first, gad-fits, gad-here, gad-found, gad-none, gad-on}
 use borrow.Author.Needs.{needs}
 use Rattle.views.proofs.gadarea.find_gad.Statement.{statement}
 use Rattle.views.proofs.gadarea.find_gad.Tie as tie
@@ -33,7 +32,7 @@ sub-left : tie.Need-sub-left Inv-loop μ-loop
 sub-left c = search needs
 
 add-at : tie.Need-add-at Inv-loop μ-loop
-add-at c = omega (arith, gad-inside _ _ _ _ (c .before .before .before .loop .inv))
+add-at c = search (gad-fits, needs)
 
 loop-less : tie.Need-loop-less Inv-loop μ-loop
 loop-less c = search needs

@@ -1,6 +1,5 @@
 -- `hpac_end`: behind the ionosphere.
-use Rattle.views.proofs.Hpacs.{satellites-few, end-is}
-use native.Mathlib.Omega.{arith}
+use Rattle.views.proofs.Hpacs.{points-few, satellites-few, end-is}
 use borrow.Author.Needs.{needs}
 use Rattle.views.proofs.hpacarea.hpac_end.Statement.{statement}
 use Rattle.views.proofs.hpacarea.hpac_end.Tie as tie
@@ -39,12 +38,7 @@ entry-requires-5 : tie.Need-entry-requires-5
 entry-requires-5 c κs = search needs
 
 ionosphere-entries-requires : tie.Need-ionosphere-entries-requires
-ionosphere-entries-requires c κs =
-    let counted = c .before in
-    let pointed = counted .before .before .before .before in (
-      omega (arith, pointed .entry .ensures, pointed .before .before .before .pre .points),
-      satellites-few (pointed .before .before .before .args .constellation) (counted .before .before .entry3 .result) (counted .before .entry4 .result) _ (counted .satellite-count .ensures),
-    )
+ionosphere-entries-requires c κs = search (points-few, satellites-few, needs)
 
 add-result : tie.Need-add-result
 add-result c = search needs

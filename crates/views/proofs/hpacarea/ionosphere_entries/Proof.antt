@@ -1,6 +1,5 @@
 -- `ionosphere_entries`: by SF040, as many a satellite.
-use Rattle.views.proofs.Hpacs.{ionosphere-there, ionosphere-none, slants-few}
-use native.Mathlib.Omega.{arith}
+use Rattle.views.proofs.Hpacs.{ionosphere-there, ionosphere-none, slants-fit, ionosphere-fits, ionosphere-few}
 use borrow.Author.Needs.{needs}
 use Rattle.views.proofs.hpacarea.ionosphere_entries.Statement.{statement}
 use Rattle.views.proofs.hpacarea.ionosphere_entries.Tie as tie
@@ -18,17 +17,13 @@ add-each-2 : tie.Need-add-each-2
 add-each-2 c = search needs
 
 mul-result : tie.Need-mul-result
-mul-result c = omega (arith, slants-few _ _ _ (c .before .before .before .pre .1) (c .before .polynomial-entries .ensures .1) (c .grid-entries .ensures .1))
+mul-result c = search (slants-fit, needs)
 
 add-result : tie.Need-add-result
-add-result c = omega (arith, slants-few _ _ _ (c .before .before .before .pre .1) (c .before .polynomial-entries .ensures .1) (c .grid-entries .ensures .1))
+add-result c = search (ionosphere-fits, needs)
 
 returns : tie.Need-returns
-returns c =
-    let x = c .before .before .before .args in (
-      ionosphere-there (x .indicator) (x .points) (x .equation) (x .satellites) (c .before .before .if1 .taken) _ _ (c .before .polynomial-entries .ensures .0) (c .grid-entries .ensures .0),
-      omega (arith, slants-few _ _ _ (c .before .before .before .pre .1) (c .before .polynomial-entries .ensures .1) (c .grid-entries .ensures .1)),
-    )
+returns c = search (ionosphere-there, ionosphere-few, needs)
 
 returns-2 : tie.Need-returns-2
 returns-2 c = search (ionosphere-none, needs)
