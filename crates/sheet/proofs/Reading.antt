@@ -10,6 +10,7 @@ use lib.Dec.{ltb}
 use lib.ListN.{length, take, drop, set, getD, length-drop, length-set, drop-of-length-le}
 use lib.Seq.{sets, sets-eq, drop-drop, drop-cons, take-at}
 use borrow.Author.Tests.{lt-ltb, le-ltb, eq-eqb, ne-eqb}
+use Rattle.sizes.specs.Sizes.{longestPayload, sheetRoom}
 use Rattle.answer.specs.declared.Refusal.{Refusal}
 use Rattle.answer.specs.declared.Refusal.the-variants as refusal
 use Rattle.bits.specs.Bits.{toBits, number, field, got}
@@ -26,13 +27,15 @@ use Rattle.message.specs.declared.Start.{Start}
 use Rattle.message.specs.declared.Start.the-variants.{Known, Unknown}
 use Rattle.message.specs.Machine.{fieldOf, stepOf, startOf, Starts, known, unknown, starts}
 use Rattle.message.specs.Messages.{Message, layoutFor}
-use Rattle.sheet.specs.Sheet.{entryRoom, byteRoom, badLength, judging, judged, reading, readAnswerBy, sheetBy, readAnswer, sheetAfter}
-use Rattle.sheet.specs.Laws.{judging-with, reading-with}
-use Rattle.sheet.specs.Passes.{ForLayout, endedBy, entriesOf, ReadPass, entriesRead, ReadJudged, Aside, codes, nothing, ReadKept, ReadWhole}
+use Rattle.sheet.specs.Sheet.{badLength, judging, judged, reading, readAnswerBy, sheetBy, readAnswer, sheetAfter}
+use Rattle.sheet.specs.Laws.{good-some, judging-with, reading-with}
+use Rattle.sheet.specs.Passes.{ForLayout, endedBy, entriesOf, InPayload, Further, ReadTurn, ReadPass, entriesRead, ReadJudged, Aside, codes, nothing, ReadKept, ReadWhole}
 use Rattle.sheet.specs.declared.ReadAnswer.{ReadAnswer}
 use Rattle.sheet.specs.declared.ReadAnswer.the-variants as reader
 use Rattle.sheet.specs.declared.Pass.{Pass}
 use Rattle.sheet.specs.declared.Pass.the-variants.{Whole, Fault}
+use Rattle.sheet.specs.declared.Turn.{Turn}
+use Rattle.sheet.specs.declared.Turn.the-variants as turn
 
 -- ---- a pass
 
@@ -41,92 +44,117 @@ pub walks-word : {s : State} {l : Layout Message} → Walks fieldOf stepOf s l �
 walks-word (ends e) z = absurd (omega arith)
 walks-word (goes e i rest) z = omega (arith, i .word, ap (λ (x : Field). x .width) e)
 
+-- the field at hand, as a machine's state has it
+pub width-is : (s : State) (f : Field) → f ≡ fieldOf s → fieldOf s .width ≡ f .width
+width-is s f e = ap (λ (x : Field). x .width) (sym e)
+
+pub verdict-is : (s : State) (f : Field) (code : ℕ) (v : Verdict) → f ≡ fieldOf s → v ≡ judge f code → judge (fieldOf s) code ≡ v
+verdict-is s f code v e j = ap (λ (x : Field). judge x code) (sym e) ∙ sym j
+
+rest-length : (payload : List ℕ) (pos : ℕ) → length (drop pos (toBits payload)) ≡ length payload * 8 - pos
+rest-length payload pos = omega (arith, length-drop pos (toBits payload), length-toBits payload)
+
+code-is : (payload : List ℕ) (s : State) (pos : ℕ) (f : Field) (code : ℕ) → f ≡ fieldOf s → pos ≤ 8 * length payload
+    → f .width ≤ length payload * 8 - pos → code ≡ got payload pos (f .width) → fieldOf s .width ≤ 64
+    → code ≡ number (take (fieldOf s .width) (drop pos (toBits payload)))
+unfolding field
+code-is payload s pos f code e i h g m =
+    let d : fieldOf s .width ≡ f .width = width-is s f e in
+    g ∙ got-there payload pos (f .width) (omega arith) (omega arith)
+    ∙ ap (λ (w : ℕ). number (take w (drop pos (toBits payload)))) (sym d)
+
+-- one turn: the field at hand
+module _ {payload sheet : List ℕ} {s : State} {pos at : ℕ} (i : InPayload payload pos at) (f : Field) (e : f ≡ fieldOf s) where
+  pub field-done : f .width ≡ 0 → ReadTurn payload sheet s pos at (turn.Ended (Whole at pos)) sheet
+  field-done z =
+      record {
+        on = λ l w. run-done (drop pos (toBits payload)) pos at sheet w (width-is s f e ∙ z);
+        further = omega (arith, i .few, i .inside);
+      }
+
+  pub field-short : (f .width ≡ 0 → ⊥) → length payload * 8 - pos < f .width
+      → ReadTurn payload sheet s pos at (turn.Ended (Fault refusal.Short)) sheet
+  field-short z h =
+      let d : fieldOf s .width ≡ f .width = width-is s f e in
+      let k : length (drop pos (toBits payload)) ≡ length payload * 8 - pos = rest-length payload pos in
+      record {
+        on = λ l w. run-short (drop pos (toBits payload)) pos at sheet w (omega arith) (omega arith);
+        further = omega arith;
+      }
+
+  module _ (z : f .width ≡ 0 → ⊥) (h : f .width ≤ length payload * 8 - pos) (code : ℕ)
+      (g : code ≡ got payload pos (f .width)) (v : Verdict) (j : v ≡ judge f code) where
+    pub field-fault : (why : Refusal) → v ≡ verdict.Fault why → ReadTurn payload sheet s pos at (turn.Ended (Fault why)) sheet
+    field-fault why q =
+        let d : fieldOf s .width ≡ f .width = width-is s f e in
+        let k : length (drop pos (toBits payload)) ≡ length payload * 8 - pos = rest-length payload pos in
+        let n : 0 < fieldOf s .width = omega arith in
+        record {
+          on = λ l w. run-fault (drop pos (toBits payload)) pos at sheet code why w n (omega arith)
+              (code-is payload s pos f code e (i .inside) h g (walks-word w n)) (verdict-is s f code v e j ∙ q);
+          further = omega arith;
+        }
+
+    pub field-taken : (sheet' : List ℕ) (s' : State) → v ≡ verdict.Taken → sheet' ≡ set sheet at code → s' ≡ stepOf s code
+        → ReadTurn payload sheet s pos at (turn.On s' (pos + f .width) (at + 1)) sheet'
+    field-taken sheet' s' q stored stepped =
+        let d : fieldOf s .width ≡ f .width = width-is s f e in
+        let k : length (drop pos (toBits payload)) ≡ length payload * 8 - pos = rest-length payload pos in
+        let n : 0 < fieldOf s .width = omega arith in
+        record {
+          on = λ l w.
+              let r = run-on (drop pos (toBits payload)) pos at sheet code w n (omega arith) (code-is payload s pos f code e (i .inside) h g (walks-word w n)) (verdict-is s f code v e j ∙ q) in
+              record {
+                left = r .left;
+                walks = subst (λ x. Walks fieldOf stepOf x (r .left)) (sym stepped) (r .walks);
+                same = r .same
+                    ∙ ap (λ x. runL (r .left) x (pos + fieldOf s .width) (at + 1) (set sheet at code)) (drop-drop (fieldOf s .width) pos (toBits payload))
+                    ∙ ap₂ (λ (x : ℕ) y. runL (r .left) (drop (pos + x) (toBits payload)) (pos + x) (at + 1) y) d (sym stored);
+              };
+          further = (omega arith, record { short = i .short; inside = omega (arith, i .inside); few = omega (arith, i .few) });
+        }
+
 -- at the loop's head: the rest of the message is read from here as the whole was to be from the start
-pub record Turn (payload sheet₀ : List ℕ) (total : ℕ) (s₀ : State) (sheet : List ℕ) (s : State) (pos at : ℕ) : Type 0 where
-  pub whole : total ≡ length payload * 8
-  pub inside : pos ≤ total
-  pub few : at ≤ pos
+pub record Reads (payload sheet₀ : List ℕ) (s₀ : State) (sheet : List ℕ) (s : State) (pos at : ℕ) : Type 0 where
+  pub place : InPayload payload pos at
   pub same : length sheet ≡ length sheet₀
   pub on : ForLayout s₀ (λ l. On fieldOf stepOf s (runL l (toBits payload) 0 0 sheet₀)
       (λ (next : Layout Message). runL next (drop pos (toBits payload)) pos at sheet))
 
-pub turn-first : (payload sheet : List ℕ) (s : State) → Turn payload sheet (length payload * 8) s sheet s 0 0
-turn-first payload sheet s =
+pub reads-first : (payload sheet : List ℕ) (s : State) → length payload ≤ longestPayload → Reads payload sheet s sheet s 0 0
+reads-first payload sheet s h =
     record {
-      whole = refl;
-      inside = omega arith;
-      few = omega arith;
+      place = record { short = h; inside = omega arith; few = omega arith };
       same = refl;
       on = λ l w. record { left = l; walks = w; same = refl };
     }
 
-module _ {payload sheet₀ : List ℕ} {total : ℕ} {s₀ : State} {sheet : List ℕ} {s : State} {pos at : ℕ} (t : Turn payload sheet₀ total s₀ sheet s pos at) (f : Field)
-    (e : f ≡ fieldOf s) where
-  rest-length : length (drop pos (toBits payload)) ≡ total - pos
-  rest-length = omega (arith, length-drop pos (toBits payload), length-toBits payload, t .whole)
-
-  width-is : fieldOf s .width ≡ f .width
-  width-is = ap (λ (x : Field). x .width) (sym e)
-
-  pub turn-done : f .width ≡ 0 → ReadPass payload sheet₀ s₀ (Whole at pos) sheet
-  turn-done z =
+module _ {payload sheet₀ : List ℕ} {s₀ : State} {sheet : List ℕ} {s : State} {pos at : ℕ} (t : Reads payload sheet₀ s₀ sheet s pos at)
+    (n : Turn) (sheet' : List ℕ) (r : ReadTurn payload sheet s pos at n sheet') where
+  pub reads-ended : (pass : Pass) → n ≡ turn.Ended pass → ReadPass payload sheet₀ s₀ pass sheet'
+  reads-ended pass e =
+      let m = subst (λ x. ReadTurn payload sheet s pos at x sheet') e r in
       record {
-        ends = λ l w. let o = t .on l w in sym (o .same ∙ run-done (drop pos (toBits payload)) pos at sheet (o .walks) (width-is ∙ z));
-        few = omega (arith, t .few, t .inside, t .whole);
+        ends = λ l w. let o = t .on l w in sym (o .same ∙ m .on (o .left) (o .walks));
+        few = m .further;
       }
 
-  pub turn-short : (f .width ≡ 0 → ⊥) → total - pos < f .width → ReadPass payload sheet₀ s₀ (Fault refusal.Short) sheet
-  turn-short z h =
-      let d : fieldOf s .width ≡ f .width = width-is in
-      let k : length (drop pos (toBits payload)) ≡ total - pos = rest-length in
-      record {
-        ends = λ l w. let o = t .on l w in
-            sym (o .same ∙ run-short (drop pos (toBits payload)) pos at sheet (o .walks) (omega arith) (omega arith));
-        few = omega arith;
-      }
+  module _ (s' : State) (p a : ℕ) (e : n ≡ turn.On s' p a) where
+    further-on : (pos < p) × InPayload payload p a
+    further-on = subst (λ x. Further payload pos x) e (r .further)
 
-  module _ (z : f .width ≡ 0 → ⊥) (h : f .width ≤ total - pos) (code : ℕ) (g : code ≡ got payload pos (f .width)) (v : Verdict) (j : v ≡ judge f code) where
-    code-is : fieldOf s .width ≤ 64 → code ≡ number (take (fieldOf s .width) (drop pos (toBits payload)))
-    unfolding field
-    code-is m =
-        let d : fieldOf s .width ≡ f .width = width-is in
-        g ∙ got-there payload pos (f .width) (omega arith) (omega (arith, t .whole, t .inside))
-        ∙ ap (λ (w : ℕ). number (take w (drop pos (toBits payload)))) (sym d)
+    pub reads-less : 8 * length payload - p < 8 * length payload - pos
+    reads-less = omega (arith, further-on .0, further-on .1)
 
-    verdict-is : judge (fieldOf s) code ≡ v
-    verdict-is = ap (λ (x : Field). judge x code) (sym e) ∙ sym j
-
-    pub turn-fault : (why : Refusal) → v ≡ verdict.Fault why → ReadPass payload sheet₀ s₀ (Fault why) sheet
-    turn-fault why q =
-        let d : fieldOf s .width ≡ f .width = width-is in
-        let k : length (drop pos (toBits payload)) ≡ total - pos = rest-length in
+    pub reads-on : length sheet' ≡ length sheet → Reads payload sheet₀ s₀ sheet' s' p a
+    reads-on kept =
+        let m = subst (λ x. ReadTurn payload sheet s pos at x sheet') e r in
         record {
-          ends = λ l w. let o = t .on l w in
-              let n : 0 < fieldOf s .width = omega arith in
-              sym (o .same ∙ run-fault (drop pos (toBits payload)) pos at sheet code why (o .walks) n (omega arith) (code-is (walks-word (o .walks) n)) (verdict-is ∙ q));
-          few = omega arith;
-        }
-
-    pub turn-again : (sheet' : List ℕ) (s' : State) → v ≡ verdict.Taken → sheet' ≡ set sheet at code → s' ≡ stepOf s code
-        → Turn payload sheet₀ total s₀ sheet' s' (pos + f .width) (at + 1)
-    turn-again sheet' s' q stored stepped =
-        let d : fieldOf s .width ≡ f .width = width-is in
-        let k : length (drop pos (toBits payload)) ≡ total - pos = rest-length in
-        record {
-          whole = t .whole;
-          inside = omega (arith, t .inside);
-          few = omega (arith, t .few);
-          same = ap length stored ∙ length-set sheet at code ∙ t .same;
+          place = further-on .1;
+          same = kept ∙ t .same;
           on = λ l w. let o = t .on l w in
-              let n : 0 < fieldOf s .width = omega arith in
-              let r = run-on (drop pos (toBits payload)) pos at sheet code (o .walks) n (omega arith) (code-is (walks-word (o .walks) n)) (verdict-is ∙ q) in
-              record {
-                left = r .left;
-                walks = subst (λ x. Walks fieldOf stepOf x (r .left)) (sym stepped) (r .walks);
-                same = o .same ∙ r .same
-                    ∙ ap (λ x. runL (r .left) x (pos + fieldOf s .width) (at + 1) (set sheet at code)) (drop-drop (fieldOf s .width) pos (toBits payload))
-                    ∙ ap₂ (λ (x : ℕ) y. runL (r .left) (drop (pos + x) (toBits payload)) (pos + x) (at + 1) y) d (sym stored);
-              };
+              let f = m .on (o .left) (o .walks) in
+              record { left = f .left; walks = f .walks; same = o .same ∙ f .same };
         }
 
 -- ---- both passes
@@ -204,7 +232,7 @@ module _ {payload sheet : List ℕ} {start : State} (judged : ReadAnswer) (p : R
         leaves = λ l w. refused-leaves (readL l (toBits payload)) why sheet (sym e ∙ p .answers l w);
       }
 
-  pub whole-read : (pass : Pass) (sheet' : List ℕ) (bits entries : ℕ) → length payload ≤ byteRoom → entryRoom ≤ length sheet
+  pub whole-read : (pass : Pass) (sheet' : List ℕ) (bits entries : ℕ) → length payload ≤ longestPayload → sheetRoom ≤ length sheet
       → judged ≡ reader.Read bits entries → ReadPass payload sheet start pass sheet' → ReadWhole payload sheet start (reader.Read bits entries) sheet'
   whole-read pass sheet' bits entries short room e q =
       let m : entries ≤ 8 * length payload = subst (λ x. entriesRead x ≤ 8 * length payload) e (p .few) in
@@ -216,7 +244,7 @@ module _ {payload sheet : List ℕ} {start : State} (judged : ReadAnswer) (p : R
       }
 
 pub whole-copied : {payload aside sheet : List ℕ} {start : State} (answer : ReadAnswer) (aside' sheet' : List ℕ) (bits entries : ℕ)
-    → ReadKept payload aside start answer aside' → length payload ≤ byteRoom → entryRoom ≤ length sheet → answer ≡ reader.Read bits entries
+    → ReadKept payload aside start answer aside' → length payload ≤ longestPayload → sheetRoom ≤ length sheet → answer ≡ reader.Read bits entries
     → entries ≤ length aside' → length aside' ≡ length aside → sheet' ≡ sets sheet 0 (take entries aside')
     → ReadWhole payload sheet start (reader.Read bits entries) sheet'
 whole-copied {payload} {aside} {sheet} answer aside' sheet' bits entries p short room e h same c =
@@ -255,8 +283,11 @@ module _ {from to₀ to : List ℕ} {i : ℕ} (t : Copying from to₀ to i) wher
 pub bad-none : (bytes : ℕ) → bytes ≡ 0 → true ≡ badLength bytes
 bad-none bytes h = rw (eq-eqb bytes 0 h)
 
-pub bad-long : (bytes : ℕ) → (bytes ≡ 0 → ⊥) → ltb byteRoom bytes ≡ badLength bytes
+pub bad-long : (bytes : ℕ) → (bytes ≡ 0 → ⊥) → ltb longestPayload bytes ≡ badLength bytes
 bad-long bytes h = rw (ne-eqb bytes 0 h)
+
+pub good-length : (bytes : ℕ) (b : Bool) → b ≡ badLength bytes → b ≡ false → bytes ≤ longestPayload
+good-length bytes b m n = good-some bytes (sym m ∙ n) .1
 
 -- where a message starts, its type and subtype have a layout that the machine walks
 pub record Started (kind subtype : ℕ) (start : State) : Type 0 where
@@ -303,29 +334,35 @@ module _ (kind subtype : ℕ) (payload : List ℕ) where
 
 -- ---- `read`
 
+-- what is answered, and the sheet afterwards
+pub record Met (kind subtype : ℕ) (payload sheet : List ℕ) (r : ReadAnswer) (sheet' : List ℕ) : Type 0 where
+  pub says : r ≡ readAnswer kind subtype payload sheet
+  pub leaves : sheet' ≡ sheetAfter kind subtype payload sheet
+
+pub both : {kind subtype : ℕ} {payload sheet : List ℕ} {r : ReadAnswer} {sheet' : List ℕ} → Met kind subtype payload sheet r sheet'
+    → (r ≡ readAnswer kind subtype payload sheet) × (sheet' ≡ sheetAfter kind subtype payload sheet)
+both m = (m .says, m .leaves)
+
 module _ (kind subtype : ℕ) (payload sheet : List ℕ) where
-  abbrev pub Meets : ReadAnswer → List ℕ → Type 0
-  Meets r sheet' = (r ≡ readAnswer kind subtype payload sheet) × (sheet' ≡ sheetAfter kind subtype payload sheet)
-
-  meets : (o : Outcome Message) → reading kind subtype payload sheet ≡ o → Meets (readAnswerBy o) (sheetBy o sheet)
+  meets : (o : Outcome Message) → reading kind subtype payload sheet ≡ o → Met kind subtype payload sheet (readAnswerBy o) (sheetBy o sheet)
   unfolding readAnswer sheetAfter
-  meets o e = (ap readAnswerBy (sym e), ap (λ x. sheetBy x sheet) (sym e))
+  meets o e = record { says = ap readAnswerBy (sym e); leaves = ap (λ x. sheetBy x sheet) (sym e) }
 
-  pub read-room : length sheet < entryRoom → Meets (reader.Refused refusal.Room) sheet
-  read-room h = meets (refused refusal.Room) (reading-with kind subtype payload sheet (lt-ltb (length sheet) entryRoom h) refl refl)
+  pub read-room : length sheet < sheetRoom → Met kind subtype payload sheet (reader.Refused refusal.Room) sheet
+  read-room h = meets (refused refusal.Room) (reading-with kind subtype payload sheet (lt-ltb (length sheet) sheetRoom h) refl refl)
 
-  module _ (room : entryRoom ≤ length sheet) where
-    pub read-unknown : (x : Start) → x ≡ startOf kind subtype → x ≡ Unknown → Meets (reader.Refused refusal.UnknownType) sheet
-    read-unknown x e q = meets (refused refusal.UnknownType) (reading-with kind subtype payload sheet (le-ltb (length sheet) entryRoom room) (not-started kind subtype x e q) refl)
+  module _ (room : sheetRoom ≤ length sheet) where
+    pub read-unknown : (x : Start) → x ≡ startOf kind subtype → x ≡ Unknown → Met kind subtype payload sheet (reader.Refused refusal.UnknownType) sheet
+    read-unknown x e q = meets (refused refusal.UnknownType) (reading-with kind subtype payload sheet (le-ltb (length sheet) sheetRoom room) (not-started kind subtype x e q) refl)
 
     pub read-length : (x : Start) (start : State) → x ≡ startOf kind subtype → x ≡ Known start → (b : Bool) → b ≡ badLength (length payload) → b ≡ true
-        → Meets (reader.Refused refusal.Length) sheet
+        → Met kind subtype payload sheet (reader.Refused refusal.Length) sheet
     read-length x start e q b m n =
-        meets (refused refusal.Length) (reading-with kind subtype payload sheet (le-ltb (length sheet) entryRoom room) (started kind subtype x start e q .here) (sym m ∙ n))
+        meets (refused refusal.Length) (reading-with kind subtype payload sheet (le-ltb (length sheet) sheetRoom room) (started kind subtype x start e q .here) (sym m ∙ n))
 
     pub read-known : (x : Start) (start : State) → x ≡ startOf kind subtype → x ≡ Known start → (b : Bool) → b ≡ badLength (length payload) → b ≡ false
-        → (r : ReadAnswer) (sheet' : List ℕ) → ReadWhole payload sheet start r sheet' → Meets r sheet'
+        → (r : ReadAnswer) (sheet' : List ℕ) → ReadWhole payload sheet start r sheet' → Met kind subtype payload sheet r sheet'
     read-known x start e q b m n r sheet' w =
         let k = started kind subtype x start e q in
-        let g = meets (readL (k .layout) (toBits payload)) (reading-with kind subtype payload sheet (le-ltb (length sheet) entryRoom room) (k .here) (sym m ∙ n)) in
-        (w .answers (k .layout) (k .walks) ∙ g .0, w .leaves (k .layout) (k .walks) ∙ g .1)
+        let g = meets (readL (k .layout) (toBits payload)) (reading-with kind subtype payload sheet (le-ltb (length sheet) sheetRoom room) (k .here) (sym m ∙ n)) in
+        record { says = w .answers (k .layout) (k .walks) ∙ g .says; leaves = w .leaves (k .layout) (k .walks) ∙ g .leaves }

@@ -9,6 +9,7 @@ use lib.Dec.{ltb}
 use lib.ListN.{length, take, drop, getD, length-append}
 use lib.Seq.{sets, sets-eq, drop-drop, take-at, drop-append-add, length-take-le, take-length}
 use borrow.Author.Tests.{lt-ltb, le-ltb, ltb-true, ltb-false, ne-eqb}
+use Rattle.sizes.specs.Sizes.{longestPayload}
 use Rattle.answer.specs.declared.Refusal.{Refusal}
 use Rattle.answer.specs.declared.Refusal.the-variants as refusal
 use Rattle.bits.specs.Bits.{toBits, bitsOf, leaves}
@@ -20,42 +21,103 @@ use Rattle.layout.specs.Layout.{Layout, pick, judge, Written, written, unwritte
 use Rattle.layout.specs.Run.{finished, stopped, On}
 use Rattle.layout.specs.Put.{putL, endedW, put-writes, put-done, put-over, put-short, put-fault, put-on}
 use Rattle.layout.specs.Walks.{Walks}
-use Rattle.rows.specs.Puts.{onward, Counted, Kept, kept-first, kept-on}
+use Rattle.rows.specs.Puts.{Counted, kept-first, kept-on}
 use Rattle.message.specs.declared.State.{State}
 use Rattle.message.specs.declared.Start.{Start}
 use Rattle.message.specs.declared.Start.the-variants.{Known, Unknown}
 use Rattle.message.specs.Machine.{fieldOf, stepOf, startOf}
 use Rattle.message.specs.Messages.{Message}
-use Rattle.sheet.specs.Sheet.{byteRoom, badLength, bytesFor, fillFor, thenLength, judgingSheet, judgedSheet, writing, writeAnswerBy, outBy, writeAnswer, outAfter}
+use Rattle.sheet.specs.Sheet.{badLength, bytesFor, fillFor, thenLength, judgingSheet, judgedSheet, writing, writeAnswerBy, outBy, writeAnswer, outAfter}
 use Rattle.sheet.specs.Laws.{good-some, judging-sheet-with, writing-with}
-use Rattle.sheet.specs.Passes.{ForLayout, PutBy, whole, fault, bitsOfPass, WritePass, bitsWritten, bytesWritten, SheetJudged, AsideBits, text, nothing, SheetKept, WriteWhole}
+use Rattle.sheet.specs.Passes.{ForLayout, PutBy, whole, fault, bitsOfPass, OnSheet, CodePut, Putting, PutsOn, Onto, WriteTurn, WritePass, bitsWritten, bytesWritten, SheetJudged, AsideBits, text, nothing, SheetKept, WriteWhole}
 use Rattle.sheet.specs.declared.WriteAnswer.{WriteAnswer}
 use Rattle.sheet.specs.declared.WriteAnswer.the-variants as writer
 use Rattle.sheet.specs.declared.Pass.{Pass}
 use Rattle.sheet.specs.declared.Pass.the-variants.{Whole, Fault}
-use Rattle.sheet.proofs.Reading.{walks-word, started, not-started}
+use Rattle.sheet.specs.declared.Turn.{Turn}
+use Rattle.sheet.specs.declared.Turn.the-variants as turn
+use Rattle.sheet.proofs.Reading.{walks-word, width-is, verdict-is, started, not-started}
 
 -- ---- a pass
 
--- for one layout: the bits written so far
-pub record Putting (sheet out₀ : List ℕ) (l : Layout Message) (out : List ℕ) (s : State) (pos at : ℕ) : Type 0 where
-  pub place : ℕ
-  pub bits : List ℕ
-  pub kept : Kept place bits pos out
-  pub on : On fieldOf stepOf s (putL l sheet 0 0 (toBits out₀)) (λ (next : Layout Message). putL next (drop at sheet) place at bits)
+ended-fault : (o : Written) (n : ℕ) (why : Refusal) (out out' : List ℕ) → endedW o n 0 0 (toBits out) ≡ stopped why → PutBy out out' o (Fault why)
+ended-fault (written bs) n why out out' e = let z : _≡_ {A = ℕ} 0 1 = cc in absurd (omega arith)
+ended-fault (unwritten why') n why out out' e = let q : why' ≡ why = cc in subst (λ x. PutBy out out' (unwritten x) (Fault why)) (sym q) fault
+
+ended-whole : (o : Written) (n entries count place : ℕ) (bits out out' : List ℕ) → endedW o n 0 0 (toBits out) ≡ finished entries place bits → Counted count place
+    → (place ≤ 8 * longestPayload → place ≤ 8 * length out → toBits out' ≡ bits) → PutBy out out' o (Whole entries count)
+ended-whole (written bs) n entries count place bits out out' e c h =
+    let p : 0 + length bs ≡ place = cc in
+    let q : sets (toBits out) 0 bs ≡ bits = cc in
+    let r : place ≡ length bs = sym p ∙ zero-add (length bs) in
+    let k : length bs ≤ 8 * longestPayload → length bs ≤ 8 * length out → toBits out' ≡ bs ++ drop (length bs) (toBits out)
+    = λ a b. h (omega arith) (omega arith) ∙ sym q ∙ sets-eq bs (toBits out) 0 (omega (arith, length-toBits out)) ∙ simp zero-add in
+    whole (subst (Counted count) r c) k
+ended-whole (unwritten why) n entries count place bits out out' e c h = let z : _≡_ {A = ℕ} 0 1 = cc in absurd (omega arith)
+
+-- one turn: the field at hand
+module _ {sheet out : List ℕ} {s : State} {pos at : ℕ} (i : OnSheet sheet pos at) (f : Field) (e : f ≡ fieldOf s) where
+  pub field-over : f .width ≡ 0 → at < length sheet → WriteTurn sheet out s pos at (turn.Ended (Fault refusal.Leftover)) out
+  field-over z h =
+      record { on = λ l w place bits k. put-over sheet place at bits w (width-is s f e ∙ z) h; further = omega arith }
+
+  pub field-done : f .width ≡ 0 → length sheet ≤ at → WriteTurn sheet out s pos at (turn.Ended (Whole at pos)) out
+  field-done z h =
+      let n : at ≡ length sheet = omega (arith, i .inside) in
+      record {
+        on = λ l w place bits k. (put-done sheet place at bits w (width-is s f e ∙ z) n, k);
+        further = i .small;
+      }
+
+  pub field-short : (f .width ≡ 0 → ⊥) → length sheet ≤ at → WriteTurn sheet out s pos at (turn.Ended (Fault refusal.Short)) out
+  field-short z h =
+      let d : fieldOf s .width ≡ f .width = width-is s f e in
+      let n : at ≡ length sheet = omega (arith, i .inside) in
+      record { on = λ l w place bits k. put-short sheet place at bits w (omega arith) n; further = omega arith }
+
+  module _ (z : f .width ≡ 0 → ⊥) (h : at < length sheet) (v : Verdict) (j : v ≡ judge f (getD sheet at 0)) where
+    pub field-fault : (why : Refusal) → v ≡ verdict.Fault why → WriteTurn sheet out s pos at (turn.Ended (Fault why)) out
+    field-fault why q =
+        let d : fieldOf s .width ≡ f .width = width-is s f e in
+        record {
+          on = λ l w place bits k. put-fault sheet place at bits (getD sheet at 0) why w (omega arith) h refl (verdict-is s f (getD sheet at 0) v e j ∙ q);
+          further = omega arith;
+        }
+
+    pub field-taken : (out' : List ℕ) (pos' : ℕ) (s' : State) → v ≡ verdict.Taken → length out' ≡ length out
+        → CodePut out pos (f .width) (getD sheet at 0) pos' out' → s' ≡ stepOf s (getD sheet at 0)
+        → WriteTurn sheet out s pos at (turn.On s' pos' (at + 1)) out'
+    field-taken out' pos' s' q kept put stepped =
+        let d : fieldOf s .width ≡ f .width = width-is s f e in
+        let n : 0 < fieldOf s .width = omega arith in
+        record {
+          on = λ l w place bits k.
+              let m : f .width ≤ 64 = omega (arith, walks-word w n) in
+              let r = put-on sheet place at bits (getD sheet at 0) w n h refl (verdict-is s f (getD sheet at 0) v e j ∙ q) in
+              record {
+                place = place + f .width;
+                bits = sets bits place (bitsOf (f .width) (getD sheet at 0));
+                kept = kept-on (f .width) (getD sheet at 0) pos' out' m kept (put .put) (put .moved .0) k;
+                on = record {
+                  left = r .left;
+                  walks = subst (λ x. Walks fieldOf stepOf x (r .left)) (sym stepped) (r .walks);
+                  same = r .same
+                      ∙ ap (λ (x : ℕ). putL (r .left) (drop (at + 1) sheet) (place + x) (at + 1) (sets bits place (bitsOf x (getD sheet at 0)))) d;
+                };
+              };
+          further = (omega arith, record { inside = omega arith; small = put .moved .1 (i .small) });
+        }
 
 -- at the loop's head: the rest of the sheet is written from here as the whole was to be from the start
-pub record Turn (sheet out₀ : List ℕ) (s₀ : State) (out : List ℕ) (s : State) (pos at : ℕ) : Type 0 where
-  pub inside : at ≤ length sheet
-  pub small : pos < 2 ^ 33
+pub record Writes (sheet out₀ : List ℕ) (s₀ : State) (out : List ℕ) (s : State) (pos at : ℕ) : Type 0 where
+  pub place : OnSheet sheet pos at
   pub same : length out ≡ length out₀
-  pub on : ForLayout s₀ (λ l. Putting sheet out₀ l out s pos at)
+  pub on : ForLayout s₀ (λ l. Putting sheet (putL l sheet 0 0 (toBits out₀)) out s pos at)
 
-pub turn-first : (sheet out : List ℕ) (s : State) → Turn sheet out s out s 0 0
-turn-first sheet out s =
+pub writes-first : (sheet out : List ℕ) (s : State) → Writes sheet out s out s 0 0
+writes-first sheet out s =
     record {
-      inside = omega arith;
-      small = omega arith;
+      place = record { inside = omega arith; small = omega arith };
       same = refl;
       on = λ l w. record {
         place = 0;
@@ -65,88 +127,51 @@ turn-first sheet out s =
       };
     }
 
-pub ended-fault : (o : Written) (n : ℕ) (why : Refusal) (out out' : List ℕ) → endedW o n 0 0 (toBits out) ≡ stopped why → PutBy out out' o (Fault why)
-ended-fault (written bs) n why out out' e = let z : _≡_ {A = ℕ} 0 1 = cc in absurd (omega arith)
-ended-fault (unwritten why') n why out out' e = let q : why' ≡ why = cc in subst (λ x. PutBy out out' (unwritten x) (Fault why)) (sym q) fault
+module _ {sheet out₀ : List ℕ} {s₀ : State} {out : List ℕ} {s : State} {pos at : ℕ} (t : Writes sheet out₀ s₀ out s pos at)
+    (n : Turn) (out' : List ℕ) (r : WriteTurn sheet out s pos at n out') where
+  -- what the turn says of the bits written so far
+  turned : {x : Turn} → n ≡ x → (l : Layout Message) (w : Walks fieldOf stepOf s₀ l)
+      → PutsOn sheet (putL (t .on l w .on .left) (drop at sheet) (t .on l w .place) at (t .on l w .bits)) (t .on l w .place) (t .on l w .bits) x out'
+  turned e l w =
+      let o = t .on l w in
+      subst (λ y. WriteTurn sheet out s pos at y out') e r .on (o .on .left) (o .on .walks) (o .place) (o .bits) (o .kept)
 
-ended-whole : (o : Written) (n entries count place : ℕ) (bits out out' : List ℕ) → endedW o n 0 0 (toBits out) ≡ finished entries place bits → Counted count place
-    → (place ≤ 8 * byteRoom → place ≤ 8 * length out → toBits out' ≡ bits) → PutBy out out' o (Whole entries count)
-ended-whole (written bs) n entries count place bits out out' e c h =
-    let p : 0 + length bs ≡ place = cc in
-    let q : sets (toBits out) 0 bs ≡ bits = cc in
-    let r : place ≡ length bs = sym p ∙ zero-add (length bs) in
-    let k : length bs ≤ 8 * byteRoom → length bs ≤ 8 * length out → toBits out' ≡ bs ++ drop (length bs) (toBits out)
-    = λ a b. h (omega arith) (omega arith) ∙ sym q ∙ sets-eq bs (toBits out) 0 (omega (arith, length-toBits out)) ∙ simp zero-add in
-    whole (subst (Counted count) r c) k
-ended-whole (unwritten why) n entries count place bits out out' e c h = let z : _≡_ {A = ℕ} 0 1 = cc in absurd (omega arith)
-
-module _ {sheet out₀ : List ℕ} {s₀ : State} {out : List ℕ} {s : State} {pos at : ℕ} (t : Turn sheet out₀ s₀ out s pos at) (f : Field) (e : f ≡ fieldOf s) where
-  width-is : fieldOf s .width ≡ f .width
-  width-is = ap (λ (x : Field). x .width) (sym e)
-
-  stops : (why : Refusal) → ((place : ℕ) (bits : List ℕ) (l : Layout Message) → Walks fieldOf stepOf s l → putL l (drop at sheet) place at bits ≡ stopped why)
-      → WritePass sheet out₀ s₀ (Fault why) out
-  stops why h =
+  pub writes-ended : (pass : Pass) → n ≡ turn.Ended pass → length out' ≡ length out → WritePass sheet out₀ s₀ pass out'
+  writes-ended (Fault why) e kept =
       record {
-        puts = λ l w. let o = t .on l w in
-            ended-fault (writeL l sheet) (length sheet) why out₀ out
-            (sym (put-writes l sheet 0 0 (toBits out₀)) ∙ o .on .same ∙ h (o .place) (o .bits) (o .on .left) (o .on .walks));
+        puts = λ l w. ended-fault (writeL l sheet) (length sheet) why out₀ out'
+            (sym (put-writes l sheet 0 0 (toBits out₀)) ∙ t .on l w .on .same ∙ turned e l w);
         small = omega arith;
       }
-
-  pub turn-over : f .width ≡ 0 → at < length sheet → WritePass sheet out₀ s₀ (Fault refusal.Leftover) out
-  turn-over z h = stops refusal.Leftover (λ place bits l w. put-over sheet place at bits w (width-is ∙ z) h)
-
-  pub turn-done : f .width ≡ 0 → length sheet ≤ at → WritePass sheet out₀ s₀ (Whole at pos) out
-  turn-done z h =
+  writes-ended (Whole entries count) e kept =
       record {
         puts = λ l w. let o = t .on l w in
-            ended-whole (writeL l sheet) (length sheet) at pos (o .place) (o .bits) out₀ out
-            (sym (put-writes l sheet 0 0 (toBits out₀)) ∙ o .on .same
-            ∙ put-done sheet (o .place) at (o .bits) (o .on .walks) (width-is ∙ z) (omega (arith, t .inside)))
-            (o .kept .count) (λ a b. o .kept .stored a (omega (arith, t .same)));
-        small = t .small;
+            let k = turned e l w in
+            ended-whole (writeL l sheet) (length sheet) entries count (o .place) (o .bits) out₀ out'
+            (sym (put-writes l sheet 0 0 (toBits out₀)) ∙ o .on .same ∙ k .0)
+            (k .1 .count) (λ a b. k .1 .stored a (omega (arith, t .same)));
+        small = subst (λ x. Onto sheet at x) e (r .further);
       }
 
-  pub turn-short : (f .width ≡ 0 → ⊥) → length sheet ≤ at → WritePass sheet out₀ s₀ (Fault refusal.Short) out
-  turn-short z h =
-      let d : fieldOf s .width ≡ f .width = width-is in
-      stops refusal.Short (λ place bits l w. put-short sheet place at bits w (omega arith) (omega (arith, t .inside)))
+  module _ (s' : State) (p a : ℕ) (e : n ≡ turn.On s' p a) where
+    onto : (at < a) × OnSheet sheet p a
+    onto = subst (λ x. Onto sheet at x) e (r .further)
 
-  module _ (z : f .width ≡ 0 → ⊥) (h : at < length sheet) (v : Verdict) (j : v ≡ judge f (getD sheet at 0)) where
-    abbrev code : ℕ
-    code = getD sheet at 0
+    pub writes-less : length sheet - a < length sheet - at
+    writes-less = omega (arith, onto .0, onto .1)
 
-    verdict-is : judge (fieldOf s) code ≡ v
-    verdict-is = ap (λ (x : Field). judge x code) (sym e) ∙ sym j
-
-    pub turn-fault : (why : Refusal) → v ≡ verdict.Fault why → WritePass sheet out₀ s₀ (Fault why) out
-    turn-fault why q =
-        let d : fieldOf s .width ≡ f .width = width-is in
-        stops why (λ place bits l w. put-fault sheet place at bits code why w (omega arith) h refl (verdict-is ∙ q))
-
-    pub turn-again : (out' : List ℕ) (pos' : ℕ) (s' : State) → v ≡ verdict.Taken → length out' ≡ length out → toBits out' ≡ leaves out pos (f .width) code
-        → (pos' ≡ onward pos (f .width)) × (pos < 2 ^ 33 → pos' < 2 ^ 33) → s' ≡ stepOf s code → Turn sheet out₀ s₀ out' s' pos' (at + 1)
-    turn-again out' pos' s' q kept put moved stepped =
-        let d : fieldOf s .width ≡ f .width = width-is in
+    pub writes-on : length out' ≡ length out → Writes sheet out₀ s₀ out' s' p a
+    writes-on kept =
         record {
-          inside = omega arith;
-          small = moved .1 (t .small);
+          place = onto .1;
           same = kept ∙ t .same;
           on = λ l w. let o = t .on l w in
-              let n : 0 < fieldOf s .width = omega arith in
-              let m : f .width ≤ 64 = omega (arith, walks-word (o .on .walks) n) in
-              let r = put-on sheet (o .place) at (o .bits) code (o .on .walks) n h refl (verdict-is ∙ q) in
+              let f = turned e l w in
               record {
-                place = o .place + f .width;
-                bits = sets (o .bits) (o .place) (bitsOf (f .width) code);
-                kept = kept-on (f .width) code pos' out' m kept put (moved .0) (o .kept);
-                on = record {
-                  left = r .left;
-                  walks = subst (λ x. Walks fieldOf stepOf x (r .left)) (sym stepped) (r .walks);
-                  same = o .on .same ∙ r .same
-                      ∙ ap (λ (x : ℕ). putL (r .left) (drop (at + 1) sheet) (o .place + x) (at + 1) (sets (o .bits) (o .place) (bitsOf x code))) d;
-                };
+                place = f .place;
+                bits = f .bits;
+                kept = f .kept;
+                on = record { left = f .on .left; walks = f .on .walks; same = o .on .same ∙ f .on .same };
               };
         }
 
@@ -154,25 +179,25 @@ module _ {sheet out₀ : List ℕ} {s₀ : State} {out : List ℕ} {s : State} {
 
 -- a bad length counted is a bad length; a good one was counted exactly
 length-by : (count bits : ℕ) → Counted count bits → badLength (bytesFor count) ≡ true → badLength (bytesFor bits) ≡ true
-length-by count bits c h = go (ltb (8 * byteRoom) bits) refl
+length-by count bits c h = go (ltb (8 * longestPayload) bits) refl
   where
-    go : (x : Bool) → ltb (8 * byteRoom) bits ≡ x → badLength (bytesFor bits) ≡ true
+    go : (x : Bool) → ltb (8 * longestPayload) bits ≡ x → badLength (bytesFor bits) ≡ true
     go true p =
-        let a : 8 * byteRoom < bits = ltb-true (8 * byteRoom) bits p in
-        rw (ne-eqb (bytesFor bits) 0 (λ z. omega arith), lt-ltb byteRoom (bytesFor bits) (omega arith))
+        let a : 8 * longestPayload < bits = ltb-true (8 * longestPayload) bits p in
+        rw (ne-eqb (bytesFor bits) 0 (λ z. omega arith), lt-ltb longestPayload (bytesFor bits) (omega arith))
     go false p =
-        let a : count ≡ bits = c .exact (ltb-false (8 * byteRoom) bits p) in
+        let a : count ≡ bits = c .exact (ltb-false (8 * longestPayload) bits p) in
         ap (λ (x : ℕ). badLength (bytesFor x)) (sym a) ∙ h
 
-exact-by : (count bits : ℕ) → Counted count bits → badLength (bytesFor count) ≡ false → (count ≡ bits) × (bits ≤ 8 * byteRoom)
-exact-by count bits c h = go (ltb (8 * byteRoom) bits) refl
+exact-by : (count bits : ℕ) → Counted count bits → badLength (bytesFor count) ≡ false → (count ≡ bits) × (bits ≤ 8 * longestPayload)
+exact-by count bits c h = go (ltb (8 * longestPayload) bits) refl
   where
-    go : (x : Bool) → ltb (8 * byteRoom) bits ≡ x → (count ≡ bits) × (bits ≤ 8 * byteRoom)
+    go : (x : Bool) → ltb (8 * longestPayload) bits ≡ x → (count ≡ bits) × (bits ≤ 8 * longestPayload)
     go true p =
-        let a : 8 * byteRoom < count = c .over (ltb-true (8 * byteRoom) bits p) in
-        let b : bytesFor count ≤ byteRoom = good-some (bytesFor count) h .1 in
+        let a : 8 * longestPayload < count = c .over (ltb-true (8 * longestPayload) bits p) in
+        let b : bytesFor count ≤ longestPayload = good-some (bytesFor count) h .1 in
         absurd (omega arith)
-    go false p = let a : bits ≤ 8 * byteRoom = ltb-false (8 * byteRoom) bits p in (c .exact a, a)
+    go false p = let a : bits ≤ 8 * longestPayload = ltb-false (8 * longestPayload) bits p in (c .exact a, a)
 
 -- what a pass says is the answer
 judged-fault : (o : Written) (pass : Pass) (none none' : List ℕ) (why : Refusal) → PutBy none' none o pass → pass ≡ Fault why
@@ -192,7 +217,7 @@ judged-whole : (o : Written) (pass : Pass) (none none' : List ℕ) (entries coun
 judged-whole (unwritten w) (Fault v) none none' entries count fault e b = let z : _≡_ {A = ℕ} 0 1 = cc in absurd (omega arith)
 judged-whole (written bs) (Whole n m) none none' entries count (whole c h) e b =
     let q : m ≡ count = cc in
-    let x : (count ≡ length bs) × (length bs ≤ 8 * byteRoom) = exact-by count (length bs) (subst (λ y. Counted y (length bs)) q c) b in
+    let x : (count ≡ length bs) × (length bs ≤ 8 * longestPayload) = exact-by count (length bs) (subst (λ y. Counted y (length bs)) q c) b in
     let k : badLength (bytesFor (length bs)) ≡ false = ap (λ (y : ℕ). badLength (bytesFor y)) (sym (x .0)) ∙ b in
     rw k (ap (λ (y : ℕ). writer.Written y (bytesFor y)) (x .0))
 
@@ -242,7 +267,7 @@ module _ (out : List ℕ) where
   refused-leaves (written bs) why e = let z : _≡_ {A = ℕ} 0 1 = cc in absurd (omega arith)
 
   -- the fill behind the bits
-  filled : (bs out₁ out₂ : List ℕ) → length bs ≤ 8 * byteRoom → byteRoom ≤ length out → length out₁ ≡ length out
+  filled : (bs out₁ out₂ : List ℕ) → length bs ≤ 8 * longestPayload → longestPayload ≤ length out → length out₁ ≡ length out
       → toBits out₁ ≡ bs ++ drop (length bs) (toBits out) → toBits out₂ ≡ leaves out₁ (length bs) (8 * bytesFor (length bs) - length bs) 0
       → toBits out₂ ≡ outBy (written bs) out
   filled bs out₁ out₂ h room same e p =
@@ -255,7 +280,7 @@ module _ (out : List ℕ) where
       p ∙ leaves-there out₁ n w 0 (omega arith) (omega arith) ∙ ap₂ (λ x y. x ++ (bitsOf w 0 ++ y)) front back
 
   stored-leaves : (o : Written) (out₁ out₂ : List ℕ) (bits bytes : ℕ) → writer.Written bits bytes ≡ writeAnswerBy (thenLength o)
-      → byteRoom ≤ length out → length out₁ ≡ length out → AsideBits out out₁ o → toBits out₂ ≡ leaves out₁ bits (8 * bytes - bits) 0
+      → longestPayload ≤ length out → length out₁ ≡ length out → AsideBits out out₁ o → toBits out₂ ≡ leaves out₁ bits (8 * bytes - bits) 0
       → toBits out₂ ≡ outBy (thenLength o) out
   stored-leaves (unwritten w) out₁ out₂ bits bytes e room same d p = let z : _≡_ {A = ℕ} 0 1 = cc in absurd (omega arith)
   stored-leaves (written bs) out₁ out₂ bits bytes e room same (text h) p = go (badLength (bytesFor (length bs))) refl
@@ -266,12 +291,12 @@ module _ (out : List ℕ) where
           let z : writer.Written bits bytes ≡ writer.Written (length bs) (bytesFor (length bs)) = rw k at e in
           let i : bits ≡ length bs = cc in
           let j : bytes ≡ bytesFor (length bs) = cc in
-          let few : bytesFor (length bs) ≤ byteRoom = good-some (bytesFor (length bs)) k .1 in
+          let few : bytesFor (length bs) ≤ longestPayload = good-some (bytesFor (length bs)) k .1 in
           rw k (filled bs out₁ out₂ (omega arith) room same (h (omega arith) (omega arith)) (p ∙ ap₂ (λ (x y : ℕ). leaves out₁ x (8 * y - x) 0) i j))
 
 -- the bytes kept aside, in place of the first ones of `out`
-copied-leaves : (o : Written) (aside aside' out : List ℕ) (bits bytes : ℕ) → writer.Written bits bytes ≡ writeAnswerBy o → bytes ≤ byteRoom → byteRoom ≤ length out
-    → byteRoom ≤ length aside' → toBits aside' ≡ outBy o aside → toBits (take bytes aside' ++ drop bytes out) ≡ outBy o out
+copied-leaves : (o : Written) (aside aside' out : List ℕ) (bits bytes : ℕ) → writer.Written bits bytes ≡ writeAnswerBy o → bytes ≤ longestPayload → longestPayload ≤ length out
+    → longestPayload ≤ length aside' → toBits aside' ≡ outBy o aside → toBits (take bytes aside' ++ drop bytes out) ≡ outBy o out
 copied-leaves (unwritten w) aside aside' out bits bytes e few room k p = let z : _≡_ {A = ℕ} 0 1 = cc in absurd (omega arith)
 copied-leaves (written bs) aside aside' out bits bytes e few room k p =
     let n : ℕ = length bs in
@@ -295,28 +320,37 @@ module _ {sheet aside : List ℕ} {start : State} (judged : WriteAnswer) (aside'
 
   module _ (bits bytes : ℕ) (e : judged ≡ writer.Written bits bytes) where
     -- the count of bits is small enough to be taken from that of the bytes
-    pub whole-bytes : bytes ≡ bytesFor bits
+    whole-bytes : bytes ≡ bytesFor bits
     whole-bytes = let r : bytesWritten judged ≡ bytesFor (bitsWritten judged) = p .judged .round in rw e at r
 
-    pub whole-short : bytes ≤ byteRoom
-    whole-short = let r : bytesWritten judged ≤ byteRoom = p .judged .good in rw e at r
+    whole-short : bytes ≤ longestPayload
+    whole-short = let r : bytesWritten judged ≤ longestPayload = p .judged .good in rw e at r
 
-    pub whole-fits : (aside₂ : List ℕ) → byteRoom ≤ length aside → length aside' ≡ length aside → length aside₂ ≡ length aside' → bytes ≤ length aside₂
-    whole-fits aside₂ k same same₂ = let s : bytes ≤ byteRoom = whole-short in omega arith
+    pub fill-times : 8 * bytes < 2 ^ 64
+    fill-times = omega (arith, whole-short)
 
-    pub whole-count : (aside₂ : List ℕ) → byteRoom ≤ length aside → length aside' ≡ length aside → length aside₂ ≡ length aside' → length (take bytes aside₂) ≡ bytes
+    pub fill-under : bits ≤ 8 * bytes
+    fill-under = omega (arith, whole-bytes)
+
+    pub fill-few : 8 * bytes - bits < 2 ^ 32
+    fill-few = omega (arith, whole-short)
+
+    pub whole-fits : (aside₂ : List ℕ) → longestPayload ≤ length aside → length aside' ≡ length aside → length aside₂ ≡ length aside' → bytes ≤ length aside₂
+    whole-fits aside₂ k same same₂ = let s : bytes ≤ longestPayload = whole-short in omega arith
+
+    pub whole-count : (aside₂ : List ℕ) → longestPayload ≤ length aside → length aside' ≡ length aside → length aside₂ ≡ length aside' → length (take bytes aside₂) ≡ bytes
     whole-count aside₂ k same same₂ = length-take-le bytes aside₂ (whole-fits aside₂ k same same₂)
 
-    pub whole-room : (aside₂ out : List ℕ) → byteRoom ≤ length out → byteRoom ≤ length aside → length aside' ≡ length aside → length aside₂ ≡ length aside'
+    pub whole-room : (aside₂ out : List ℕ) → longestPayload ≤ length out → longestPayload ≤ length aside → length aside' ≡ length aside → length aside₂ ≡ length aside'
         → length (take bytes aside₂) ≤ length out
-    whole-room aside₂ out room k same same₂ = let s : bytes ≤ byteRoom = whole-short in omega (arith, whole-count aside₂ k same same₂)
+    whole-room aside₂ out room k same same₂ = let s : bytes ≤ longestPayload = whole-short in omega (arith, whole-count aside₂ k same same₂)
 
-    pub whole-written : {out : List ℕ} (aside₂ out' : List ℕ) → byteRoom ≤ length out → byteRoom ≤ length aside → length aside' ≡ length aside
+    pub whole-written : {out : List ℕ} (aside₂ out' : List ℕ) → longestPayload ≤ length out → longestPayload ≤ length aside → length aside' ≡ length aside
         → length aside₂ ≡ length aside' → toBits aside₂ ≡ leaves aside' bits (8 * bytes - bits) 0
         → out' ≡ take (length (take bytes aside₂)) (take bytes aside₂) ++ drop (length (take bytes aside₂)) out
         → WriteWhole sheet out start (writer.Written bits bytes) out'
     whole-written {out} aside₂ out' room k same same₂ put c =
-        let s : bytes ≤ byteRoom = whole-short in
+        let s : bytes ≤ longestPayload = whole-short in
         let n : length (take bytes aside₂) ≡ bytes = length-take-le bytes aside₂ (omega arith) in
         let d : out' ≡ take bytes aside₂ ++ drop bytes out
         = c ∙ ap₂ (λ x y. x ++ y) (take-length (take bytes aside₂)) (ap (λ (x : ℕ). drop x out) n) in
@@ -327,8 +361,8 @@ module _ {sheet aside : List ℕ} {start : State} (judged : WriteAnswer) (aside'
         }
 
 -- the count of a pass is small enough to be rounded up to bytes
-pub count-small : {sheet aside : List ℕ} {start : State} {dry : Pass} {aside' : List ℕ} {entries count : ℕ} → WritePass sheet aside start dry aside' → dry ≡ Whole entries count → count < 2 ^ 33
-count-small p e = subst (λ x. bitsOfPass x < 2 ^ 33) e (p .small)
+pub count-small : {sheet aside : List ℕ} {start : State} {dry : Pass} {aside' : List ℕ} {entries count : ℕ} → WritePass sheet aside start dry aside' → dry ≡ Whole entries count → count + 7 < 2 ^ 64
+count-small {count} p e = let h : count < 2 ^ 33 = subst (λ x. bitsOfPass x < 2 ^ 33) e (p .small) in omega arith
 
 -- ---- `judge_sheet`
 
@@ -348,25 +382,31 @@ module _ (kind subtype : ℕ) (sheet : List ℕ) where
 
 -- ---- `write`
 
+-- what is answered, and the bits afterwards
+pub record Met (kind subtype : ℕ) (sheet out : List ℕ) (r : WriteAnswer) (out' : List ℕ) : Type 0 where
+  pub says : r ≡ writeAnswer kind subtype sheet out
+  pub leaves : toBits out' ≡ outAfter kind subtype sheet out
+
+pub both : {kind subtype : ℕ} {sheet out : List ℕ} {r : WriteAnswer} (out' : List ℕ) → Met kind subtype sheet out r out'
+    → (r ≡ writeAnswer kind subtype sheet out) × (toBits out' ≡ outAfter kind subtype sheet out)
+both out' m = (m .says, m .leaves)
+
 module _ (kind subtype : ℕ) (sheet out : List ℕ) where
-  abbrev pub Meets : WriteAnswer → List ℕ → Type 0
-  Meets r out' = (r ≡ writeAnswer kind subtype sheet out) × (toBits out' ≡ outAfter kind subtype sheet out)
-
-  meets : (o : Written) (out' : List ℕ) → writing kind subtype sheet out ≡ o → toBits out' ≡ outBy o out → Meets (writeAnswerBy o) out'
+  meets : (o : Written) (out' : List ℕ) → writing kind subtype sheet out ≡ o → toBits out' ≡ outBy o out → Met kind subtype sheet out (writeAnswerBy o) out'
   unfolding writeAnswer outAfter
-  meets o out' e p = (ap writeAnswerBy (sym e), p ∙ ap (λ x. outBy x out) (sym e))
+  meets o out' e p = record { says = ap writeAnswerBy (sym e); leaves = p ∙ ap (λ x. outBy x out) (sym e) }
 
-  pub write-room : length out < byteRoom → Meets (writer.Refused refusal.Room) out
-  write-room h = meets (unwritten refusal.Room) out (writing-with kind subtype sheet out (lt-ltb (length out) byteRoom h) refl) refl
+  pub write-room : length out < longestPayload → Met kind subtype sheet out (writer.Refused refusal.Room) out
+  write-room h = meets (unwritten refusal.Room) out (writing-with kind subtype sheet out (lt-ltb (length out) longestPayload h) refl) refl
 
-  module _ (room : byteRoom ≤ length out) where
-    pub write-unknown : (x : Start) → x ≡ startOf kind subtype → x ≡ Unknown → Meets (writer.Refused refusal.UnknownType) out
-    write-unknown x e q = meets (unwritten refusal.UnknownType) out (writing-with kind subtype sheet out (le-ltb (length out) byteRoom room) (not-started kind subtype x e q)) refl
+  module _ (room : longestPayload ≤ length out) where
+    pub write-unknown : (x : Start) → x ≡ startOf kind subtype → x ≡ Unknown → Met kind subtype sheet out (writer.Refused refusal.UnknownType) out
+    write-unknown x e q = meets (unwritten refusal.UnknownType) out (writing-with kind subtype sheet out (le-ltb (length out) longestPayload room) (not-started kind subtype x e q)) refl
 
     pub write-known : (x : Start) (start : State) → x ≡ startOf kind subtype → x ≡ Known start → (r : WriteAnswer) (out' : List ℕ)
-        → WriteWhole sheet out start r out' → Meets r out'
+        → WriteWhole sheet out start r out' → Met kind subtype sheet out r out'
     write-known x start e q r out' w =
         let k = started kind subtype x start e q in
         let o : Written = thenLength (writeL (k .layout) sheet) in
-        let g = meets o out' (writing-with kind subtype sheet out (le-ltb (length out) byteRoom room) (k .here)) (w .leaves (k .layout) (k .walks)) in
-        (w .answers (k .layout) (k .walks) ∙ g .0, g .1)
+        let g = meets o out' (writing-with kind subtype sheet out (le-ltb (length out) longestPayload room) (k .here)) (w .leaves (k .layout) (k .walks)) in
+        record { says = w .answers (k .layout) (k .walks) ∙ g .says; leaves = g .leaves }

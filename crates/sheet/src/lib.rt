@@ -3,19 +3,15 @@ ghost use mathlib.Core.Path.{_≡_};
 ghost use Prim.Native.Nat.{_+_, _*_, _^_, _≤_, _<_};
 ghost use lib.ListN.{length};
 ghost use lib.Seq.{sets};
+ghost use Rattle.sizes.specs.Sizes.{longestPayload, sheetRoom};
 ghost use Rattle.bits.specs.Bits.{toBits};
-ghost use Rattle.sheet.specs.Sheet.{entryRoom, byteRoom, badLength, judged, readAnswer, sheetAfter, judgedSheet, writeAnswer, outAfter, numberOfRead, numberOfWritten};
-ghost use Rattle.sheet.specs.Passes.{ReadPass, ReadJudged, ReadKept, ReadWhole, WritePass, SheetJudged, SheetKept, WriteWhole};
+ghost use Rattle.sheet.specs.Sheet.{badLength, judged, readAnswer, sheetAfter, judgedSheet, writeAnswer, outAfter, numberOfRead, numberOfWritten};
+ghost use Rattle.sheet.specs.Passes.{InPayload, ReadTurn, ReadPass, ReadJudged, ReadKept, ReadWhole, OnSheet, CodePut, WriteTurn, WritePass, SheetJudged, SheetKept, WriteWhole};
 use answer::Refusal;
 use layout::Verdict;
 use message::Start;
 use message::State;
 use rows::Ran;
-
-// "Reading wants 8,184 entries, writing 1,023 bytes of room."
-const ENTRY_ROOM: usize = 8184;
-
-const BYTE_ROOM: usize = 1023;
 
 // What `read` answers: the count of bits read and of entries written, or the refusal.
 pub enum ReadAnswer {
@@ -42,59 +38,93 @@ fn bad_length(bytes: usize) -> bool
     if bytes == 0 {
         return true;
     }
-    BYTE_ROOM < bytes
+    sizes::LONGEST_PAYLOAD < bytes
+}
+
+// Where a turn of a pass comes to: on to the next state, or to the end of the pass.
+enum Turn {
+    On { s: State, pos: usize, at: usize },
+    Ended(Pass),
+}
+
+// One turn over a payload: the field at hand.
+fn read_field(payload: &[u8], sheet: &mut [u64], s: State, pos: usize, at: usize) -> Turn
+    requires { ⌜ InPayload (now payload) pos at ⌝ }
+    ensures { λ r. ⌜ ReadTurn (now (payload .entry)) (now (sheet .entry)) s pos at r (now (sheet .exit)) ⌝ }
+{
+    let total = payload.len() * 8;
+    let field = message::field_of(s);
+    let width = field.width;
+    if width == 0 {
+        return Turn::Ended(Pass::Whole {
+            entries: at,
+            bits: pos,
+        });
+    }
+    let bits = width as usize;
+    if total - pos < bits {
+        return Turn::Ended(Pass::Fault(Refusal::Short));
+    }
+    let code = bits::get(payload, pos, width);
+    match layout::judge(field, code) {
+        Verdict::Fault(why) => Turn::Ended(Pass::Fault(why)),
+        Verdict::Taken => {
+            rows::store(sheet, at, code);
+            let end = pos + bits;
+            let next = at + 1;
+            Turn::On {
+                s: message::advance(s, code),
+                pos: end,
+                at: next,
+            }
+        }
+    }
+}
+
+// One turn over a payload: a row of fields where the state has one, else the field at hand.
+fn read_turn(payload: &[u8], sheet: &mut [u64], s: State, pos: usize, at: usize) -> Turn
+    requires { ⌜ InPayload (now payload) pos at ⌝ }
+    ensures { λ r. ⌜ ReadTurn (now (payload .entry)) (now (sheet .entry)) s pos at r (now (sheet .exit)) ⌝ }
+{
+    let row = message::row::row_of(s);
+    if row.group == 0 {
+        return read_field(payload, sheet, s, pos, at);
+    }
+    match rows::read_row(payload, sheet, row, pos, at) {
+        Ran::Stopped(why) => Turn::Ended(Pass::Fault(why)),
+        Ran::To {
+            pos: p,
+            at: a,
+            last,
+        } => Turn::On {
+            s: message::row::after(s, last),
+            pos: p,
+            at: a,
+        },
+    }
 }
 
 // One pass over a payload: what it comes to, and the codes in the sheet as far as that has room.
 fn read_pass(payload: &[u8], sheet: &mut [u64], start: State) -> Pass
-    requires { ⌜ length (now payload) ≤ byteRoom ⌝ }
+    requires { ⌜ length (now payload) ≤ longestPayload ⌝ }
     ensures { λ r. ⌜ ReadPass (now (payload .entry)) (now (sheet .entry)) start r (now (sheet .exit)) ⌝ }
 {
-    let total = payload.len() * 8;
     let mut s = start;
     let mut pos: usize = 0;
     let mut at: usize = 0;
     loop {
-        let row = message::row::row_of(s);
-        if row.group != 0 {
-            match rows::read_row(payload, sheet, row, pos, at) {
-                Ran::Stopped(why) => {
-                    return Pass::Fault(why);
-                }
-                Ran::To {
-                    pos: p,
-                    at: a,
-                    last,
-                } => {
-                    pos = p;
-                    at = a;
-                    s = message::row::after(s, last);
-                }
+        match read_turn(payload, sheet, s, pos, at) {
+            Turn::Ended(pass) => {
+                return pass;
             }
-        } else {
-            let field = message::field_of(s);
-            let width = field.width;
-            if width == 0 {
-                return Pass::Whole {
-                    entries: at,
-                    bits: pos,
-                };
-            }
-            let bits = width as usize;
-            if total - pos < bits {
-                return Pass::Fault(Refusal::Short);
-            }
-            let code = bits::get(payload, pos, width);
-            match layout::judge(field, code) {
-                Verdict::Fault(why) => {
-                    return Pass::Fault(why);
-                }
-                Verdict::Taken => {
-                    rows::store(sheet, at, code);
-                    at += 1;
-                    pos += bits;
-                    s = message::advance(s, code);
-                }
+            Turn::On {
+                s: next,
+                pos: p,
+                at: a,
+            } => {
+                s = next;
+                pos = p;
+                at = a;
             }
         }
     }
@@ -102,7 +132,7 @@ fn read_pass(payload: &[u8], sheet: &mut [u64], start: State) -> Pass
 
 // A pass says whether the message is accepted, and keeps its codes aside as far as there is room.
 fn keep_from(payload: &[u8], aside: &mut [u64], start: State) -> ReadAnswer
-    requires { ⌜ length (now payload) ≤ byteRoom ⌝ }
+    requires { ⌜ length (now payload) ≤ longestPayload ⌝ }
     ensures { λ r. ⌜ ReadKept (now (payload .entry)) (now (aside .entry)) start r (now (aside .exit)) ⌝ }
 {
     match read_pass(payload, aside, start) {
@@ -112,7 +142,7 @@ fn keep_from(payload: &[u8], aside: &mut [u64], start: State) -> ReadAnswer
 }
 
 fn judge_from(payload: &[u8], start: State) -> ReadAnswer
-    requires { ⌜ length (now payload) ≤ byteRoom ⌝ }
+    requires { ⌜ length (now payload) ≤ longestPayload ⌝ }
     ensures { λ r. ⌜ ReadJudged (now (payload .entry)) start r ⌝ }
 {
     let mut none = [0u64; 1];
@@ -132,7 +162,7 @@ fn copy_codes(codes: &[u64], sheet: &mut [u64])
 
 // The message is judged before its codes come onto the sheet: a refusal alters nothing. Where they did not all have room aside, it is read a second time.
 fn read_by(payload: &[u8], sheet: &mut [u64], aside: &mut [u64], start: State) -> ReadAnswer
-    requires { ⌜ (length (now payload) ≤ byteRoom) × (entryRoom ≤ length (now sheet)) ⌝ }
+    requires { ⌜ (length (now payload) ≤ longestPayload) × (sheetRoom ≤ length (now sheet)) ⌝ }
     ensures { λ r. ⌜ ReadWhole (now (payload .entry)) (now (sheet .entry)) start r (now (sheet .exit)) ⌝ }
 {
     let judged = keep_from(payload, aside, start);
@@ -151,7 +181,7 @@ fn read_by(payload: &[u8], sheet: &mut [u64], aside: &mut [u64], start: State) -
 
 // A payload of 64 bytes has no more than 512 entries.
 fn read_small(payload: &[u8], sheet: &mut [u64], start: State) -> ReadAnswer
-    requires { ⌜ (length (now payload) ≤ byteRoom) × (entryRoom ≤ length (now sheet)) ⌝ }
+    requires { ⌜ (length (now payload) ≤ longestPayload) × (sheetRoom ≤ length (now sheet)) ⌝ }
     ensures { λ r. ⌜ ReadWhole (now (payload .entry)) (now (sheet .entry)) start r (now (sheet .exit)) ⌝ }
 {
     let mut aside = [0u64; 512];
@@ -159,7 +189,7 @@ fn read_small(payload: &[u8], sheet: &mut [u64], start: State) -> ReadAnswer
 }
 
 fn read_whole(payload: &[u8], sheet: &mut [u64], start: State) -> ReadAnswer
-    requires { ⌜ (length (now payload) ≤ byteRoom) × (entryRoom ≤ length (now sheet)) ⌝ }
+    requires { ⌜ (length (now payload) ≤ longestPayload) × (sheetRoom ≤ length (now sheet)) ⌝ }
     ensures { λ r. ⌜ ReadWhole (now (payload .entry)) (now (sheet .entry)) start r (now (sheet .exit)) ⌝ }
 {
     if payload.len() <= 64 {
@@ -189,7 +219,7 @@ pub fn read(kind: u8, subtype: u8, payload: &[u8], sheet: &mut [u64]) -> ReadAns
     ensures { λ r. ⌜ r ≡ readAnswer kind subtype (now (payload .entry)) (now (sheet .entry)) ⌝ }
     ensures { λ _. ⌜ now (sheet .exit) ≡ sheetAfter kind subtype (now (payload .entry)) (now (sheet .entry)) ⌝ }
 {
-    if sheet.len() < ENTRY_ROOM {
+    if sheet.len() < sizes::SHEET_ROOM {
         return ReadAnswer::Refused(Refusal::Room);
     }
     match message::start_of(kind, subtype) {
@@ -203,6 +233,71 @@ pub fn read(kind: u8, subtype: u8, payload: &[u8], sheet: &mut [u64]) -> ReadAns
     }
 }
 
+// The bits of a code are put, and counted.
+fn put_code(out: &mut [u8], pos: usize, width: u32, code: u64) -> usize
+    ensures { λ r. ⌜ CodePut (now (out .entry)) pos width code r (now (out .exit)) ⌝ }
+{
+    bits::put(out, pos, width, code);
+    rows::counted(pos, width)
+}
+
+// One turn over a sheet: the field at hand.
+fn write_field(sheet: &[u64], out: &mut [u8], s: State, pos: usize, at: usize) -> Turn
+    requires { ⌜ OnSheet (now sheet) pos at ⌝ }
+    ensures { λ r. ⌜ WriteTurn (now (sheet .entry)) (now (out .entry)) s pos at r (now (out .exit)) ⌝ }
+{
+    let field = message::field_of(s);
+    let width = field.width;
+    if width == 0 {
+        if at < sheet.len() {
+            return Turn::Ended(Pass::Fault(Refusal::Leftover));
+        }
+        return Turn::Ended(Pass::Whole {
+            entries: at,
+            bits: pos,
+        });
+    }
+    if sheet.len() <= at {
+        return Turn::Ended(Pass::Fault(Refusal::Short));
+    }
+    let code = sheet[at];
+    match layout::judge(field, code) {
+        Verdict::Fault(why) => Turn::Ended(Pass::Fault(why)),
+        Verdict::Taken => {
+            let end = put_code(out, pos, width, code);
+            let next = at + 1;
+            Turn::On {
+                s: message::advance(s, code),
+                pos: end,
+                at: next,
+            }
+        }
+    }
+}
+
+// One turn over a sheet: a row of fields where the state has one, else the field at hand.
+fn write_turn(sheet: &[u64], out: &mut [u8], s: State, pos: usize, at: usize) -> Turn
+    requires { ⌜ OnSheet (now sheet) pos at ⌝ }
+    ensures { λ r. ⌜ WriteTurn (now (sheet .entry)) (now (out .entry)) s pos at r (now (out .exit)) ⌝ }
+{
+    let row = message::row::row_of(s);
+    if row.group == 0 {
+        return write_field(sheet, out, s, pos, at);
+    }
+    match rows::write_row(sheet, out, row, pos, at) {
+        Ran::Stopped(why) => Turn::Ended(Pass::Fault(why)),
+        Ran::To {
+            pos: p,
+            at: a,
+            last,
+        } => Turn::On {
+            s: message::row::after(s, last),
+            pos: p,
+            at: a,
+        },
+    }
+}
+
 // One pass over a sheet: what it comes to, and the bits in `out` where all of them have room.
 fn write_pass(sheet: &[u64], out: &mut [u8], start: State) -> Pass
     ensures { λ r. ⌜ WritePass (now (sheet .entry)) (now (out .entry)) start r (now (out .exit)) ⌝ }
@@ -211,48 +306,18 @@ fn write_pass(sheet: &[u64], out: &mut [u8], start: State) -> Pass
     let mut pos: usize = 0;
     let mut at: usize = 0;
     loop {
-        let row = message::row::row_of(s);
-        if row.group != 0 {
-            match rows::write_row(sheet, out, row, pos, at) {
-                Ran::Stopped(why) => {
-                    return Pass::Fault(why);
-                }
-                Ran::To {
-                    pos: p,
-                    at: a,
-                    last,
-                } => {
-                    pos = p;
-                    at = a;
-                    s = message::row::after(s, last);
-                }
+        match write_turn(sheet, out, s, pos, at) {
+            Turn::Ended(pass) => {
+                return pass;
             }
-        } else {
-            let field = message::field_of(s);
-            let width = field.width;
-            if width == 0 {
-                if at < sheet.len() {
-                    return Pass::Fault(Refusal::Leftover);
-                }
-                return Pass::Whole {
-                    entries: at,
-                    bits: pos,
-                };
-            }
-            if sheet.len() <= at {
-                return Pass::Fault(Refusal::Short);
-            }
-            let code = sheet[at];
-            match layout::judge(field, code) {
-                Verdict::Fault(why) => {
-                    return Pass::Fault(why);
-                }
-                Verdict::Taken => {
-                    bits::put(out, pos, width, code);
-                    at += 1;
-                    pos = rows::counted(pos, width);
-                    s = message::advance(s, code);
-                }
+            Turn::On {
+                s: next,
+                pos: p,
+                at: a,
+            } => {
+                s = next;
+                pos = p;
+                at = a;
             }
         }
     }
@@ -283,7 +348,7 @@ fn judge_sheet_from(sheet: &[u64], start: State) -> WriteAnswer
 
 // The sheet is judged before its bits and the fill behind them come into `out`: a refusal alters nothing.
 fn write_by(sheet: &[u64], out: &mut [u8], aside: &mut [u8], start: State) -> WriteAnswer
-    requires { ⌜ (byteRoom ≤ length (now out)) × (byteRoom ≤ length (now aside)) ⌝ }
+    requires { ⌜ (longestPayload ≤ length (now out)) × (longestPayload ≤ length (now aside)) ⌝ }
     ensures { λ r. ⌜ WriteWhole (now (sheet .entry)) (now (out .entry)) start r (now (out .exit)) ⌝ }
 {
     let judged = keep_sheet_from(sheet, aside, start);
@@ -299,10 +364,10 @@ fn write_by(sheet: &[u64], out: &mut [u8], aside: &mut [u8], start: State) -> Wr
 }
 
 fn write_whole(sheet: &[u64], out: &mut [u8], start: State) -> WriteAnswer
-    requires { ⌜ byteRoom ≤ length (now out) ⌝ }
+    requires { ⌜ longestPayload ≤ length (now out) ⌝ }
     ensures { λ r. ⌜ WriteWhole (now (sheet .entry)) (now (out .entry)) start r (now (out .exit)) ⌝ }
 {
-    let mut aside = [0u8; BYTE_ROOM];
+    let mut aside = [0u8; sizes::LONGEST_PAYLOAD];
     write_by(sheet, out, &mut aside[..], start)
 }
 
@@ -321,7 +386,7 @@ pub fn write(kind: u8, subtype: u8, sheet: &[u64], out: &mut [u8]) -> WriteAnswe
     ensures { λ r. ⌜ r ≡ writeAnswer kind subtype (now (sheet .entry)) (now (out .entry)) ⌝ }
     ensures { λ _. ⌜ toBits (now (out .exit)) ≡ outAfter kind subtype (now (sheet .entry)) (now (out .entry)) ⌝ }
 {
-    if out.len() < BYTE_ROOM {
+    if out.len() < sizes::LONGEST_PAYLOAD {
         return WriteAnswer::Refused(Refusal::Room);
     }
     match message::start_of(kind, subtype) {
