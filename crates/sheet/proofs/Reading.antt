@@ -29,13 +29,11 @@ use Rattle.message.specs.Machine.{fieldOf, stepOf, startOf, Starts, known, unkn
 use Rattle.message.specs.Messages.{Message, layoutFor}
 use Rattle.sheet.specs.Sheet.{badLength, judging, judged, reading, readAnswerBy, sheetBy, readAnswer, sheetAfter}
 use Rattle.sheet.specs.Laws.{good-some, judging-with, reading-with}
-use Rattle.sheet.specs.Passes.{ForLayout, endedBy, entriesOf, InPayload, Further, ReadTurn, ReadPass, entriesRead, ReadJudged, Aside, codes, nothing, ReadKept, ReadWhole}
+use Rattle.sheet.specs.Passes.{ForLayout, endedBy, entriesOf, ReadPass, entriesRead, ReadJudged, Aside, codes, nothing, ReadKept, ReadWhole}
 use Rattle.sheet.specs.declared.ReadAnswer.{ReadAnswer}
 use Rattle.sheet.specs.declared.ReadAnswer.the-variants as reader
 use Rattle.sheet.specs.declared.Pass.{Pass}
 use Rattle.sheet.specs.declared.Pass.the-variants.{Whole, Fault}
-use Rattle.sheet.specs.declared.Turn.{Turn}
-use Rattle.sheet.specs.declared.Turn.the-variants as turn
 
 -- ---- a pass
 
@@ -44,117 +42,92 @@ pub walks-word : {s : State} {l : Layout Message} → Walks fieldOf stepOf s l �
 walks-word (ends e) z = absurd (omega arith)
 walks-word (goes e i rest) z = omega (arith, i .word, ap (λ (x : Field). x .width) e)
 
--- the field at hand, as a machine's state has it
-pub width-is : (s : State) (f : Field) → f ≡ fieldOf s → fieldOf s .width ≡ f .width
-width-is s f e = ap (λ (x : Field). x .width) (sym e)
-
-pub verdict-is : (s : State) (f : Field) (code : ℕ) (v : Verdict) → f ≡ fieldOf s → v ≡ judge f code → judge (fieldOf s) code ≡ v
-verdict-is s f code v e j = ap (λ (x : Field). judge x code) (sym e) ∙ sym j
-
-rest-length : (payload : List ℕ) (pos : ℕ) → length (drop pos (toBits payload)) ≡ length payload * 8 - pos
-rest-length payload pos = omega (arith, length-drop pos (toBits payload), length-toBits payload)
-
-code-is : (payload : List ℕ) (s : State) (pos : ℕ) (f : Field) (code : ℕ) → f ≡ fieldOf s → pos ≤ 8 * length payload
-    → f .width ≤ length payload * 8 - pos → code ≡ got payload pos (f .width) → fieldOf s .width ≤ 64
-    → code ≡ number (take (fieldOf s .width) (drop pos (toBits payload)))
-unfolding field
-code-is payload s pos f code e i h g m =
-    let d : fieldOf s .width ≡ f .width = width-is s f e in
-    g ∙ got-there payload pos (f .width) (omega arith) (omega arith)
-    ∙ ap (λ (w : ℕ). number (take w (drop pos (toBits payload)))) (sym d)
-
--- one turn: the field at hand
-module _ {payload sheet : List ℕ} {s : State} {pos at : ℕ} (i : InPayload payload pos at) (f : Field) (e : f ≡ fieldOf s) where
-  pub field-done : f .width ≡ 0 → ReadTurn payload sheet s pos at (turn.Ended (Whole at pos)) sheet
-  field-done z =
-      record {
-        on = λ l w. run-done (drop pos (toBits payload)) pos at sheet w (width-is s f e ∙ z);
-        further = omega (arith, i .few, i .inside);
-      }
-
-  pub field-short : (f .width ≡ 0 → ⊥) → length payload * 8 - pos < f .width
-      → ReadTurn payload sheet s pos at (turn.Ended (Fault refusal.Short)) sheet
-  field-short z h =
-      let d : fieldOf s .width ≡ f .width = width-is s f e in
-      let k : length (drop pos (toBits payload)) ≡ length payload * 8 - pos = rest-length payload pos in
-      record {
-        on = λ l w. run-short (drop pos (toBits payload)) pos at sheet w (omega arith) (omega arith);
-        further = omega arith;
-      }
-
-  module _ (z : f .width ≡ 0 → ⊥) (h : f .width ≤ length payload * 8 - pos) (code : ℕ)
-      (g : code ≡ got payload pos (f .width)) (v : Verdict) (j : v ≡ judge f code) where
-    pub field-fault : (why : Refusal) → v ≡ verdict.Fault why → ReadTurn payload sheet s pos at (turn.Ended (Fault why)) sheet
-    field-fault why q =
-        let d : fieldOf s .width ≡ f .width = width-is s f e in
-        let k : length (drop pos (toBits payload)) ≡ length payload * 8 - pos = rest-length payload pos in
-        let n : 0 < fieldOf s .width = omega arith in
-        record {
-          on = λ l w. run-fault (drop pos (toBits payload)) pos at sheet code why w n (omega arith)
-              (code-is payload s pos f code e (i .inside) h g (walks-word w n)) (verdict-is s f code v e j ∙ q);
-          further = omega arith;
-        }
-
-    pub field-taken : (sheet' : List ℕ) (s' : State) → v ≡ verdict.Taken → sheet' ≡ set sheet at code → s' ≡ stepOf s code
-        → ReadTurn payload sheet s pos at (turn.On s' (pos + f .width) (at + 1)) sheet'
-    field-taken sheet' s' q stored stepped =
-        let d : fieldOf s .width ≡ f .width = width-is s f e in
-        let k : length (drop pos (toBits payload)) ≡ length payload * 8 - pos = rest-length payload pos in
-        let n : 0 < fieldOf s .width = omega arith in
-        record {
-          on = λ l w.
-              let r = run-on (drop pos (toBits payload)) pos at sheet code w n (omega arith) (code-is payload s pos f code e (i .inside) h g (walks-word w n)) (verdict-is s f code v e j ∙ q) in
-              record {
-                left = r .left;
-                walks = subst (λ x. Walks fieldOf stepOf x (r .left)) (sym stepped) (r .walks);
-                same = r .same
-                    ∙ ap (λ x. runL (r .left) x (pos + fieldOf s .width) (at + 1) (set sheet at code)) (drop-drop (fieldOf s .width) pos (toBits payload))
-                    ∙ ap₂ (λ (x : ℕ) y. runL (r .left) (drop (pos + x) (toBits payload)) (pos + x) (at + 1) y) d (sym stored);
-              };
-          further = (omega arith, record { short = i .short; inside = omega (arith, i .inside); few = omega (arith, i .few) });
-        }
-
 -- at the loop's head: the rest of the message is read from here as the whole was to be from the start
-pub record Reads (payload sheet₀ : List ℕ) (s₀ : State) (sheet : List ℕ) (s : State) (pos at : ℕ) : Type 0 where
-  pub place : InPayload payload pos at
+pub record Turn (payload sheet₀ : List ℕ) (total : ℕ) (s₀ : State) (sheet : List ℕ) (s : State) (pos at : ℕ) : Type 0 where
+  pub whole : total ≡ length payload * 8
+  pub inside : pos ≤ total
+  pub few : at ≤ pos
   pub same : length sheet ≡ length sheet₀
   pub on : ForLayout s₀ (λ l. On fieldOf stepOf s (runL l (toBits payload) 0 0 sheet₀)
       (λ (next : Layout Message). runL next (drop pos (toBits payload)) pos at sheet))
 
-pub reads-first : (payload sheet : List ℕ) (s : State) → length payload ≤ longestPayload → Reads payload sheet s sheet s 0 0
-reads-first payload sheet s h =
+pub turn-first : (payload sheet : List ℕ) (s : State) → Turn payload sheet (length payload * 8) s sheet s 0 0
+turn-first payload sheet s =
     record {
-      place = record { short = h; inside = omega arith; few = omega arith };
+      whole = refl;
+      inside = omega arith;
+      few = omega arith;
       same = refl;
       on = λ l w. record { left = l; walks = w; same = refl };
     }
 
-module _ {payload sheet₀ : List ℕ} {s₀ : State} {sheet : List ℕ} {s : State} {pos at : ℕ} (t : Reads payload sheet₀ s₀ sheet s pos at)
-    (n : Turn) (sheet' : List ℕ) (r : ReadTurn payload sheet s pos at n sheet') where
-  pub reads-ended : (pass : Pass) → n ≡ turn.Ended pass → ReadPass payload sheet₀ s₀ pass sheet'
-  reads-ended pass e =
-      let m = subst (λ x. ReadTurn payload sheet s pos at x sheet') e r in
+module _ {payload sheet₀ : List ℕ} {total : ℕ} {s₀ : State} {sheet : List ℕ} {s : State} {pos at : ℕ} (t : Turn payload sheet₀ total s₀ sheet s pos at) (f : Field)
+    (e : f ≡ fieldOf s) where
+  rest-length : length (drop pos (toBits payload)) ≡ total - pos
+  rest-length = omega (arith, length-drop pos (toBits payload), length-toBits payload, t .whole)
+
+  width-is : fieldOf s .width ≡ f .width
+  width-is = ap (λ (x : Field). x .width) (sym e)
+
+  pub turn-done : f .width ≡ 0 → ReadPass payload sheet₀ s₀ (Whole at pos) sheet
+  turn-done z =
       record {
-        ends = λ l w. let o = t .on l w in sym (o .same ∙ m .on (o .left) (o .walks));
-        few = m .further;
+        ends = λ l w. let o = t .on l w in sym (o .same ∙ run-done (drop pos (toBits payload)) pos at sheet (o .walks) (width-is ∙ z));
+        few = omega (arith, t .few, t .inside, t .whole);
       }
 
-  module _ (s' : State) (p a : ℕ) (e : n ≡ turn.On s' p a) where
-    further-on : (pos < p) × InPayload payload p a
-    further-on = subst (λ x. Further payload pos x) e (r .further)
+  pub turn-short : (f .width ≡ 0 → ⊥) → total - pos < f .width → ReadPass payload sheet₀ s₀ (Fault refusal.Short) sheet
+  turn-short z h =
+      let d : fieldOf s .width ≡ f .width = width-is in
+      let k : length (drop pos (toBits payload)) ≡ total - pos = rest-length in
+      record {
+        ends = λ l w. let o = t .on l w in
+            sym (o .same ∙ run-short (drop pos (toBits payload)) pos at sheet (o .walks) (omega arith) (omega arith));
+        few = omega arith;
+      }
 
-    pub reads-less : 8 * length payload - p < 8 * length payload - pos
-    reads-less = omega (arith, further-on .0, further-on .1)
+  module _ (z : f .width ≡ 0 → ⊥) (h : f .width ≤ total - pos) (code : ℕ) (g : code ≡ got payload pos (f .width)) (v : Verdict) (j : v ≡ judge f code) where
+    code-is : fieldOf s .width ≤ 64 → code ≡ number (take (fieldOf s .width) (drop pos (toBits payload)))
+    unfolding field
+    code-is m =
+        let d : fieldOf s .width ≡ f .width = width-is in
+        g ∙ got-there payload pos (f .width) (omega arith) (omega (arith, t .whole, t .inside))
+        ∙ ap (λ (w : ℕ). number (take w (drop pos (toBits payload)))) (sym d)
 
-    pub reads-on : length sheet' ≡ length sheet → Reads payload sheet₀ s₀ sheet' s' p a
-    reads-on kept =
-        let m = subst (λ x. ReadTurn payload sheet s pos at x sheet') e r in
+    verdict-is : judge (fieldOf s) code ≡ v
+    verdict-is = ap (λ (x : Field). judge x code) (sym e) ∙ sym j
+
+    pub turn-fault : (why : Refusal) → v ≡ verdict.Fault why → ReadPass payload sheet₀ s₀ (Fault why) sheet
+    turn-fault why q =
+        let d : fieldOf s .width ≡ f .width = width-is in
+        let k : length (drop pos (toBits payload)) ≡ total - pos = rest-length in
         record {
-          place = further-on .1;
-          same = kept ∙ t .same;
+          ends = λ l w. let o = t .on l w in
+              let n : 0 < fieldOf s .width = omega arith in
+              sym (o .same ∙ run-fault (drop pos (toBits payload)) pos at sheet code why (o .walks) n (omega arith) (code-is (walks-word (o .walks) n)) (verdict-is ∙ q));
+          few = omega arith;
+        }
+
+    pub turn-again : (sheet' : List ℕ) (s' : State) → v ≡ verdict.Taken → sheet' ≡ set sheet at code → s' ≡ stepOf s code
+        → Turn payload sheet₀ total s₀ sheet' s' (pos + f .width) (at + 1)
+    turn-again sheet' s' q stored stepped =
+        let d : fieldOf s .width ≡ f .width = width-is in
+        let k : length (drop pos (toBits payload)) ≡ total - pos = rest-length in
+        record {
+          whole = t .whole;
+          inside = omega (arith, t .inside);
+          few = omega (arith, t .few);
+          same = ap length stored ∙ length-set sheet at code ∙ t .same;
           on = λ l w. let o = t .on l w in
-              let f = m .on (o .left) (o .walks) in
-              record { left = f .left; walks = f .walks; same = o .same ∙ f .same };
+              let n : 0 < fieldOf s .width = omega arith in
+              let r = run-on (drop pos (toBits payload)) pos at sheet code (o .walks) n (omega arith) (code-is (walks-word (o .walks) n)) (verdict-is ∙ q) in
+              record {
+                left = r .left;
+                walks = subst (λ x. Walks fieldOf stepOf x (r .left)) (sym stepped) (r .walks);
+                same = o .same ∙ r .same
+                    ∙ ap (λ x. runL (r .left) x (pos + fieldOf s .width) (at + 1) (set sheet at code)) (drop-drop (fieldOf s .width) pos (toBits payload))
+                    ∙ ap₂ (λ (x : ℕ) y. runL (r .left) (drop (pos + x) (toBits payload)) (pos + x) (at + 1) y) d (sym stored);
+              };
         }
 
 -- ---- both passes

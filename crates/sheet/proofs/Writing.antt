@@ -21,7 +21,7 @@ use Rattle.layout.specs.Layout.{Layout, pick, judge, Written, written, unwritte
 use Rattle.layout.specs.Run.{finished, stopped, On}
 use Rattle.layout.specs.Put.{putL, endedW, put-writes, put-done, put-over, put-short, put-fault, put-on}
 use Rattle.layout.specs.Walks.{Walks}
-use Rattle.rows.specs.Puts.{Counted, kept-first, kept-on}
+use Rattle.rows.specs.Puts.{onward, Counted, Kept, kept-first, kept-on}
 use Rattle.message.specs.declared.State.{State}
 use Rattle.message.specs.declared.Start.{Start}
 use Rattle.message.specs.declared.Start.the-variants.{Known, Unknown}
@@ -29,18 +29,44 @@ use Rattle.message.specs.Machine.{fieldOf, stepOf, startOf}
 use Rattle.message.specs.Messages.{Message}
 use Rattle.sheet.specs.Sheet.{badLength, bytesFor, fillFor, thenLength, judgingSheet, judgedSheet, writing, writeAnswerBy, outBy, writeAnswer, outAfter}
 use Rattle.sheet.specs.Laws.{good-some, judging-sheet-with, writing-with}
-use Rattle.sheet.specs.Passes.{ForLayout, PutBy, whole, fault, bitsOfPass, OnSheet, CodePut, Putting, PutsOn, Onto, WriteTurn, WritePass, bitsWritten, bytesWritten, SheetJudged, AsideBits, text, nothing, SheetKept, WriteWhole}
+use Rattle.sheet.specs.Passes.{ForLayout, PutBy, whole, fault, bitsOfPass, WritePass, bitsWritten, bytesWritten, SheetJudged, AsideBits, text, nothing, SheetKept, WriteWhole}
 use Rattle.sheet.specs.declared.WriteAnswer.{WriteAnswer}
 use Rattle.sheet.specs.declared.WriteAnswer.the-variants as writer
 use Rattle.sheet.specs.declared.Pass.{Pass}
 use Rattle.sheet.specs.declared.Pass.the-variants.{Whole, Fault}
-use Rattle.sheet.specs.declared.Turn.{Turn}
-use Rattle.sheet.specs.declared.Turn.the-variants as turn
-use Rattle.sheet.proofs.Reading.{walks-word, width-is, verdict-is, started, not-started}
+use Rattle.sheet.proofs.Reading.{walks-word, started, not-started}
 
 -- ---- a pass
 
-ended-fault : (o : Written) (n : ℕ) (why : Refusal) (out out' : List ℕ) → endedW o n 0 0 (toBits out) ≡ stopped why → PutBy out out' o (Fault why)
+-- for one layout: the bits written so far
+pub record Putting (sheet out₀ : List ℕ) (l : Layout Message) (out : List ℕ) (s : State) (pos at : ℕ) : Type 0 where
+  pub place : ℕ
+  pub bits : List ℕ
+  pub kept : Kept place bits pos out
+  pub on : On fieldOf stepOf s (putL l sheet 0 0 (toBits out₀)) (λ (next : Layout Message). putL next (drop at sheet) place at bits)
+
+-- at the loop's head: the rest of the sheet is written from here as the whole was to be from the start
+pub record Turn (sheet out₀ : List ℕ) (s₀ : State) (out : List ℕ) (s : State) (pos at : ℕ) : Type 0 where
+  pub inside : at ≤ length sheet
+  pub small : pos < 2 ^ 33
+  pub same : length out ≡ length out₀
+  pub on : ForLayout s₀ (λ l. Putting sheet out₀ l out s pos at)
+
+pub turn-first : (sheet out : List ℕ) (s : State) → Turn sheet out s out s 0 0
+turn-first sheet out s =
+    record {
+      inside = omega arith;
+      small = omega arith;
+      same = refl;
+      on = λ l w. record {
+        place = 0;
+        bits = toBits out;
+        kept = kept-first out;
+        on = record { left = l; walks = w; same = refl };
+      };
+    }
+
+pub ended-fault : (o : Written) (n : ℕ) (why : Refusal) (out out' : List ℕ) → endedW o n 0 0 (toBits out) ≡ stopped why → PutBy out out' o (Fault why)
 ended-fault (written bs) n why out out' e = let z : _≡_ {A = ℕ} 0 1 = cc in absurd (omega arith)
 ended-fault (unwritten why') n why out out' e = let q : why' ≡ why = cc in subst (λ x. PutBy out out' (unwritten x) (Fault why)) (sym q) fault
 
@@ -55,123 +81,73 @@ ended-whole (written bs) n entries count place bits out out' e c h =
     whole (subst (Counted count) r c) k
 ended-whole (unwritten why) n entries count place bits out out' e c h = let z : _≡_ {A = ℕ} 0 1 = cc in absurd (omega arith)
 
--- one turn: the field at hand
-module _ {sheet out : List ℕ} {s : State} {pos at : ℕ} (i : OnSheet sheet pos at) (f : Field) (e : f ≡ fieldOf s) where
-  pub field-over : f .width ≡ 0 → at < length sheet → WriteTurn sheet out s pos at (turn.Ended (Fault refusal.Leftover)) out
-  field-over z h =
-      record { on = λ l w place bits k. put-over sheet place at bits w (width-is s f e ∙ z) h; further = omega arith }
+module _ {sheet out₀ : List ℕ} {s₀ : State} {out : List ℕ} {s : State} {pos at : ℕ} (t : Turn sheet out₀ s₀ out s pos at) (f : Field) (e : f ≡ fieldOf s) where
+  width-is : fieldOf s .width ≡ f .width
+  width-is = ap (λ (x : Field). x .width) (sym e)
 
-  pub field-done : f .width ≡ 0 → length sheet ≤ at → WriteTurn sheet out s pos at (turn.Ended (Whole at pos)) out
-  field-done z h =
-      let n : at ≡ length sheet = omega (arith, i .inside) in
+  stops : (why : Refusal) → ((place : ℕ) (bits : List ℕ) (l : Layout Message) → Walks fieldOf stepOf s l → putL l (drop at sheet) place at bits ≡ stopped why)
+      → WritePass sheet out₀ s₀ (Fault why) out
+  stops why h =
       record {
-        on = λ l w place bits k. (put-done sheet place at bits w (width-is s f e ∙ z) n, k);
-        further = i .small;
+        puts = λ l w. let o = t .on l w in
+            ended-fault (writeL l sheet) (length sheet) why out₀ out
+            (sym (put-writes l sheet 0 0 (toBits out₀)) ∙ o .on .same ∙ h (o .place) (o .bits) (o .on .left) (o .on .walks));
+        small = omega arith;
       }
 
-  pub field-short : (f .width ≡ 0 → ⊥) → length sheet ≤ at → WriteTurn sheet out s pos at (turn.Ended (Fault refusal.Short)) out
-  field-short z h =
-      let d : fieldOf s .width ≡ f .width = width-is s f e in
-      let n : at ≡ length sheet = omega (arith, i .inside) in
-      record { on = λ l w place bits k. put-short sheet place at bits w (omega arith) n; further = omega arith }
+  pub turn-over : f .width ≡ 0 → at < length sheet → WritePass sheet out₀ s₀ (Fault refusal.Leftover) out
+  turn-over z h = stops refusal.Leftover (λ place bits l w. put-over sheet place at bits w (width-is ∙ z) h)
+
+  pub turn-done : f .width ≡ 0 → length sheet ≤ at → WritePass sheet out₀ s₀ (Whole at pos) out
+  turn-done z h =
+      record {
+        puts = λ l w. let o = t .on l w in
+            ended-whole (writeL l sheet) (length sheet) at pos (o .place) (o .bits) out₀ out
+            (sym (put-writes l sheet 0 0 (toBits out₀)) ∙ o .on .same
+            ∙ put-done sheet (o .place) at (o .bits) (o .on .walks) (width-is ∙ z) (omega (arith, t .inside)))
+            (o .kept .count) (λ a b. o .kept .stored a (omega (arith, t .same)));
+        small = t .small;
+      }
+
+  pub turn-short : (f .width ≡ 0 → ⊥) → length sheet ≤ at → WritePass sheet out₀ s₀ (Fault refusal.Short) out
+  turn-short z h =
+      let d : fieldOf s .width ≡ f .width = width-is in
+      stops refusal.Short (λ place bits l w. put-short sheet place at bits w (omega arith) (omega (arith, t .inside)))
 
   module _ (z : f .width ≡ 0 → ⊥) (h : at < length sheet) (v : Verdict) (j : v ≡ judge f (getD sheet at 0)) where
-    pub field-fault : (why : Refusal) → v ≡ verdict.Fault why → WriteTurn sheet out s pos at (turn.Ended (Fault why)) out
-    field-fault why q =
-        let d : fieldOf s .width ≡ f .width = width-is s f e in
-        record {
-          on = λ l w place bits k. put-fault sheet place at bits (getD sheet at 0) why w (omega arith) h refl (verdict-is s f (getD sheet at 0) v e j ∙ q);
-          further = omega arith;
-        }
+    abbrev code : ℕ
+    code = getD sheet at 0
 
-    pub field-taken : (out' : List ℕ) (pos' : ℕ) (s' : State) → v ≡ verdict.Taken → length out' ≡ length out
-        → CodePut out pos (f .width) (getD sheet at 0) pos' out' → s' ≡ stepOf s (getD sheet at 0)
-        → WriteTurn sheet out s pos at (turn.On s' pos' (at + 1)) out'
-    field-taken out' pos' s' q kept put stepped =
-        let d : fieldOf s .width ≡ f .width = width-is s f e in
-        let n : 0 < fieldOf s .width = omega arith in
+    verdict-is : judge (fieldOf s) code ≡ v
+    verdict-is = ap (λ (x : Field). judge x code) (sym e) ∙ sym j
+
+    pub turn-fault : (why : Refusal) → v ≡ verdict.Fault why → WritePass sheet out₀ s₀ (Fault why) out
+    turn-fault why q =
+        let d : fieldOf s .width ≡ f .width = width-is in
+        stops why (λ place bits l w. put-fault sheet place at bits code why w (omega arith) h refl (verdict-is ∙ q))
+
+    pub turn-again : (out' : List ℕ) (pos' : ℕ) (s' : State) → v ≡ verdict.Taken → length out' ≡ length out → toBits out' ≡ leaves out pos (f .width) code
+        → (pos' ≡ onward pos (f .width)) × (pos < 2 ^ 33 → pos' < 2 ^ 33) → s' ≡ stepOf s code → Turn sheet out₀ s₀ out' s' pos' (at + 1)
+    turn-again out' pos' s' q kept put moved stepped =
+        let d : fieldOf s .width ≡ f .width = width-is in
         record {
-          on = λ l w place bits k.
-              let m : f .width ≤ 64 = omega (arith, walks-word w n) in
-              let r = put-on sheet place at bits (getD sheet at 0) w n h refl (verdict-is s f (getD sheet at 0) v e j ∙ q) in
+          inside = omega arith;
+          small = moved .1 (t .small);
+          same = kept ∙ t .same;
+          on = λ l w. let o = t .on l w in
+              let n : 0 < fieldOf s .width = omega arith in
+              let m : f .width ≤ 64 = omega (arith, walks-word (o .on .walks) n) in
+              let r = put-on sheet (o .place) at (o .bits) code (o .on .walks) n h refl (verdict-is ∙ q) in
               record {
-                place = place + f .width;
-                bits = sets bits place (bitsOf (f .width) (getD sheet at 0));
-                kept = kept-on (f .width) (getD sheet at 0) pos' out' m kept (put .put) (put .moved .0) k;
+                place = o .place + f .width;
+                bits = sets (o .bits) (o .place) (bitsOf (f .width) code);
+                kept = kept-on (f .width) code pos' out' m kept put (moved .0) (o .kept);
                 on = record {
                   left = r .left;
                   walks = subst (λ x. Walks fieldOf stepOf x (r .left)) (sym stepped) (r .walks);
-                  same = r .same
-                      ∙ ap (λ (x : ℕ). putL (r .left) (drop (at + 1) sheet) (place + x) (at + 1) (sets bits place (bitsOf x (getD sheet at 0)))) d;
+                  same = o .on .same ∙ r .same
+                      ∙ ap (λ (x : ℕ). putL (r .left) (drop (at + 1) sheet) (o .place + x) (at + 1) (sets (o .bits) (o .place) (bitsOf x code))) d;
                 };
-              };
-          further = (omega arith, record { inside = omega arith; small = put .moved .1 (i .small) });
-        }
-
--- at the loop's head: the rest of the sheet is written from here as the whole was to be from the start
-pub record Writes (sheet out₀ : List ℕ) (s₀ : State) (out : List ℕ) (s : State) (pos at : ℕ) : Type 0 where
-  pub place : OnSheet sheet pos at
-  pub same : length out ≡ length out₀
-  pub on : ForLayout s₀ (λ l. Putting sheet (putL l sheet 0 0 (toBits out₀)) out s pos at)
-
-pub writes-first : (sheet out : List ℕ) (s : State) → Writes sheet out s out s 0 0
-writes-first sheet out s =
-    record {
-      place = record { inside = omega arith; small = omega arith };
-      same = refl;
-      on = λ l w. record {
-        place = 0;
-        bits = toBits out;
-        kept = kept-first out;
-        on = record { left = l; walks = w; same = refl };
-      };
-    }
-
-module _ {sheet out₀ : List ℕ} {s₀ : State} {out : List ℕ} {s : State} {pos at : ℕ} (t : Writes sheet out₀ s₀ out s pos at)
-    (n : Turn) (out' : List ℕ) (r : WriteTurn sheet out s pos at n out') where
-  -- what the turn says of the bits written so far
-  turned : {x : Turn} → n ≡ x → (l : Layout Message) (w : Walks fieldOf stepOf s₀ l)
-      → PutsOn sheet (putL (t .on l w .on .left) (drop at sheet) (t .on l w .place) at (t .on l w .bits)) (t .on l w .place) (t .on l w .bits) x out'
-  turned e l w =
-      let o = t .on l w in
-      subst (λ y. WriteTurn sheet out s pos at y out') e r .on (o .on .left) (o .on .walks) (o .place) (o .bits) (o .kept)
-
-  pub writes-ended : (pass : Pass) → n ≡ turn.Ended pass → length out' ≡ length out → WritePass sheet out₀ s₀ pass out'
-  writes-ended (Fault why) e kept =
-      record {
-        puts = λ l w. ended-fault (writeL l sheet) (length sheet) why out₀ out'
-            (sym (put-writes l sheet 0 0 (toBits out₀)) ∙ t .on l w .on .same ∙ turned e l w);
-        small = omega arith;
-      }
-  writes-ended (Whole entries count) e kept =
-      record {
-        puts = λ l w. let o = t .on l w in
-            let k = turned e l w in
-            ended-whole (writeL l sheet) (length sheet) entries count (o .place) (o .bits) out₀ out'
-            (sym (put-writes l sheet 0 0 (toBits out₀)) ∙ o .on .same ∙ k .0)
-            (k .1 .count) (λ a b. k .1 .stored a (omega (arith, t .same)));
-        small = subst (λ x. Onto sheet at x) e (r .further);
-      }
-
-  module _ (s' : State) (p a : ℕ) (e : n ≡ turn.On s' p a) where
-    onto : (at < a) × OnSheet sheet p a
-    onto = subst (λ x. Onto sheet at x) e (r .further)
-
-    pub writes-less : length sheet - a < length sheet - at
-    writes-less = omega (arith, onto .0, onto .1)
-
-    pub writes-on : length out' ≡ length out → Writes sheet out₀ s₀ out' s' p a
-    writes-on kept =
-        record {
-          place = onto .1;
-          same = kept ∙ t .same;
-          on = λ l w. let o = t .on l w in
-              let f = turned e l w in
-              record {
-                place = f .place;
-                bits = f .bits;
-                kept = f .kept;
-                on = record { left = f .on .left; walks = f .on .walks; same = o .on .same ∙ f .on .same };
               };
         }
 

@@ -7,12 +7,11 @@ use lib.ListN.{length, drop}
 use lib.Seq.{sets}
 use Rattle.sizes.specs.Sizes.{longestPayload}
 use Rattle.answer.specs.declared.Refusal.{Refusal}
-use Rattle.bits.specs.Bits.{toBits, leaves}
+use Rattle.bits.specs.Bits.{toBits}
 use Rattle.layout.specs.Layout.{Layout, Outcome, accepted, refused, readL, Written, written, unwritten, writeL}
-use Rattle.layout.specs.Run.{Ended, finished, stopped, runL, On}
-use Rattle.layout.specs.Put.{putL}
+use Rattle.layout.specs.Run.{Ended, finished, stopped, runL}
 use Rattle.layout.specs.Walks.{Walks}
-use Rattle.rows.specs.Puts.{onward, Counted, Kept}
+use Rattle.rows.specs.Puts.{Counted}
 use Rattle.message.specs.declared.State.{State}
 use Rattle.message.specs.Machine.{fieldOf, stepOf}
 use Rattle.message.specs.Messages.{Message}
@@ -23,8 +22,6 @@ use Rattle.sheet.specs.declared.WriteAnswer.{WriteAnswer}
 use Rattle.sheet.specs.declared.WriteAnswer.the-variants as writer
 use Rattle.sheet.specs.declared.Pass.{Pass}
 use Rattle.sheet.specs.declared.Pass.the-variants.{Whole, Fault}
-use Rattle.sheet.specs.declared.Turn.{Turn}
-use Rattle.sheet.specs.declared.Turn.the-variants as turn
 
 -- for the layout of a message that starts at s
 abbrev pub ForLayout : State → (Layout Message → Type 0) → Type 0
@@ -42,31 +39,6 @@ entriesOf (Fault why) = 0
 abbrev pub bitsOfPass : Pass → ℕ
 bitsOfPass (Whole entries bits) = bits
 bitsOfPass (Fault why) = 0
-
--- ---- a turn over a payload
-
--- a place in a payload, and in the sheet
-pub record InPayload (payload : List ℕ) (pos at : ℕ) : Type 0 where
-  pub short : length payload ≤ longestPayload
-  pub inside : pos ≤ 8 * length payload
-  pub few : at ≤ pos
-
--- a run by the layout goes on, or has ended, as the turn says
-abbrev pub ReadsOn : (payload sheet : List ℕ) → Ended → Turn → List ℕ → Type 0
-ReadsOn payload sheet here (turn.On s p a) sheet' =
-    On fieldOf stepOf s here (λ (next : Layout Message). runL next (drop p (toBits payload)) p a sheet')
-ReadsOn payload sheet here (turn.Ended pass) sheet' = here ≡ endedBy pass sheet'
-
--- where a turn comes to: further, and inside the payload
-abbrev pub Further : (payload : List ℕ) (pos : ℕ) → Turn → Type 0
-Further payload pos (turn.On s p a) = (pos < p) × InPayload payload p a
-Further payload pos (turn.Ended pass) = entriesOf pass ≤ 8 * length payload
-
-pub record ReadTurn (payload sheet : List ℕ) (s : State) (pos at : ℕ) (t : Turn) (sheet' : List ℕ) : Type 0 where
-  pub on : ForLayout s (λ l. ReadsOn payload sheet (runL l (drop pos (toBits payload)) pos at sheet) t sheet')
-  pub further : Further payload pos t
-
--- ---- reading
 
 pub record ReadPass (payload sheet : List ℕ) (start : State) (pass : Pass) (sheet' : List ℕ) : Type 0 where
   pub ends : ForLayout start (λ l. endedBy pass sheet' ≡ runL l (toBits payload) 0 0 sheet)
@@ -104,39 +76,6 @@ pub data PutBy (out out' : List ℕ) : Written → Pass → Type 0 where
       → (length bits ≤ 8 * longestPayload → length bits ≤ 8 * length out → toBits out' ≡ bits ++ drop (length bits) (toBits out))
       → PutBy out out' (written bits) (Whole entries count)
   fault : {why : Refusal} → PutBy out out' (unwritten why) (Fault why)
-
--- a place on a sheet, and in the bits
-pub record OnSheet (sheet : List ℕ) (pos at : ℕ) : Type 0 where
-  pub inside : at ≤ length sheet
-  pub small : pos < 2 ^ 33
-
--- a code is put at a position, and counted
-pub record CodePut (out : List ℕ) (pos width code pos' : ℕ) (out' : List ℕ) : Type 0 where
-  pub put : toBits out' ≡ leaves out pos width code
-  pub moved : (pos' ≡ onward pos width) × (pos < 2 ^ 33 → pos' < 2 ^ 33)
-
--- the bits written so far, and the rest of the sheet written from here
-pub record Putting (sheet : List ℕ) (here : Ended) (out : List ℕ) (s : State) (pos at : ℕ) : Type 0 where
-  pub place : ℕ
-  pub bits : List ℕ
-  pub kept : Kept place bits pos out
-  pub on : On fieldOf stepOf s here (λ (next : Layout Message). putL next (drop at sheet) place at bits)
-
--- a writing by the layout goes on, or has ended, as the turn says
-abbrev pub PutsOn : (sheet : List ℕ) (here : Ended) (place : ℕ) (bits : List ℕ) → Turn → List ℕ → Type 0
-PutsOn sheet here place bits (turn.On s p a) out' = Putting sheet here out' s p a
-PutsOn sheet here place bits (turn.Ended (Whole entries count)) out' =
-    (here ≡ finished entries place bits) × Kept place bits count out'
-PutsOn sheet here place bits (turn.Ended (Fault why)) out' = here ≡ stopped why
-
-abbrev pub Onto : (sheet : List ℕ) (at : ℕ) → Turn → Type 0
-Onto sheet at (turn.On s p a) = (at < a) × OnSheet sheet p a
-Onto sheet at (turn.Ended pass) = bitsOfPass pass < 2 ^ 33
-
-pub record WriteTurn (sheet out : List ℕ) (s : State) (pos at : ℕ) (t : Turn) (out' : List ℕ) : Type 0 where
-  pub on : ForLayout s (λ l. (place : ℕ) (bits : List ℕ) → Kept place bits pos out
-      → PutsOn sheet (putL l (drop at sheet) place at bits) place bits t out')
-  pub further : Onto sheet at t
 
 pub record WritePass (sheet out : List ℕ) (start : State) (pass : Pass) (out' : List ℕ) : Type 0 where
   pub puts : ForLayout start (λ l. PutBy out out' (writeL l sheet) pass)

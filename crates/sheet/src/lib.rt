@@ -6,7 +6,7 @@ ghost use lib.Seq.{sets};
 ghost use Rattle.sizes.specs.Sizes.{longestPayload, sheetRoom};
 ghost use Rattle.bits.specs.Bits.{toBits};
 ghost use Rattle.sheet.specs.Sheet.{badLength, judged, readAnswer, sheetAfter, judgedSheet, writeAnswer, outAfter, numberOfRead, numberOfWritten};
-ghost use Rattle.sheet.specs.Passes.{InPayload, ReadTurn, ReadPass, ReadJudged, ReadKept, ReadWhole, OnSheet, CodePut, WriteTurn, WritePass, SheetJudged, SheetKept, WriteWhole};
+ghost use Rattle.sheet.specs.Passes.{ReadPass, ReadJudged, ReadKept, ReadWhole, WritePass, SheetJudged, SheetKept, WriteWhole};
 use answer::Refusal;
 use layout::Verdict;
 use message::Start;
@@ -41,90 +41,56 @@ fn bad_length(bytes: usize) -> bool
     sizes::LONGEST_PAYLOAD < bytes
 }
 
-// Where a turn of a pass comes to: on to the next state, or to the end of the pass.
-enum Turn {
-    On { s: State, pos: usize, at: usize },
-    Ended(Pass),
-}
-
-// One turn over a payload: the field at hand.
-fn read_field(payload: &[u8], sheet: &mut [u64], s: State, pos: usize, at: usize) -> Turn
-    requires { ⌜ InPayload (now payload) pos at ⌝ }
-    ensures { λ r. ⌜ ReadTurn (now (payload .entry)) (now (sheet .entry)) s pos at r (now (sheet .exit)) ⌝ }
-{
-    let total = payload.len() * 8;
-    let field = message::field_of(s);
-    let width = field.width;
-    if width == 0 {
-        return Turn::Ended(Pass::Whole {
-            entries: at,
-            bits: pos,
-        });
-    }
-    let bits = width as usize;
-    if total - pos < bits {
-        return Turn::Ended(Pass::Fault(Refusal::Short));
-    }
-    let code = bits::get(payload, pos, width);
-    match layout::judge(field, code) {
-        Verdict::Fault(why) => Turn::Ended(Pass::Fault(why)),
-        Verdict::Taken => {
-            rows::store(sheet, at, code);
-            let end = pos + bits;
-            let next = at + 1;
-            Turn::On {
-                s: message::advance(s, code),
-                pos: end,
-                at: next,
-            }
-        }
-    }
-}
-
-// One turn over a payload: a row of fields where the state has one, else the field at hand.
-fn read_turn(payload: &[u8], sheet: &mut [u64], s: State, pos: usize, at: usize) -> Turn
-    requires { ⌜ InPayload (now payload) pos at ⌝ }
-    ensures { λ r. ⌜ ReadTurn (now (payload .entry)) (now (sheet .entry)) s pos at r (now (sheet .exit)) ⌝ }
-{
-    let row = message::row::row_of(s);
-    if row.group == 0 {
-        return read_field(payload, sheet, s, pos, at);
-    }
-    match rows::read_row(payload, sheet, row, pos, at) {
-        Ran::Stopped(why) => Turn::Ended(Pass::Fault(why)),
-        Ran::To {
-            pos: p,
-            at: a,
-            last,
-        } => Turn::On {
-            s: message::row::after(s, last),
-            pos: p,
-            at: a,
-        },
-    }
-}
-
 // One pass over a payload: what it comes to, and the codes in the sheet as far as that has room.
 fn read_pass(payload: &[u8], sheet: &mut [u64], start: State) -> Pass
     requires { ⌜ length (now payload) ≤ longestPayload ⌝ }
     ensures { λ r. ⌜ ReadPass (now (payload .entry)) (now (sheet .entry)) start r (now (sheet .exit)) ⌝ }
 {
+    let total = payload.len() * 8;
     let mut s = start;
     let mut pos: usize = 0;
     let mut at: usize = 0;
     loop {
-        match read_turn(payload, sheet, s, pos, at) {
-            Turn::Ended(pass) => {
-                return pass;
+        let row = message::row::row_of(s);
+        if row.group != 0 {
+            match rows::read_row(payload, sheet, row, pos, at) {
+                Ran::Stopped(why) => {
+                    return Pass::Fault(why);
+                }
+                Ran::To {
+                    pos: p,
+                    at: a,
+                    last,
+                } => {
+                    pos = p;
+                    at = a;
+                    s = message::row::after(s, last);
+                }
             }
-            Turn::On {
-                s: next,
-                pos: p,
-                at: a,
-            } => {
-                s = next;
-                pos = p;
-                at = a;
+        } else {
+            let field = message::field_of(s);
+            let width = field.width;
+            if width == 0 {
+                return Pass::Whole {
+                    entries: at,
+                    bits: pos,
+                };
+            }
+            let bits = width as usize;
+            if total - pos < bits {
+                return Pass::Fault(Refusal::Short);
+            }
+            let code = bits::get(payload, pos, width);
+            match layout::judge(field, code) {
+                Verdict::Fault(why) => {
+                    return Pass::Fault(why);
+                }
+                Verdict::Taken => {
+                    rows::store(sheet, at, code);
+                    at += 1;
+                    pos += bits;
+                    s = message::advance(s, code);
+                }
             }
         }
     }
@@ -233,71 +199,6 @@ pub fn read(kind: u8, subtype: u8, payload: &[u8], sheet: &mut [u64]) -> ReadAns
     }
 }
 
-// The bits of a code are put, and counted.
-fn put_code(out: &mut [u8], pos: usize, width: u32, code: u64) -> usize
-    ensures { λ r. ⌜ CodePut (now (out .entry)) pos width code r (now (out .exit)) ⌝ }
-{
-    bits::put(out, pos, width, code);
-    rows::counted(pos, width)
-}
-
-// One turn over a sheet: the field at hand.
-fn write_field(sheet: &[u64], out: &mut [u8], s: State, pos: usize, at: usize) -> Turn
-    requires { ⌜ OnSheet (now sheet) pos at ⌝ }
-    ensures { λ r. ⌜ WriteTurn (now (sheet .entry)) (now (out .entry)) s pos at r (now (out .exit)) ⌝ }
-{
-    let field = message::field_of(s);
-    let width = field.width;
-    if width == 0 {
-        if at < sheet.len() {
-            return Turn::Ended(Pass::Fault(Refusal::Leftover));
-        }
-        return Turn::Ended(Pass::Whole {
-            entries: at,
-            bits: pos,
-        });
-    }
-    if sheet.len() <= at {
-        return Turn::Ended(Pass::Fault(Refusal::Short));
-    }
-    let code = sheet[at];
-    match layout::judge(field, code) {
-        Verdict::Fault(why) => Turn::Ended(Pass::Fault(why)),
-        Verdict::Taken => {
-            let end = put_code(out, pos, width, code);
-            let next = at + 1;
-            Turn::On {
-                s: message::advance(s, code),
-                pos: end,
-                at: next,
-            }
-        }
-    }
-}
-
-// One turn over a sheet: a row of fields where the state has one, else the field at hand.
-fn write_turn(sheet: &[u64], out: &mut [u8], s: State, pos: usize, at: usize) -> Turn
-    requires { ⌜ OnSheet (now sheet) pos at ⌝ }
-    ensures { λ r. ⌜ WriteTurn (now (sheet .entry)) (now (out .entry)) s pos at r (now (out .exit)) ⌝ }
-{
-    let row = message::row::row_of(s);
-    if row.group == 0 {
-        return write_field(sheet, out, s, pos, at);
-    }
-    match rows::write_row(sheet, out, row, pos, at) {
-        Ran::Stopped(why) => Turn::Ended(Pass::Fault(why)),
-        Ran::To {
-            pos: p,
-            at: a,
-            last,
-        } => Turn::On {
-            s: message::row::after(s, last),
-            pos: p,
-            at: a,
-        },
-    }
-}
-
 // One pass over a sheet: what it comes to, and the bits in `out` where all of them have room.
 fn write_pass(sheet: &[u64], out: &mut [u8], start: State) -> Pass
     ensures { λ r. ⌜ WritePass (now (sheet .entry)) (now (out .entry)) start r (now (out .exit)) ⌝ }
@@ -306,18 +207,48 @@ fn write_pass(sheet: &[u64], out: &mut [u8], start: State) -> Pass
     let mut pos: usize = 0;
     let mut at: usize = 0;
     loop {
-        match write_turn(sheet, out, s, pos, at) {
-            Turn::Ended(pass) => {
-                return pass;
+        let row = message::row::row_of(s);
+        if row.group != 0 {
+            match rows::write_row(sheet, out, row, pos, at) {
+                Ran::Stopped(why) => {
+                    return Pass::Fault(why);
+                }
+                Ran::To {
+                    pos: p,
+                    at: a,
+                    last,
+                } => {
+                    pos = p;
+                    at = a;
+                    s = message::row::after(s, last);
+                }
             }
-            Turn::On {
-                s: next,
-                pos: p,
-                at: a,
-            } => {
-                s = next;
-                pos = p;
-                at = a;
+        } else {
+            let field = message::field_of(s);
+            let width = field.width;
+            if width == 0 {
+                if at < sheet.len() {
+                    return Pass::Fault(Refusal::Leftover);
+                }
+                return Pass::Whole {
+                    entries: at,
+                    bits: pos,
+                };
+            }
+            if sheet.len() <= at {
+                return Pass::Fault(Refusal::Short);
+            }
+            let code = sheet[at];
+            match layout::judge(field, code) {
+                Verdict::Fault(why) => {
+                    return Pass::Fault(why);
+                }
+                Verdict::Taken => {
+                    bits::put(out, pos, width, code);
+                    at += 1;
+                    pos = rows::counted(pos, width);
+                    s = message::advance(s, code);
+                }
             }
         }
     }
