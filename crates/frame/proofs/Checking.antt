@@ -11,11 +11,10 @@ use Rattle.answer.specs.declared.Refusal.{Refusal}
 use Rattle.answer.specs.declared.Refusal.the-variants.{Preamble, FrameCrc, Length, MessageCrc}
 use Rattle.bits.specs.Bits.{field}
 use Rattle.checks.specs.Crc.{frameCrc, messageCrc}
-use Rattle.frame.specs.Fields.{tf002, tf003, tf004, tf005, tf006, tf007, tf008, tf009, tf010, tf011, tf015, payloadAt, authenticated, authenticationBytes, authentication, checkAt, frameBytes}
+use Rattle.frame.specs.Fields.{tf003, tf004, tf005, tf006, tf008, tf015, payloadAt, authenticated, authenticationBytes, authentication, checkAt, frameBytes}
 use Rattle.frame.specs.Check.{sealOf, frameOf, badMessageCrc, badFrameCrc, checked, fitsIn, payloadIn, placeIn, payloadOf, placeOf}
 use Rattle.frame.specs.Laws.{sealed-if}
 use Rattle.frame.specs.Stages.{whole, described, starting}
-use Rattle.frame.specs.declared.Seal.{Seal}
 use Rattle.frame.specs.declared.Seal.the-variants.{Plain, Sealed}
 use Rattle.frame.specs.declared.Frame.{Frame}
 use Rattle.frame.specs.declared.Checked.{Checked}
@@ -75,26 +74,6 @@ pub is-sealed : (s : List ℕ) (x k a b c d : ℕ) → x ≡ tf004 s → (x ≡ 
     → a ≡ field s (48 + (16 + 16 * k)) 4 → b ≡ field s (52 + (16 + 16 * k)) 6 → c ≡ field s (58 + (16 + 16 * k)) 3 → d ≡ field s (61 + (16 + 16 * k)) 3
     → Sealed (record { id = a; sequence = b; authentication = c; «authentication_length» = d }) ≡ sealOf s
 is-sealed s x k a b c d e h q ea eb ec ed = let z : eqb (tf004 s) 0 ≡ false = ne-eqb (tf004 s) 0 (λ w. h (e ∙ w)) in rw (z, ea, eb, ec, ed, q)
-
-pub is-frame : (s : List ℕ) (k k′ c c′ ty n su t tag so pr at to : ℕ) (seal : Seal) → k ≡ tf008 s → k′ ≡ k → c ≡ tf005 s → c′ ≡ c → seal ≡ sealOf s → ty ≡ tf002 s → n ≡ tf003 s
-    → su ≡ tf007 s → t ≡ 16 + 16 * k′ → tag ≡ field s 37 t → so ≡ field s (37 + (16 + 16 * k′)) 7 → pr ≡ field s (44 + (16 + 16 * k′)) 4 → at ≡ payloadAt s → to ≡ checkAt s
-    → _≡_ {A = Frame}
-    (record {
-      «message_type» = ty;
-      «payload_length» = n;
-      seal = seal;
-      «check_type» = c;
-      subtype = su;
-      «tag_kind» = k;
-      tag = tag;
-      solution = so;
-      processor = pr;
-      «payload_at» = at;
-      length = to + (c′ + 1);
-    })
-    (frameOf s)
-unfolding frameOf
-is-frame s k k′ c c′ ty n su t tag so pr at to seal ek ek′ ec ec′ es et en eu eb eg eo ep ea eto = rw (et, en, es, eu, eg, eb, eo, ep, ea, eto, ec′, ec, ek′, ek)
 
 -- ---- the tests
 

@@ -9,6 +9,7 @@ use lib.Dec.{ltb, eqb}
 use lib.ListN.{length, getD, take, drop, length-append, length-drop, drop-of-length-le}
 use lib.Seq.{take-all, take-length, take-at, drop-drop, drop-append-le}
 use borrow.Author.Tests.{lt-ltb, le-ltb, ne-eqb, eq-eqb, not-true, not-false}
+use Rattle.sizes.specs.Sizes.{longestFrame, longestPayload}
 use Rattle.bits.specs.Bits.{bitsOf, toBits, putTo, leaves, Bytes}
 use Rattle.bits.specs.Laws.{leaves-there}
 use Rattle.checks.specs.Crc.{frameCrc, messageCrc}
@@ -179,17 +180,26 @@ payload-laid s payload part at n h en ep =
 
 -- ---- the whole frame
 
-pub write-room : (p : Parts) (payload out : List ℕ) → length out < 1103 → (Refused Room ≡ written p payload out) × (out ≡ outAfter p payload out)
+-- what is answered, and the bytes afterwards
+pub record Wrote (p : Parts) (payload out : List ℕ) (r : Written) (out' : List ℕ) : Type 0 where
+  pub says : r ≡ written p payload out
+  pub leaves : out' ≡ outAfter p payload out
+
+pub both : {p : Parts} {payload out : List ℕ} {r : Written} {out' : List ℕ} → Wrote p payload out r out'
+    → (r ≡ written p payload out) × (out' ≡ outAfter p payload out)
+both w = (w .says, w .leaves)
+
+pub write-room : (p : Parts) (payload out : List ℕ) → length out < longestFrame → Wrote p payload out (Refused Room) out
 unfolding written outAfter
-write-room p payload out h = let z : ltb (length out) 1103 ≡ true = lt-ltb (length out) 1103 h in (rw z, rw (written, z))
+write-room p payload out h = let z : ltb (length out) longestFrame ≡ true = lt-ltb (length out) longestFrame h in record { says = rw z; leaves = rw (written, z) }
 
-module _ (p : Parts) (payload out : List ℕ) (room : 1103 ≤ length out) (b : Bool) (is : b ≡ inRange p) where
-  room-is : ltb (length out) 1103 ≡ false
-  room-is = le-ltb (length out) 1103 room
+module _ (p : Parts) (payload out : List ℕ) (room : longestFrame ≤ length out) (b : Bool) (is : b ≡ inRange p) where
+  room-is : ltb (length out) longestFrame ≡ false
+  room-is = le-ltb (length out) longestFrame room
 
-  pub write-field : not b ≡ true → (Refused Field ≡ written p payload out) × (out ≡ outAfter p payload out)
+  pub write-field : not b ≡ true → Wrote p payload out (Refused Field) out
   unfolding written outAfter
-  write-field h = let z : inRange p ≡ false = sym is ∙ not-true b h in (rw (room-is, z), rw (written, room-is, z))
+  write-field h = let z : inRange p ≡ false = sym is ∙ not-true b h in record { says = rw (room-is, z); leaves = rw (written, room-is, z) }
 
   module _ (h : not b ≡ false) where
     range-is : inRange p ≡ true
@@ -198,21 +208,21 @@ module _ (p : Parts) (payload out : List ℕ) (room : 1103 ≤ length out) (b : 
     pub range-holds : InRange p
     range-holds = in-range p range-is
 
-    pub write-empty : length payload ≡ 0 → (Refused Length ≡ written p payload out) × (out ≡ outAfter p payload out)
+    pub write-empty : length payload ≡ 0 → Wrote p payload out (Refused Length) out
     unfolding written outAfter
-    write-empty e = let z : eqb (length payload) 0 ≡ true = eq-eqb (length payload) 0 e in (rw (room-is, range-is, z), rw (written, room-is, range-is, z))
+    write-empty e = let z : eqb (length payload) 0 ≡ true = eq-eqb (length payload) 0 e in record { says = rw (room-is, range-is, z); leaves = rw (written, room-is, range-is, z) }
 
     module _ (some : length payload ≡ 0 → ⊥) where
       some-is : eqb (length payload) 0 ≡ false
       some-is = ne-eqb (length payload) 0 some
 
-      pub write-long : 1023 < length payload → (Refused Length ≡ written p payload out) × (out ≡ outAfter p payload out)
+      pub write-long : longestPayload < length payload → Wrote p payload out (Refused Length) out
       unfolding written outAfter
       write-long l =
-          let z : ltb 1023 (length payload) ≡ true = lt-ltb 1023 (length payload) l in
-          (rw (room-is, range-is, some-is, z), rw (written, room-is, range-is, some-is, z))
+          let z : ltb longestPayload (length payload) ≡ true = lt-ltb longestPayload (length payload) l in
+          record { says = rw (room-is, range-is, some-is, z); leaves = rw (written, room-is, range-is, some-is, z) }
 
-      module _ (fits : length payload ≤ 1023) (o₁ o₂ o₃ o₄ : List ℕ) (at end fin : ℕ) (e₁ : o₁ ≡ start p (length payload) ++ drop 4 out)
+      module _ (fits : length payload ≤ longestPayload) (o₁ o₂ o₃ o₄ : List ℕ) (at end fin : ℕ) (e₁ : o₁ ≡ start p (length payload) ++ drop 4 out)
           (at-is : at ≡ 8 + 2 * p .«tag_kind») (e₂ : o₂ ≡ take 4 o₁ ++ (description p ++ drop at o₁))
           (end-is : end ≡ at + length payload) (e₃ : o₃ ≡ take at o₂ ++ (payload ++ drop end o₂))
           (fin-is : fin ≡ end + (p .«check_type» + 1)) (e₄ : o₄ ≡ take end o₃ ++ (checkOver (p .«check_type») (take (end - 1) (drop 1 o₃)) ++ drop fin o₃)) where
@@ -270,11 +280,17 @@ module _ (p : Parts) (payload out : List ℕ) (room : 1103 ≤ length out) (b : 
             length-append (body p payload) (checkOver (p .«check_type») (drop 1 (body p payload)))
             ∙ omega (arith, check-size (drop 1 (body p payload)), body-size)
 
-        pub write-frame : (Frame fin ≡ written p payload out) × (o₄ ≡ outAfter p payload out)
+        pub write-frame : Wrote p payload out (Frame fin) o₄
         unfolding written outAfter
         write-frame =
-            let z : ltb 1023 (length payload) ≡ false = le-ltb 1023 (length payload) fits in
-            (rw (room-is, range-is, some-is, z, plain-size), rw (written, room-is, range-is, some-is, z, plain-size) whole)
+            let z : ltb longestPayload (length payload) ≡ false = le-ltb longestPayload (length payload) fits in
+            record { says = rw (room-is, range-is, some-is, z, plain-size); leaves = rw (written, room-is, range-is, some-is, z, plain-size) whole }
 
 pub ranged : (p : Parts) (b : Bool) → b ≡ inRange p → not b ≡ false → InRange p
 ranged p b is h = in-range p (sym is ∙ not-false b h)
+
+-- what is written behind the start and the description has room, whatever payload was let in
+pub payload-fits : (p : Parts) (b : Bool) → b ≡ inRange p → not b ≡ false → (payload out o₁ o₂ : List ℕ) → longestFrame ≤ length out
+    → length payload ≤ longestPayload → length o₁ ≡ length out → length o₂ ≡ length o₁ → (at : ℕ) → at ≡ 8 + 2 * p .«tag_kind»
+    → at + length payload ≤ length o₂
+payload-fits p b is h payload out o₁ o₂ room fits same₁ same₂ at at-is = let r = ranged p b is h in omega (arith, r .kind-fits)

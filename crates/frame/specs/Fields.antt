@@ -3,15 +3,12 @@ use mathlib.Core.List.{List}
 use mathlib.Core.Bool.{Bool, cond, _&&_}
 use Prim.Native.Nat.{ℕ, zero, suc, _+_, _*_}
 use lib.Dec.{ltb, eqb}
+use Rattle.sizes.specs.Sizes.{longestFrame}
 use Rattle.bits.specs.Bits.{field}
 
--- "Longest frame: 4 + 8 + 1,023 + 64 + 4 = 1,103 bytes."
+-- for crates that have not moved yet
 abbrev pub longest : ℕ
-longest = 1103
-
--- "payload of 0 or over 1,023 bytes" is LENGTH
-abbrev pub longestPayload : ℕ
-longestPayload = 1023
+longest = longestFrame
 
 -- "Preamble 0x73; TF002 type 7; TF003 payload bytes 10; TF004 encrypted 1; TF005 check type 2; TF006 4: four bytes."
 abbrev pub preamble : ℕ

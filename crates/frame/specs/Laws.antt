@@ -9,12 +9,13 @@ use lib.Dec.{leb, ltb, eqb}
 use lib.ListN.{length, getD, take, drop, length-append, length-drop, take-append-drop, List·getD-append}
 use lib.Seq.{take-append-le, drop-append-le, length-take-le}
 use borrow.Author.Tests.{lt-ltb, le-ltb, le-leb, ltb-true, ltb-false, eqb-true, eqb-false, eq-eqb, ne-eqb, not-true, not-false}
+use Rattle.sizes.specs.Sizes.{longestFrame}
 use Rattle.answer.specs.declared.Refusal.{Refusal}
 use Rattle.answer.specs.declared.Refusal.the-variants.{Preamble, FrameCrc, Length, MessageCrc}
 use Rattle.bits.specs.Bits.{field}
 use Rattle.checks.specs.Crc.{frameCrc, messageCrc}
 use Rattle.bits.specs.Laws.{field-lt, field-append, field-out}
-use Rattle.frame.specs.Fields.{longest, preamble, tf002, tf003, tf004, tf005, tf006, tf007, tf008, tf009, tf010, tf011, tf012, tf013, tf014, tf015, tagBits, payloadAt, authenticated, authenticationBytes, authentication, checkBytes, checkAt, frameBytes}
+use Rattle.frame.specs.Fields.{preamble, tf002, tf003, tf004, tf005, tf006, tf007, tf008, tf009, tf010, tf011, tf012, tf013, tf014, tf015, tagBits, payloadAt, authenticated, authenticationBytes, authentication, checkBytes, checkAt, frameBytes}
 use Rattle.frame.specs.Check.{sealingOf, sealOf, frameOf, badFrameCrc, badMessageCrc, stop, want, checked, payloadIn, payloadOf}
 use Rattle.frame.specs.declared.Seal.the-variants.{Plain, Sealed}
 use Rattle.frame.specs.declared.Frame.{Frame}
@@ -38,7 +39,7 @@ authentication-le s = go (authenticated s) (tf015 s)
 pub payloadAt-le : (s : List ℕ) → payloadAt s ≤ 12
 payloadAt-le s = omega (arith, field-lt s 36 1, field-lt s 25 1)
 
-pub frameBytes-le : (s : List ℕ) → frameBytes s ≤ longest
+pub frameBytes-le : (s : List ℕ) → frameBytes s ≤ longestFrame
 frameBytes-le s = omega (arith, field-lt s 36 1, field-lt s 25 1, field-lt s 15 10, field-lt s 26 2, authentication-le s)
 
 -- ---- an accepted frame: all that the tests say of it
@@ -277,11 +278,11 @@ pub data Still (n : ℕ) : Checked → Type 0 where
 
 -- Short n: fewer than n bytes are there, n is at most 1,103, and with bytes appended it is SHORT still while fewer than n are there
 abbrev pub Waits : List ℕ → List ℕ → Checked → Checked → Type 0
-Waits s t (Short n) w = (length s < n) × (n ≤ longest) × (length (s ++ t) < n → Still n w)
+Waits s t (Short n) w = (length s < n) × (n ≤ longestFrame) × (length (s ++ t) < n → Still n w)
 Waits s t (Accepted f) w = Unit {0}
 Waits s t (Refused r) w = Unit {0}
 
-waits-want : (n m : ℕ) (s t : List ℕ) (v w : Checked) → n ≤ longest → n ≤ m → (n ≤ length s → m ≡ n) → (n ≤ length s → Waits s t v w)
+waits-want : (n m : ℕ) (s t : List ℕ) (v w : Checked) → n ≤ longestFrame → n ≤ m → (n ≤ length s → m ≡ n) → (n ≤ length s → Waits s t v w)
     → Waits s t (want n s v) (want m (s ++ t) w)
 waits-want n m s t v w l o e k = go (ltb (length s) n) refl
   where
@@ -311,11 +312,11 @@ waits s t =
     waits-stop _ _ s t _ _ _ (badMessageCrc-same s t b d w) (λ _. tt)))))))))
 
 -- SHORT: fewer bytes are there than are wanted, and never more than 1,103 are wanted
-pub short-wants : (s : List ℕ) (n : ℕ) → checked s ≡ Short n → (length s < n) × (n ≤ longest)
+pub short-wants : (s : List ℕ) (n : ℕ) → checked s ≡ Short n → (length s < n) × (n ≤ longestFrame)
 short-wants s n e = let w = subst (λ (v : Checked). Waits s [] v (checked (s ++ []))) e (waits s []) in (w .0, w .1)
 
 -- so it is never SHORT at 1,103 bytes or more
-pub short-below : (s : List ℕ) (n : ℕ) → checked s ≡ Short n → length s < longest
+pub short-below : (s : List ℕ) (n : ℕ) → checked s ≡ Short n → length s < longestFrame
 short-below s n e = let w = short-wants s n e in omega arith
 
 -- and it stays SHORT while fewer bytes than are wanted are there
@@ -324,7 +325,7 @@ short-stays s t n e = subst (λ (v : Checked). Waits s t v (checked (s ++ t))) e
 
 -- ---- the length of an accepted frame
 
-pub accepted-length : (s : List ℕ) (f : Frame) → checked s ≡ Accepted f → (10 ≤ f .length) × (f .length ≤ length s) × (f .length ≤ longest)
+pub accepted-length : (s : List ℕ) (f : Frame) → checked s ≡ Accepted f → (10 ≤ f .length) × (f .length ≤ length s) × (f .length ≤ longestFrame)
 unfolding frameOf
 accepted-length s f e =
     let a = accepted s f e in

@@ -10,6 +10,7 @@ use lib.Dec.{leb, ltb, eqb}
 use lib.ListN.{length, getD, take, drop, length-append, length-drop, List·getD-append}
 use lib.Seq.{length-take-le, take-at, drop-at, take-add, drop-drop, drop-append-le}
 use borrow.Author.Tests.{eqb-true, eqb-false, ltb-false, le-ltb, ne-eqb, not-false}
+use Rattle.sizes.specs.Sizes.{longestFrame, longestPayload}
 use Rattle.bits.specs.Bits.{bitsOf, toBits, number, Bytes, field}
 use Rattle.bits.specs.Laws.{field-lt, field-part, field-split, field-append, field-byte, number-of-bits, bits-of-number, length-bitsOf, length-toBits, toBits-append, toBits-take, toBits-drop, bits-toBits, bits-bitsOf, bytes-take, bytes-drop}
 use Rattle.checks.specs.Crc.{frameCrc, messageCrc}
@@ -136,7 +137,7 @@ says s front rest p r lo e =
 
 -- ---- a written frame is accepted
 
-module _ (p : Parts) (r : InRange p) (payload : List ℕ) (some : 1 ≤ length payload) (fits : length payload ≤ 1023) where
+module _ (p : Parts) (r : InRange p) (payload : List ℕ) (some : 1 ≤ length payload) (fits : length payload ≤ longestPayload) where
   -- the start's code but for TF006, and TF006
   open-code : ℕ
   open-code = (((115 * 128 + p .«message_type») * 1024 + length payload) * 8 + p .«check_type») * 16
@@ -308,13 +309,13 @@ module _ (p : Parts) (r : InRange p) (payload : List ℕ) (some : 1 ≤ length p
       cc
 
 -- A written plain frame is accepted with exactly its parts, whatever follows it,
-pub written-accepted : (p : Parts) (payload rest : List ℕ) → InRange p → 1 ≤ length payload → length payload ≤ 1023
+pub written-accepted : (p : Parts) (payload rest : List ℕ) → InRange p → 1 ≤ length payload → length payload ≤ longestPayload
     → checked (plain p payload ++ rest) ≡ Accepted (headerOf p payload)
 written-accepted p payload rest r some fits =
     keeps-accepted (plain p payload) rest (headerOf p payload) (accepts (plain p payload) (passes p r payload some fits) ∙ ap Accepted (header-is p r payload some fits))
 
 -- and with exactly its payload.
-pub written-payload : (p : Parts) (payload rest : List ℕ) → InRange p → 1 ≤ length payload → length payload ≤ 1023
+pub written-payload : (p : Parts) (payload rest : List ℕ) → InRange p → 1 ≤ length payload → length payload ≤ longestPayload
     → payloadOf (plain p payload ++ rest) ≡ payload
 written-payload p payload rest r some fits =
     let t : List ℕ = tail p r payload some fits in
@@ -390,7 +391,7 @@ module _ (s : List ℕ) (b : Bytes s) (a : Acceptance s (frameOf s)) (plain-seal
   some : 1 ≤ length its-payload
   some = omega (arith, payload-size, a .some-payload)
 
-  fits : length its-payload ≤ 1023
+  fits : length its-payload ≤ longestPayload
   fits = omega (arith, payload-size, field-lt s 15 10)
 
   abbrev its-code : ℕ
@@ -475,7 +476,7 @@ module _ (s : List ℕ) (f : Frame) (e : checked s ≡ Accepted f) where
   payload-is = payload-there s f e ∙ ap (λ (x : Frame). take (x .«payload_length») (drop (x .«payload_at») s)) is-frame
 
   -- The parts of an accepted frame are in range, and its payload has 1 to 1,023 bytes.
-  pub accepted-parts : InRange (partsOf f) × (1 ≤ length (payloadOf s)) × (length (payloadOf s) ≤ 1023)
+  pub accepted-parts : InRange (partsOf f) × (1 ≤ length (payloadOf s)) × (length (payloadOf s) ≤ longestPayload)
   accepted-parts =
       let a = accepted s f e in
       let n : length (payloadOf s) ≡ tf003 s
@@ -502,16 +503,16 @@ pub write-check : (p : Parts) (payload out : List ℕ) (n : ℕ) → written p p
     → (checked (outAfter p payload out) ≡ Accepted (headerOf p payload)) × (payloadOf (outAfter p payload out) ≡ payload)
 unfolding outAfter written
 write-check p payload out n e =
-    let some-test : Bool = eqb (length payload) 0 || ltb 1023 (length payload) in
+    let some-test : Bool = eqb (length payload) 0 || ltb longestPayload (length payload) in
     let last : Written = W.Frame (length (plain p payload)) in
     let third : Written = refuse some-test (W.Refused Length) last in
-    let a = refuse-on (ltb (length out) 1103) Room (refuse (not (inRange p)) (W.Refused Field) third) e in
+    let a = refuse-on (ltb (length out) longestFrame) Room (refuse (not (inRange p)) (W.Refused Field) third) e in
     let b = refuse-on (not (inRange p)) Field third (a .1) in
     let c = refuse-on some-test Length last (b .1) in
     let r : InRange p = in-range p (not-false _ (b .0)) in
     let d = neither _ _ (c .0) in
     let some : 1 ≤ length payload = one (length payload) (eqb-false _ _ (d .0)) in
-    let fits : length payload ≤ 1023 = ltb-false _ _ (d .1) in
+    let fits : length payload ≤ longestPayload = ltb-false _ _ (d .1) in
     let left : leftBy (written p payload out) p payload out ≡ plain p payload ++ drop n out = ap (λ (w : Written). leftBy w p payload out) e in
     (ap checked left ∙ written-accepted p payload (drop n out) r some fits, ap payloadOf left ∙ written-payload p payload (drop n out) r some fits)
   where
@@ -524,15 +525,15 @@ write-check p payload out n e =
     one (suc n) h = omega arith
 
 -- Of each accepted plain frame, `write` on its parts and its payload writes its bytes again.
-pub check-write : (s out : List ℕ) (f : Frame) → Bytes s → 1103 ≤ length out → checked s ≡ Accepted f → f .seal ≡ Plain
+pub check-write : (s out : List ℕ) (f : Frame) → Bytes s → longestFrame ≤ length out → checked s ≡ Accepted f → f .seal ≡ Plain
     → (written (partsOf f) (payloadOf s) out ≡ W.Frame (f .length)) × (outAfter (partsOf f) (payloadOf s) out ≡ take (f .length) s ++ drop (f .length) out)
 unfolding outAfter written
 check-write s out f b room e p =
     let r = accepted-parts s f e in
     let same : plain (partsOf f) (payloadOf s) ≡ take (f .length) s = accepted-written s f e b p in
     let size : length (plain (partsOf f) (payloadOf s)) ≡ f .length = ap length same ∙ length-take-le (f .length) s (accepted-length s f e .1) in
-    let t1 : ltb (length out) 1103 ≡ false = le-ltb (length out) 1103 room in
+    let t1 : ltb (length out) longestFrame ≡ false = le-ltb (length out) longestFrame room in
     let t2 : inRange (partsOf f) ≡ true = range-in (partsOf f) (r .0) in
     let t3 : eqb (length (payloadOf s)) 0 ≡ false = ne-eqb (length (payloadOf s)) 0 (λ z. absurd (omega (arith, r .1, z))) in
-    let t4 : ltb 1023 (length (payloadOf s)) ≡ false = le-ltb 1023 (length (payloadOf s)) (r .2) in
+    let t4 : ltb longestPayload (length (payloadOf s)) ≡ false = le-ltb longestPayload (length (payloadOf s)) (r .2) in
     (rw (t1, t2, t3, t4, size), rw (written, t1, t2, t3, t4, size, same))

@@ -5,11 +5,12 @@ use mathlib.Core.Bool.{Bool, true, false, not, _&&_, _||_}
 use Prim.Native.Nat.{ℕ, zero, suc, _+_, _*_, _^_}
 use lib.Dec.{ltb, eqb}
 use lib.ListN.{length, getD, take, drop}
+use Rattle.sizes.specs.Sizes.{longestFrame, longestPayload}
 use Rattle.answer.specs.Number.{numberOf}
 use Rattle.answer.specs.declared.Refusal.the-variants.{Room, Field, Length}
 use Rattle.bits.specs.Bits.{bitsOf, number}
 use Rattle.checks.specs.Crc.{frameCrc, messageCrc}
-use Rattle.frame.specs.Fields.{longest, longestPayload, preamble, tagBits, descriptionBytes}
+use Rattle.frame.specs.Fields.{preamble, tagBits, descriptionBytes}
 use Rattle.frame.specs.declared.Frame as F
 use Rattle.frame.specs.declared.Seal.the-variants.{Plain}
 use Rattle.frame.specs.declared.Parts.{Parts}
@@ -63,7 +64,7 @@ refuse false answer rest = rest
 -- "It wants 1,103 bytes of room and checks ROOM, FIELD, LENGTH."
 unfoldable pub written : Parts → List ℕ → List ℕ → Written
 written p payload out =
-    refuse (ltb (length out) longest) (Refused Room)
+    refuse (ltb (length out) longestFrame) (Refused Room)
     (refuse (not (inRange p)) (Refused Field)
     (refuse (eqb (length payload) 0 || ltb longestPayload (length payload)) (Refused Length)
     (Frame (length (plain p payload)))))

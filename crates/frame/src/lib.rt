@@ -14,12 +14,6 @@ ghost use Rattle.frame.specs.Header.{InRange};
 ghost use Rattle.frame.specs.Stages.{described, whole};
 use answer::Refusal;
 
-// The longest frame, 4 + 8 + 1,023 + 64 + 4 bytes: the room that the writer wants.
-const LONGEST: usize = 1103;
-
-// The longest payload that TF003 can say.
-const LONGEST_PAYLOAD: usize = 1023;
-
 // TF012 to TF015, which a sealed frame has.
 pub struct Sealing {
     pub id: u8,
@@ -487,7 +481,7 @@ pub fn write(parts: Parts, payload: &[u8], out: &mut [u8]) -> Written
     ensures { λ r. ⌜ r ≡ written parts (now (payload .entry)) (now (out .entry)) ⌝ }
     ensures { λ _. ⌜ now (out .exit) ≡ outAfter parts (now (payload .entry)) (now (out .entry)) ⌝ }
 {
-    if out.len() < LONGEST {
+    if out.len() < sizes::LONGEST_FRAME {
         return Written::Refused(Refusal::Room);
     }
     if !in_range(parts) {
@@ -497,7 +491,7 @@ pub fn write(parts: Parts, payload: &[u8], out: &mut [u8]) -> Written
     if size == 0 {
         return Written::Refused(Refusal::Length);
     }
-    if LONGEST_PAYLOAD < size {
+    if sizes::LONGEST_PAYLOAD < size {
         return Written::Refused(Refusal::Length);
     }
     put_start(parts, size, out);

@@ -6,6 +6,7 @@ use native.Mathlib.Omega.{arith}
 use lib.ListN.{length, getD}
 use lib.Seq.{sets}
 use borrow.Author.Tests.{lt-ltb, le-ltb}
+use Rattle.sizes.specs.Sizes.{sheetRoom}
 use Rattle.answer.specs.declared.Refusal.{Refusal}
 use Rattle.answer.specs.declared.Refusal.the-variants as refusal
 use Rattle.bits.specs.Bits.{toBits, bitsOf, leaves}
@@ -17,17 +18,17 @@ use Rattle.layout.specs.Tests.{one-less}
 use Rattle.rows.specs.Rows.{widthIn, fieldIn, cellsIn, again}
 use Rattle.rows.specs.Runs.{Went, then}
 use Rattle.rows.specs.Runs as went
-use Rattle.rows.specs.Puts.{longest, onward, Kept, kept-on, puts, PutBy, onTo, halted, Taken-in, inside, nowhere, CellsPut, puts-none, puts-short, puts-fault, puts-more, puts-append}
+use Rattle.rows.specs.Puts.{onward, Kept, kept-on, puts, PutBy, onTo, halted, Taken-in, inside, nowhere, CellsPut, puts-none, puts-short, puts-fault, puts-more, puts-append}
 use Rattle.rows.specs.declared.Ran.{Ran}
 use Rattle.rows.specs.declared.Ran.the-variants.{To, Stopped}
 
 -- ---- the count of bits
 
-pub onward-over : (count width : ℕ) → longest < count → (count ≡ onward count width) × (count < 2 ^ 33 → count < 2 ^ 33)
-onward-over count width h = (rw (lt-ltb longest count h), λ k. k)
+pub onward-over : (count width : ℕ) → sheetRoom < count → (count ≡ onward count width) × (count < 2 ^ 33 → count < 2 ^ 33)
+onward-over count width h = (rw (lt-ltb sheetRoom count h), λ k. k)
 
-pub onward-more : (count width : ℕ) → count ≤ longest → width < 2 ^ 32 → (count + width ≡ onward count width) × (count < 2 ^ 33 → count + width < 2 ^ 33)
-onward-more count width h k = (rw (le-ltb longest count h), λ _. omega arith)
+pub onward-more : (count width : ℕ) → count ≤ sheetRoom → width < 2 ^ 32 → (count + width ≡ onward count width) × (count < 2 ^ 33 → count + width < 2 ^ 33)
+onward-more count width h k = (rw (le-ltb sheetRoom count h), λ _. omega arith)
 
 -- ---- the cells of a word
 

@@ -8,6 +8,7 @@ use borrow.Author.Tests.{lt-ltb, le-ltb, ltb-true, ltb-false}
 use lib.Dec.{ltb}
 use lib.ListN.{length, take, drop, getD}
 use lib.Seq.{sets, sets-eq}
+use Rattle.sizes.specs.Sizes.{sheetRoom}
 use Rattle.answer.specs.declared.Refusal.{Refusal}
 use Rattle.answer.specs.declared.Refusal.the-variants as refusal
 use Rattle.bits.specs.Bits.{toBits, bitsOf, leaves}
@@ -29,36 +30,32 @@ use Rattle.rows.specs.declared.Ran.the-variants.{To, Stopped}
 
 -- ---- the count of bits
 
--- the bits of the longest payload, 1,023 bytes
-abbrev pub longest : ℕ
-longest = 8184
-
 -- A pass over a sheet counts bits exactly up to what the longest payload holds; over that, its count is over it too.
 abbrev pub onward : ℕ → ℕ → ℕ
-onward count width = pick (ltb longest count) count (count + width)
+onward count width = pick (ltb sheetRoom count) count (count + width)
 
 pub record Counted (count bits : ℕ) : Type 0 where
-  pub exact : bits ≤ longest → count ≡ bits
-  pub over : longest < bits → longest < count
+  pub exact : bits ≤ sheetRoom → count ≡ bits
+  pub over : sheetRoom < bits → sheetRoom < count
 
 pub counted-on : {count bits : ℕ} (width count' : ℕ) → Counted count bits → count' ≡ onward count width → Counted count' (bits + width)
-counted-on {count} {bits} width count' c e = go (ltb longest count) (ltb longest bits) refl refl e
+counted-on {count} {bits} width count' c e = go (ltb sheetRoom count) (ltb sheetRoom bits) refl refl e
   where
-    go : (x y : Bool) → ltb longest count ≡ x → ltb longest bits ≡ y → count' ≡ pick x count (count + width) → Counted count' (bits + width)
+    go : (x y : Bool) → ltb sheetRoom count ≡ x → ltb sheetRoom bits ≡ y → count' ≡ pick x count (count + width) → Counted count' (bits + width)
     go true true p q e =
-        let a = ltb-true longest count p in
-        let b = ltb-true longest bits q in
+        let a = ltb-true sheetRoom count p in
+        let b = ltb-true sheetRoom bits q in
         record { exact = λ h. absurd (omega arith); over = λ h. omega arith }
     go true false p q e =
-        let a = ltb-true longest count p in
-        let b = c .exact (ltb-false longest bits q) in
-        absurd (omega (arith, ltb-false longest bits q))
+        let a = ltb-true sheetRoom count p in
+        let b = c .exact (ltb-false sheetRoom bits q) in
+        absurd (omega (arith, ltb-false sheetRoom bits q))
     go false true p q e =
-        let a = ltb-false longest count p in
-        let b = c .over (ltb-true longest bits q) in
+        let a = ltb-false sheetRoom count p in
+        let b = c .over (ltb-true sheetRoom bits q) in
         absurd (omega arith)
     go false false p q e =
-        let b = c .exact (ltb-false longest bits q) in
+        let b = c .exact (ltb-false sheetRoom bits q) in
         record { exact = λ h. omega arith; over = λ h. omega arith }
 
 -- ---- the bits so far
@@ -66,7 +63,7 @@ counted-on {count} {bits} width count' c e = go (ltb longest count) (ltb longest
 -- So many bits, and those that stand in `out` by a store that goes on past its end; where all fit, they do stand there.
 pub record Kept (place : ℕ) (bits : List ℕ) (pos : ℕ) (out : List ℕ) : Type 0 where
   pub count : Counted pos place
-  pub stored : place ≤ longest → place ≤ 8 * length out → toBits out ≡ bits
+  pub stored : place ≤ sheetRoom → place ≤ 8 * length out → toBits out ≡ bits
 
 pub kept-first : (out : List ℕ) → Kept 0 (toBits out) 0 out
 kept-first out = record { count = record { exact = λ h. refl; over = λ h. h }; stored = λ h k. refl }

@@ -3,6 +3,7 @@
 ghost use mathlib.Core.Path.{_≡_};
 ghost use Prim.Native.Nat.{_*_, _^_, _≤_, _<_};
 ghost use lib.ListN.{length, set};
+ghost use Rattle.sizes.specs.Sizes.{longestPayload};
 ghost use Rattle.rows.specs.Rows.{endOf, mostIn, extraIn, fieldIn, cellsIn, cellsOf, oneRow, noRow};
 ghost use Rattle.rows.specs.Runs.{CellsRead};
 ghost use Rattle.rows.specs.Puts.{onward, CellsPut};
@@ -108,7 +109,7 @@ pub fn store(sheet: &mut [u64], at: usize, code: u64)
 }
 
 fn read_cells(payload: &[u8], sheet: &mut [u64], word: u64, pos: usize, at: usize, last: u64) -> Ran
-    requires { ⌜ (length (now payload) ≤ 1023) × (pos ≤ 8 * length (now payload)) × (at ≤ pos) ⌝ }
+    requires { ⌜ (length (now payload) ≤ longestPayload) × (pos ≤ 8 * length (now payload)) × (at ≤ pos) ⌝ }
     ensures { λ r. ⌜ CellsRead (now (payload .entry)) (now (sheet .entry)) (cellsIn word) word pos at last r (now (sheet .exit)) ⌝ }
 {
     let total = payload.len() * 8;
@@ -142,7 +143,7 @@ fn read_cells(payload: &[u8], sheet: &mut [u64], word: u64, pos: usize, at: usiz
 
 // Internal: `sheet` calls it with a payload that its own call has judged, at a place that it came to.
 pub fn read_row(payload: &[u8], sheet: &mut [u64], row: Row, pos: usize, at: usize) -> Ran
-    requires { ⌜ (length (now payload) ≤ 1023) × (pos ≤ 8 * length (now payload)) × (at ≤ pos) ⌝ }
+    requires { ⌜ (length (now payload) ≤ longestPayload) × (pos ≤ 8 * length (now payload)) × (at ≤ pos) ⌝ }
     ensures { λ r. ⌜ CellsRead (now (payload .entry)) (now (sheet .entry)) (cellsOf row) (row .group) pos at 0 r (now (sheet .exit)) ⌝ }
 {
     let group = row.group;
@@ -173,14 +174,11 @@ pub fn read_row(payload: &[u8], sheet: &mut [u64], row: Row, pos: usize, at: usi
     }
 }
 
-// The bits of the longest payload, 1,023 bytes.
-const LONGEST: usize = 8184;
-
 // A count of bits after `width` more. Once over what the longest payload holds it stays: no sheet is too long to be counted.
 pub fn counted(pos: usize, width: u32) -> usize
     ensures { λ r. ⌜ (r ≡ onward pos width) × (pos < 2 ^ 33 → r < 2 ^ 33) ⌝ }
 {
-    if LONGEST < pos {
+    if sizes::SHEET_ROOM < pos {
         return pos;
     }
     pos + width as usize

@@ -10,6 +10,7 @@ use lib.Dec.{ltb}
 use lib.ListN.{length, take, drop, set, getD, length-drop, length-set, drop-of-length-le}
 use lib.Seq.{sets, sets-eq, drop-drop, drop-cons, take-at}
 use borrow.Author.Tests.{lt-ltb, le-ltb, eq-eqb, ne-eqb}
+use Rattle.sizes.specs.Sizes.{longestPayload, sheetRoom}
 use Rattle.answer.specs.declared.Refusal.{Refusal}
 use Rattle.answer.specs.declared.Refusal.the-variants as refusal
 use Rattle.bits.specs.Bits.{toBits, number, field, got}
@@ -26,8 +27,8 @@ use Rattle.message.specs.declared.Start.{Start}
 use Rattle.message.specs.declared.Start.the-variants.{Known, Unknown}
 use Rattle.message.specs.Machine.{fieldOf, stepOf, startOf, Starts, known, unknown, starts}
 use Rattle.message.specs.Messages.{Message, layoutFor}
-use Rattle.sheet.specs.Sheet.{entryRoom, byteRoom, badLength, judging, judged, reading, readAnswerBy, sheetBy, readAnswer, sheetAfter}
-use Rattle.sheet.specs.Laws.{judging-with, reading-with}
+use Rattle.sheet.specs.Sheet.{badLength, judging, judged, reading, readAnswerBy, sheetBy, readAnswer, sheetAfter}
+use Rattle.sheet.specs.Laws.{good-some, judging-with, reading-with}
 use Rattle.sheet.specs.Passes.{ForLayout, endedBy, entriesOf, ReadPass, entriesRead, ReadJudged, Aside, codes, nothing, ReadKept, ReadWhole}
 use Rattle.sheet.specs.declared.ReadAnswer.{ReadAnswer}
 use Rattle.sheet.specs.declared.ReadAnswer.the-variants as reader
@@ -204,7 +205,7 @@ module _ {payload sheet : List ℕ} {start : State} (judged : ReadAnswer) (p : R
         leaves = λ l w. refused-leaves (readL l (toBits payload)) why sheet (sym e ∙ p .answers l w);
       }
 
-  pub whole-read : (pass : Pass) (sheet' : List ℕ) (bits entries : ℕ) → length payload ≤ byteRoom → entryRoom ≤ length sheet
+  pub whole-read : (pass : Pass) (sheet' : List ℕ) (bits entries : ℕ) → length payload ≤ longestPayload → sheetRoom ≤ length sheet
       → judged ≡ reader.Read bits entries → ReadPass payload sheet start pass sheet' → ReadWhole payload sheet start (reader.Read bits entries) sheet'
   whole-read pass sheet' bits entries short room e q =
       let m : entries ≤ 8 * length payload = subst (λ x. entriesRead x ≤ 8 * length payload) e (p .few) in
@@ -216,7 +217,7 @@ module _ {payload sheet : List ℕ} {start : State} (judged : ReadAnswer) (p : R
       }
 
 pub whole-copied : {payload aside sheet : List ℕ} {start : State} (answer : ReadAnswer) (aside' sheet' : List ℕ) (bits entries : ℕ)
-    → ReadKept payload aside start answer aside' → length payload ≤ byteRoom → entryRoom ≤ length sheet → answer ≡ reader.Read bits entries
+    → ReadKept payload aside start answer aside' → length payload ≤ longestPayload → sheetRoom ≤ length sheet → answer ≡ reader.Read bits entries
     → entries ≤ length aside' → length aside' ≡ length aside → sheet' ≡ sets sheet 0 (take entries aside')
     → ReadWhole payload sheet start (reader.Read bits entries) sheet'
 whole-copied {payload} {aside} {sheet} answer aside' sheet' bits entries p short room e h same c =
@@ -255,8 +256,11 @@ module _ {from to₀ to : List ℕ} {i : ℕ} (t : Copying from to₀ to i) wher
 pub bad-none : (bytes : ℕ) → bytes ≡ 0 → true ≡ badLength bytes
 bad-none bytes h = rw (eq-eqb bytes 0 h)
 
-pub bad-long : (bytes : ℕ) → (bytes ≡ 0 → ⊥) → ltb byteRoom bytes ≡ badLength bytes
+pub bad-long : (bytes : ℕ) → (bytes ≡ 0 → ⊥) → ltb longestPayload bytes ≡ badLength bytes
 bad-long bytes h = rw (ne-eqb bytes 0 h)
+
+pub good-length : (bytes : ℕ) (b : Bool) → b ≡ badLength bytes → b ≡ false → bytes ≤ longestPayload
+good-length bytes b m n = good-some bytes (sym m ∙ n) .1
 
 -- where a message starts, its type and subtype have a layout that the machine walks
 pub record Started (kind subtype : ℕ) (start : State) : Type 0 where
@@ -303,29 +307,35 @@ module _ (kind subtype : ℕ) (payload : List ℕ) where
 
 -- ---- `read`
 
+-- what is answered, and the sheet afterwards
+pub record Met (kind subtype : ℕ) (payload sheet : List ℕ) (r : ReadAnswer) (sheet' : List ℕ) : Type 0 where
+  pub says : r ≡ readAnswer kind subtype payload sheet
+  pub leaves : sheet' ≡ sheetAfter kind subtype payload sheet
+
+pub both : {kind subtype : ℕ} {payload sheet : List ℕ} {r : ReadAnswer} {sheet' : List ℕ} → Met kind subtype payload sheet r sheet'
+    → (r ≡ readAnswer kind subtype payload sheet) × (sheet' ≡ sheetAfter kind subtype payload sheet)
+both m = (m .says, m .leaves)
+
 module _ (kind subtype : ℕ) (payload sheet : List ℕ) where
-  abbrev pub Meets : ReadAnswer → List ℕ → Type 0
-  Meets r sheet' = (r ≡ readAnswer kind subtype payload sheet) × (sheet' ≡ sheetAfter kind subtype payload sheet)
-
-  meets : (o : Outcome Message) → reading kind subtype payload sheet ≡ o → Meets (readAnswerBy o) (sheetBy o sheet)
+  meets : (o : Outcome Message) → reading kind subtype payload sheet ≡ o → Met kind subtype payload sheet (readAnswerBy o) (sheetBy o sheet)
   unfolding readAnswer sheetAfter
-  meets o e = (ap readAnswerBy (sym e), ap (λ x. sheetBy x sheet) (sym e))
+  meets o e = record { says = ap readAnswerBy (sym e); leaves = ap (λ x. sheetBy x sheet) (sym e) }
 
-  pub read-room : length sheet < entryRoom → Meets (reader.Refused refusal.Room) sheet
-  read-room h = meets (refused refusal.Room) (reading-with kind subtype payload sheet (lt-ltb (length sheet) entryRoom h) refl refl)
+  pub read-room : length sheet < sheetRoom → Met kind subtype payload sheet (reader.Refused refusal.Room) sheet
+  read-room h = meets (refused refusal.Room) (reading-with kind subtype payload sheet (lt-ltb (length sheet) sheetRoom h) refl refl)
 
-  module _ (room : entryRoom ≤ length sheet) where
-    pub read-unknown : (x : Start) → x ≡ startOf kind subtype → x ≡ Unknown → Meets (reader.Refused refusal.UnknownType) sheet
-    read-unknown x e q = meets (refused refusal.UnknownType) (reading-with kind subtype payload sheet (le-ltb (length sheet) entryRoom room) (not-started kind subtype x e q) refl)
+  module _ (room : sheetRoom ≤ length sheet) where
+    pub read-unknown : (x : Start) → x ≡ startOf kind subtype → x ≡ Unknown → Met kind subtype payload sheet (reader.Refused refusal.UnknownType) sheet
+    read-unknown x e q = meets (refused refusal.UnknownType) (reading-with kind subtype payload sheet (le-ltb (length sheet) sheetRoom room) (not-started kind subtype x e q) refl)
 
     pub read-length : (x : Start) (start : State) → x ≡ startOf kind subtype → x ≡ Known start → (b : Bool) → b ≡ badLength (length payload) → b ≡ true
-        → Meets (reader.Refused refusal.Length) sheet
+        → Met kind subtype payload sheet (reader.Refused refusal.Length) sheet
     read-length x start e q b m n =
-        meets (refused refusal.Length) (reading-with kind subtype payload sheet (le-ltb (length sheet) entryRoom room) (started kind subtype x start e q .here) (sym m ∙ n))
+        meets (refused refusal.Length) (reading-with kind subtype payload sheet (le-ltb (length sheet) sheetRoom room) (started kind subtype x start e q .here) (sym m ∙ n))
 
     pub read-known : (x : Start) (start : State) → x ≡ startOf kind subtype → x ≡ Known start → (b : Bool) → b ≡ badLength (length payload) → b ≡ false
-        → (r : ReadAnswer) (sheet' : List ℕ) → ReadWhole payload sheet start r sheet' → Meets r sheet'
+        → (r : ReadAnswer) (sheet' : List ℕ) → ReadWhole payload sheet start r sheet' → Met kind subtype payload sheet r sheet'
     read-known x start e q b m n r sheet' w =
         let k = started kind subtype x start e q in
-        let g = meets (readL (k .layout) (toBits payload)) (reading-with kind subtype payload sheet (le-ltb (length sheet) entryRoom room) (k .here) (sym m ∙ n)) in
-        (w .answers (k .layout) (k .walks) ∙ g .0, w .leaves (k .layout) (k .walks) ∙ g .1)
+        let g = meets (readL (k .layout) (toBits payload)) (reading-with kind subtype payload sheet (le-ltb (length sheet) sheetRoom room) (k .here) (sym m ∙ n)) in
+        record { says = w .answers (k .layout) (k .walks) ∙ g .says; leaves = w .leaves (k .layout) (k .walks) ∙ g .leaves }

@@ -9,6 +9,7 @@ use lib.Dec.{ltb}
 use lib.ListN.{length, take, drop, getD, length-append}
 use lib.Seq.{sets, sets-eq, drop-drop, take-at, drop-append-add, length-take-le, take-length}
 use borrow.Author.Tests.{lt-ltb, le-ltb, ltb-true, ltb-false, ne-eqb}
+use Rattle.sizes.specs.Sizes.{longestPayload}
 use Rattle.answer.specs.declared.Refusal.{Refusal}
 use Rattle.answer.specs.declared.Refusal.the-variants as refusal
 use Rattle.bits.specs.Bits.{toBits, bitsOf, leaves}
@@ -26,7 +27,7 @@ use Rattle.message.specs.declared.Start.{Start}
 use Rattle.message.specs.declared.Start.the-variants.{Known, Unknown}
 use Rattle.message.specs.Machine.{fieldOf, stepOf, startOf}
 use Rattle.message.specs.Messages.{Message}
-use Rattle.sheet.specs.Sheet.{byteRoom, badLength, bytesFor, fillFor, thenLength, judgingSheet, judgedSheet, writing, writeAnswerBy, outBy, writeAnswer, outAfter}
+use Rattle.sheet.specs.Sheet.{badLength, bytesFor, fillFor, thenLength, judgingSheet, judgedSheet, writing, writeAnswerBy, outBy, writeAnswer, outAfter}
 use Rattle.sheet.specs.Laws.{good-some, judging-sheet-with, writing-with}
 use Rattle.sheet.specs.Passes.{ForLayout, PutBy, whole, fault, bitsOfPass, WritePass, bitsWritten, bytesWritten, SheetJudged, AsideBits, text, nothing, SheetKept, WriteWhole}
 use Rattle.sheet.specs.declared.WriteAnswer.{WriteAnswer}
@@ -70,12 +71,12 @@ ended-fault (written bs) n why out out' e = let z : _≡_ {A = ℕ} 0 1 = cc in 
 ended-fault (unwritten why') n why out out' e = let q : why' ≡ why = cc in subst (λ x. PutBy out out' (unwritten x) (Fault why)) (sym q) fault
 
 ended-whole : (o : Written) (n entries count place : ℕ) (bits out out' : List ℕ) → endedW o n 0 0 (toBits out) ≡ finished entries place bits → Counted count place
-    → (place ≤ 8 * byteRoom → place ≤ 8 * length out → toBits out' ≡ bits) → PutBy out out' o (Whole entries count)
+    → (place ≤ 8 * longestPayload → place ≤ 8 * length out → toBits out' ≡ bits) → PutBy out out' o (Whole entries count)
 ended-whole (written bs) n entries count place bits out out' e c h =
     let p : 0 + length bs ≡ place = cc in
     let q : sets (toBits out) 0 bs ≡ bits = cc in
     let r : place ≡ length bs = sym p ∙ zero-add (length bs) in
-    let k : length bs ≤ 8 * byteRoom → length bs ≤ 8 * length out → toBits out' ≡ bs ++ drop (length bs) (toBits out)
+    let k : length bs ≤ 8 * longestPayload → length bs ≤ 8 * length out → toBits out' ≡ bs ++ drop (length bs) (toBits out)
     = λ a b. h (omega arith) (omega arith) ∙ sym q ∙ sets-eq bs (toBits out) 0 (omega (arith, length-toBits out)) ∙ simp zero-add in
     whole (subst (Counted count) r c) k
 ended-whole (unwritten why) n entries count place bits out out' e c h = let z : _≡_ {A = ℕ} 0 1 = cc in absurd (omega arith)
@@ -154,25 +155,25 @@ module _ {sheet out₀ : List ℕ} {s₀ : State} {out : List ℕ} {s : State} {
 
 -- a bad length counted is a bad length; a good one was counted exactly
 length-by : (count bits : ℕ) → Counted count bits → badLength (bytesFor count) ≡ true → badLength (bytesFor bits) ≡ true
-length-by count bits c h = go (ltb (8 * byteRoom) bits) refl
+length-by count bits c h = go (ltb (8 * longestPayload) bits) refl
   where
-    go : (x : Bool) → ltb (8 * byteRoom) bits ≡ x → badLength (bytesFor bits) ≡ true
+    go : (x : Bool) → ltb (8 * longestPayload) bits ≡ x → badLength (bytesFor bits) ≡ true
     go true p =
-        let a : 8 * byteRoom < bits = ltb-true (8 * byteRoom) bits p in
-        rw (ne-eqb (bytesFor bits) 0 (λ z. omega arith), lt-ltb byteRoom (bytesFor bits) (omega arith))
+        let a : 8 * longestPayload < bits = ltb-true (8 * longestPayload) bits p in
+        rw (ne-eqb (bytesFor bits) 0 (λ z. omega arith), lt-ltb longestPayload (bytesFor bits) (omega arith))
     go false p =
-        let a : count ≡ bits = c .exact (ltb-false (8 * byteRoom) bits p) in
+        let a : count ≡ bits = c .exact (ltb-false (8 * longestPayload) bits p) in
         ap (λ (x : ℕ). badLength (bytesFor x)) (sym a) ∙ h
 
-exact-by : (count bits : ℕ) → Counted count bits → badLength (bytesFor count) ≡ false → (count ≡ bits) × (bits ≤ 8 * byteRoom)
-exact-by count bits c h = go (ltb (8 * byteRoom) bits) refl
+exact-by : (count bits : ℕ) → Counted count bits → badLength (bytesFor count) ≡ false → (count ≡ bits) × (bits ≤ 8 * longestPayload)
+exact-by count bits c h = go (ltb (8 * longestPayload) bits) refl
   where
-    go : (x : Bool) → ltb (8 * byteRoom) bits ≡ x → (count ≡ bits) × (bits ≤ 8 * byteRoom)
+    go : (x : Bool) → ltb (8 * longestPayload) bits ≡ x → (count ≡ bits) × (bits ≤ 8 * longestPayload)
     go true p =
-        let a : 8 * byteRoom < count = c .over (ltb-true (8 * byteRoom) bits p) in
-        let b : bytesFor count ≤ byteRoom = good-some (bytesFor count) h .1 in
+        let a : 8 * longestPayload < count = c .over (ltb-true (8 * longestPayload) bits p) in
+        let b : bytesFor count ≤ longestPayload = good-some (bytesFor count) h .1 in
         absurd (omega arith)
-    go false p = let a : bits ≤ 8 * byteRoom = ltb-false (8 * byteRoom) bits p in (c .exact a, a)
+    go false p = let a : bits ≤ 8 * longestPayload = ltb-false (8 * longestPayload) bits p in (c .exact a, a)
 
 -- what a pass says is the answer
 judged-fault : (o : Written) (pass : Pass) (none none' : List ℕ) (why : Refusal) → PutBy none' none o pass → pass ≡ Fault why
@@ -192,7 +193,7 @@ judged-whole : (o : Written) (pass : Pass) (none none' : List ℕ) (entries coun
 judged-whole (unwritten w) (Fault v) none none' entries count fault e b = let z : _≡_ {A = ℕ} 0 1 = cc in absurd (omega arith)
 judged-whole (written bs) (Whole n m) none none' entries count (whole c h) e b =
     let q : m ≡ count = cc in
-    let x : (count ≡ length bs) × (length bs ≤ 8 * byteRoom) = exact-by count (length bs) (subst (λ y. Counted y (length bs)) q c) b in
+    let x : (count ≡ length bs) × (length bs ≤ 8 * longestPayload) = exact-by count (length bs) (subst (λ y. Counted y (length bs)) q c) b in
     let k : badLength (bytesFor (length bs)) ≡ false = ap (λ (y : ℕ). badLength (bytesFor y)) (sym (x .0)) ∙ b in
     rw k (ap (λ (y : ℕ). writer.Written y (bytesFor y)) (x .0))
 
@@ -242,7 +243,7 @@ module _ (out : List ℕ) where
   refused-leaves (written bs) why e = let z : _≡_ {A = ℕ} 0 1 = cc in absurd (omega arith)
 
   -- the fill behind the bits
-  filled : (bs out₁ out₂ : List ℕ) → length bs ≤ 8 * byteRoom → byteRoom ≤ length out → length out₁ ≡ length out
+  filled : (bs out₁ out₂ : List ℕ) → length bs ≤ 8 * longestPayload → longestPayload ≤ length out → length out₁ ≡ length out
       → toBits out₁ ≡ bs ++ drop (length bs) (toBits out) → toBits out₂ ≡ leaves out₁ (length bs) (8 * bytesFor (length bs) - length bs) 0
       → toBits out₂ ≡ outBy (written bs) out
   filled bs out₁ out₂ h room same e p =
@@ -255,7 +256,7 @@ module _ (out : List ℕ) where
       p ∙ leaves-there out₁ n w 0 (omega arith) (omega arith) ∙ ap₂ (λ x y. x ++ (bitsOf w 0 ++ y)) front back
 
   stored-leaves : (o : Written) (out₁ out₂ : List ℕ) (bits bytes : ℕ) → writer.Written bits bytes ≡ writeAnswerBy (thenLength o)
-      → byteRoom ≤ length out → length out₁ ≡ length out → AsideBits out out₁ o → toBits out₂ ≡ leaves out₁ bits (8 * bytes - bits) 0
+      → longestPayload ≤ length out → length out₁ ≡ length out → AsideBits out out₁ o → toBits out₂ ≡ leaves out₁ bits (8 * bytes - bits) 0
       → toBits out₂ ≡ outBy (thenLength o) out
   stored-leaves (unwritten w) out₁ out₂ bits bytes e room same d p = let z : _≡_ {A = ℕ} 0 1 = cc in absurd (omega arith)
   stored-leaves (written bs) out₁ out₂ bits bytes e room same (text h) p = go (badLength (bytesFor (length bs))) refl
@@ -266,12 +267,12 @@ module _ (out : List ℕ) where
           let z : writer.Written bits bytes ≡ writer.Written (length bs) (bytesFor (length bs)) = rw k at e in
           let i : bits ≡ length bs = cc in
           let j : bytes ≡ bytesFor (length bs) = cc in
-          let few : bytesFor (length bs) ≤ byteRoom = good-some (bytesFor (length bs)) k .1 in
+          let few : bytesFor (length bs) ≤ longestPayload = good-some (bytesFor (length bs)) k .1 in
           rw k (filled bs out₁ out₂ (omega arith) room same (h (omega arith) (omega arith)) (p ∙ ap₂ (λ (x y : ℕ). leaves out₁ x (8 * y - x) 0) i j))
 
 -- the bytes kept aside, in place of the first ones of `out`
-copied-leaves : (o : Written) (aside aside' out : List ℕ) (bits bytes : ℕ) → writer.Written bits bytes ≡ writeAnswerBy o → bytes ≤ byteRoom → byteRoom ≤ length out
-    → byteRoom ≤ length aside' → toBits aside' ≡ outBy o aside → toBits (take bytes aside' ++ drop bytes out) ≡ outBy o out
+copied-leaves : (o : Written) (aside aside' out : List ℕ) (bits bytes : ℕ) → writer.Written bits bytes ≡ writeAnswerBy o → bytes ≤ longestPayload → longestPayload ≤ length out
+    → longestPayload ≤ length aside' → toBits aside' ≡ outBy o aside → toBits (take bytes aside' ++ drop bytes out) ≡ outBy o out
 copied-leaves (unwritten w) aside aside' out bits bytes e few room k p = let z : _≡_ {A = ℕ} 0 1 = cc in absurd (omega arith)
 copied-leaves (written bs) aside aside' out bits bytes e few room k p =
     let n : ℕ = length bs in
@@ -295,28 +296,37 @@ module _ {sheet aside : List ℕ} {start : State} (judged : WriteAnswer) (aside'
 
   module _ (bits bytes : ℕ) (e : judged ≡ writer.Written bits bytes) where
     -- the count of bits is small enough to be taken from that of the bytes
-    pub whole-bytes : bytes ≡ bytesFor bits
+    whole-bytes : bytes ≡ bytesFor bits
     whole-bytes = let r : bytesWritten judged ≡ bytesFor (bitsWritten judged) = p .judged .round in rw e at r
 
-    pub whole-short : bytes ≤ byteRoom
-    whole-short = let r : bytesWritten judged ≤ byteRoom = p .judged .good in rw e at r
+    whole-short : bytes ≤ longestPayload
+    whole-short = let r : bytesWritten judged ≤ longestPayload = p .judged .good in rw e at r
 
-    pub whole-fits : (aside₂ : List ℕ) → byteRoom ≤ length aside → length aside' ≡ length aside → length aside₂ ≡ length aside' → bytes ≤ length aside₂
-    whole-fits aside₂ k same same₂ = let s : bytes ≤ byteRoom = whole-short in omega arith
+    pub fill-times : 8 * bytes < 2 ^ 64
+    fill-times = omega (arith, whole-short)
 
-    pub whole-count : (aside₂ : List ℕ) → byteRoom ≤ length aside → length aside' ≡ length aside → length aside₂ ≡ length aside' → length (take bytes aside₂) ≡ bytes
+    pub fill-under : bits ≤ 8 * bytes
+    fill-under = omega (arith, whole-bytes)
+
+    pub fill-few : 8 * bytes - bits < 2 ^ 32
+    fill-few = omega (arith, whole-short)
+
+    pub whole-fits : (aside₂ : List ℕ) → longestPayload ≤ length aside → length aside' ≡ length aside → length aside₂ ≡ length aside' → bytes ≤ length aside₂
+    whole-fits aside₂ k same same₂ = let s : bytes ≤ longestPayload = whole-short in omega arith
+
+    pub whole-count : (aside₂ : List ℕ) → longestPayload ≤ length aside → length aside' ≡ length aside → length aside₂ ≡ length aside' → length (take bytes aside₂) ≡ bytes
     whole-count aside₂ k same same₂ = length-take-le bytes aside₂ (whole-fits aside₂ k same same₂)
 
-    pub whole-room : (aside₂ out : List ℕ) → byteRoom ≤ length out → byteRoom ≤ length aside → length aside' ≡ length aside → length aside₂ ≡ length aside'
+    pub whole-room : (aside₂ out : List ℕ) → longestPayload ≤ length out → longestPayload ≤ length aside → length aside' ≡ length aside → length aside₂ ≡ length aside'
         → length (take bytes aside₂) ≤ length out
-    whole-room aside₂ out room k same same₂ = let s : bytes ≤ byteRoom = whole-short in omega (arith, whole-count aside₂ k same same₂)
+    whole-room aside₂ out room k same same₂ = let s : bytes ≤ longestPayload = whole-short in omega (arith, whole-count aside₂ k same same₂)
 
-    pub whole-written : {out : List ℕ} (aside₂ out' : List ℕ) → byteRoom ≤ length out → byteRoom ≤ length aside → length aside' ≡ length aside
+    pub whole-written : {out : List ℕ} (aside₂ out' : List ℕ) → longestPayload ≤ length out → longestPayload ≤ length aside → length aside' ≡ length aside
         → length aside₂ ≡ length aside' → toBits aside₂ ≡ leaves aside' bits (8 * bytes - bits) 0
         → out' ≡ take (length (take bytes aside₂)) (take bytes aside₂) ++ drop (length (take bytes aside₂)) out
         → WriteWhole sheet out start (writer.Written bits bytes) out'
     whole-written {out} aside₂ out' room k same same₂ put c =
-        let s : bytes ≤ byteRoom = whole-short in
+        let s : bytes ≤ longestPayload = whole-short in
         let n : length (take bytes aside₂) ≡ bytes = length-take-le bytes aside₂ (omega arith) in
         let d : out' ≡ take bytes aside₂ ++ drop bytes out
         = c ∙ ap₂ (λ x y. x ++ y) (take-length (take bytes aside₂)) (ap (λ (x : ℕ). drop x out) n) in
@@ -327,8 +337,8 @@ module _ {sheet aside : List ℕ} {start : State} (judged : WriteAnswer) (aside'
         }
 
 -- the count of a pass is small enough to be rounded up to bytes
-pub count-small : {sheet aside : List ℕ} {start : State} {dry : Pass} {aside' : List ℕ} {entries count : ℕ} → WritePass sheet aside start dry aside' → dry ≡ Whole entries count → count < 2 ^ 33
-count-small p e = subst (λ x. bitsOfPass x < 2 ^ 33) e (p .small)
+pub count-small : {sheet aside : List ℕ} {start : State} {dry : Pass} {aside' : List ℕ} {entries count : ℕ} → WritePass sheet aside start dry aside' → dry ≡ Whole entries count → count + 7 < 2 ^ 64
+count-small {count} p e = let h : count < 2 ^ 33 = subst (λ x. bitsOfPass x < 2 ^ 33) e (p .small) in omega arith
 
 -- ---- `judge_sheet`
 
@@ -348,25 +358,31 @@ module _ (kind subtype : ℕ) (sheet : List ℕ) where
 
 -- ---- `write`
 
+-- what is answered, and the bits afterwards
+pub record Met (kind subtype : ℕ) (sheet out : List ℕ) (r : WriteAnswer) (out' : List ℕ) : Type 0 where
+  pub says : r ≡ writeAnswer kind subtype sheet out
+  pub leaves : toBits out' ≡ outAfter kind subtype sheet out
+
+pub both : {kind subtype : ℕ} {sheet out : List ℕ} {r : WriteAnswer} (out' : List ℕ) → Met kind subtype sheet out r out'
+    → (r ≡ writeAnswer kind subtype sheet out) × (toBits out' ≡ outAfter kind subtype sheet out)
+both out' m = (m .says, m .leaves)
+
 module _ (kind subtype : ℕ) (sheet out : List ℕ) where
-  abbrev pub Meets : WriteAnswer → List ℕ → Type 0
-  Meets r out' = (r ≡ writeAnswer kind subtype sheet out) × (toBits out' ≡ outAfter kind subtype sheet out)
-
-  meets : (o : Written) (out' : List ℕ) → writing kind subtype sheet out ≡ o → toBits out' ≡ outBy o out → Meets (writeAnswerBy o) out'
+  meets : (o : Written) (out' : List ℕ) → writing kind subtype sheet out ≡ o → toBits out' ≡ outBy o out → Met kind subtype sheet out (writeAnswerBy o) out'
   unfolding writeAnswer outAfter
-  meets o out' e p = (ap writeAnswerBy (sym e), p ∙ ap (λ x. outBy x out) (sym e))
+  meets o out' e p = record { says = ap writeAnswerBy (sym e); leaves = p ∙ ap (λ x. outBy x out) (sym e) }
 
-  pub write-room : length out < byteRoom → Meets (writer.Refused refusal.Room) out
-  write-room h = meets (unwritten refusal.Room) out (writing-with kind subtype sheet out (lt-ltb (length out) byteRoom h) refl) refl
+  pub write-room : length out < longestPayload → Met kind subtype sheet out (writer.Refused refusal.Room) out
+  write-room h = meets (unwritten refusal.Room) out (writing-with kind subtype sheet out (lt-ltb (length out) longestPayload h) refl) refl
 
-  module _ (room : byteRoom ≤ length out) where
-    pub write-unknown : (x : Start) → x ≡ startOf kind subtype → x ≡ Unknown → Meets (writer.Refused refusal.UnknownType) out
-    write-unknown x e q = meets (unwritten refusal.UnknownType) out (writing-with kind subtype sheet out (le-ltb (length out) byteRoom room) (not-started kind subtype x e q)) refl
+  module _ (room : longestPayload ≤ length out) where
+    pub write-unknown : (x : Start) → x ≡ startOf kind subtype → x ≡ Unknown → Met kind subtype sheet out (writer.Refused refusal.UnknownType) out
+    write-unknown x e q = meets (unwritten refusal.UnknownType) out (writing-with kind subtype sheet out (le-ltb (length out) longestPayload room) (not-started kind subtype x e q)) refl
 
     pub write-known : (x : Start) (start : State) → x ≡ startOf kind subtype → x ≡ Known start → (r : WriteAnswer) (out' : List ℕ)
-        → WriteWhole sheet out start r out' → Meets r out'
+        → WriteWhole sheet out start r out' → Met kind subtype sheet out r out'
     write-known x start e q r out' w =
         let k = started kind subtype x start e q in
         let o : Written = thenLength (writeL (k .layout) sheet) in
-        let g = meets o out' (writing-with kind subtype sheet out (le-ltb (length out) byteRoom room) (k .here)) (w .leaves (k .layout) (k .walks)) in
-        (w .answers (k .layout) (k .walks) ∙ g .0, g .1)
+        let g = meets o out' (writing-with kind subtype sheet out (le-ltb (length out) longestPayload room) (k .here)) (w .leaves (k .layout) (k .walks)) in
+        record { says = w .answers (k .layout) (k .walks) ∙ g .says; leaves = g .leaves }

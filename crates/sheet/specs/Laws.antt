@@ -7,6 +7,7 @@ use native.Mathlib.Omega.{arith}
 use lib.Dec.{eqb, ltb, leb}
 use lib.ListN.{length, take, drop}
 use borrow.Author.Tests.{le-ltb, ltb-false, ne-eqb, eqb-false}
+use Rattle.sizes.specs.Sizes.{longestPayload, sheetRoom}
 use Rattle.answer.specs.declared.Refusal.the-variants as refusal
 use Rattle.codes.specs.declared.Constellation.{Constellation}
 use Rattle.codes.specs.declared.Constellation.the-variants.{Gps, Glonass, Galileo, BeiDou, Qzss}
@@ -17,23 +18,23 @@ use Rattle.bits.specs.Bits.{toBits, number}
 use Rattle.layout.specs.Layout.{Layout, field, pick, judge, enough, judged, before, Outcome, accepted, refused, readL, Written, written, unwritten, writeL}
 use Rattle.layout.specs.Parts.{Part, absent, present}
 use Rattle.message.specs.Messages.{Message, ocbLayout, hpacLayout, constellationOf, byConstellation, layoutFor}
-use Rattle.sheet.specs.Sheet.{entryRoom, byteRoom, badLength, stop, known, judging, reading, readAnswerBy, sheetBy, readAnswer, sheetAfter}
+use Rattle.sheet.specs.Sheet.{badLength, stop, known, judging, reading, readAnswerBy, sheetBy, readAnswer, sheetAfter}
 use Rattle.sheet.specs.Sheet.{bytesFor, thenLength, judgingSheet, writing, writeAnswerBy, outBy, writeAnswer, outAfter}
 use Rattle.sheet.specs.declared.ReadAnswer.the-variants as reader
 use Rattle.sheet.specs.declared.WriteAnswer.the-variants as writer
 
 -- ---- a length that is not bad
 
-pub good-some : (bytes : ℕ) → badLength bytes ≡ false → (bytes ≡ 0 → ⊥) × (bytes ≤ byteRoom)
-good-some bytes h = go (eqb bytes 0) (ltb byteRoom bytes) refl refl h
+pub good-some : (bytes : ℕ) → badLength bytes ≡ false → (bytes ≡ 0 → ⊥) × (bytes ≤ longestPayload)
+good-some bytes h = go (eqb bytes 0) (ltb longestPayload bytes) refl refl h
   where
-    go : (x y : Bool) → eqb bytes 0 ≡ x → ltb byteRoom bytes ≡ y → (x || y) ≡ false → (bytes ≡ 0 → ⊥) × (bytes ≤ byteRoom)
+    go : (x y : Bool) → eqb bytes 0 ≡ x → ltb longestPayload bytes ≡ y → (x || y) ≡ false → (bytes ≡ 0 → ⊥) × (bytes ≤ longestPayload)
     go true y p q h = let z : _≡_ {A = ℕ} 0 1 = cc in absurd (omega arith)
     go false true p q h = let z : _≡_ {A = ℕ} 0 1 = cc in absurd (omega arith)
-    go false false p q h = (eqb-false bytes 0 p, ltb-false byteRoom bytes q)
+    go false false p q h = (eqb-false bytes 0 p, ltb-false longestPayload bytes q)
 
-pub some-good : (bytes : ℕ) → (bytes ≡ 0 → ⊥) → bytes ≤ byteRoom → badLength bytes ≡ false
-some-good bytes h k = rw (ne-eqb bytes 0 h, le-ltb byteRoom bytes k)
+pub some-good : (bytes : ℕ) → (bytes ≡ 0 → ⊥) → bytes ≤ longestPayload → badLength bytes ≡ false
+some-good bytes h k = rw (ne-eqb bytes 0 h, le-ltb longestPayload bytes k)
 
 -- ---- a message has a bit
 
@@ -98,7 +99,7 @@ judging-with kind subtype payload a b = ap₂ (judgingWith payload) a b
 abbrev pub readingWith : (payload : List ℕ) (short : Bool) (p : Part (Layout Message)) (bad : Bool) → Outcome Message
 readingWith payload short p bad = stop short (refused refusal.Room) (judgingWith payload p bad)
 
-pub reading-with : (kind subtype : ℕ) (payload sheet : List ℕ) {short bad : Bool} {p : Part (Layout Message)} → ltb (length sheet) entryRoom ≡ short
+pub reading-with : (kind subtype : ℕ) (payload sheet : List ℕ) {short bad : Bool} {p : Part (Layout Message)} → ltb (length sheet) sheetRoom ≡ short
     → layoutFor kind subtype ≡ p → badLength (length payload) ≡ bad → reading kind subtype payload sheet ≡ readingWith payload short p bad
 unfolding reading
 reading-with kind subtype payload sheet a b c = ap₂ (λ x y. stop x (refused refusal.Room) y) a (judging-with kind subtype payload b c)
@@ -116,7 +117,7 @@ judging-sheet-with kind subtype sheet a = ap (judgingSheetWith sheet) a
 abbrev pub writingWith : (sheet : List ℕ) (short : Bool) (p : Part (Layout Message)) → Written
 writingWith sheet short p = stop short (unwritten refusal.Room) (judgingSheetWith sheet p)
 
-pub writing-with : (kind subtype : ℕ) (sheet out : List ℕ) {short : Bool} {p : Part (Layout Message)} → ltb (length out) byteRoom ≡ short
+pub writing-with : (kind subtype : ℕ) (sheet out : List ℕ) {short : Bool} {p : Part (Layout Message)} → ltb (length out) longestPayload ≡ short
     → layoutFor kind subtype ≡ p → writing kind subtype sheet out ≡ writingWith sheet short p
 unfolding writing
 writing-with kind subtype sheet out a b = ap₂ (λ x y. stop x (unwritten refusal.Room) y) a (judging-sheet-with kind subtype sheet b)
@@ -137,7 +138,7 @@ pub was-read : (kind subtype : ℕ) (payload sheet : List ℕ) (bits entries : �
     → WasRead kind subtype payload sheet bits entries
 unfolding readAnswer sheetAfter
 was-read kind subtype payload sheet bits entries e =
-    go (ltb (length sheet) entryRoom) (layoutFor kind subtype) (badLength (length payload)) refl refl refl
+    go (ltb (length sheet) sheetRoom) (layoutFor kind subtype) (badLength (length payload)) refl refl refl
   where
     last : (l : Layout Message) (o : Outcome Message) → layoutFor kind subtype ≡ present l → badLength (length payload) ≡ false → readL l (toBits payload) ≡ o
         → sheetAfter kind subtype payload sheet ≡ sheetBy o sheet → readAnswerBy o ≡ reader.Read bits entries → WasRead kind subtype payload sheet bits entries
@@ -155,7 +156,7 @@ was-read kind subtype payload sheet bits entries e =
         }
     last l (refused why) p g r s e = let z : _≡_ {A = ℕ} 0 1 = cc in absurd (omega arith)
 
-    go : (x : Bool) (p : Part (Layout Message)) (y : Bool) → ltb (length sheet) entryRoom ≡ x → layoutFor kind subtype ≡ p → badLength (length payload) ≡ y
+    go : (x : Bool) (p : Part (Layout Message)) (y : Bool) → ltb (length sheet) sheetRoom ≡ x → layoutFor kind subtype ≡ p → badLength (length payload) ≡ y
         → WasRead kind subtype payload sheet bits entries
     go x p y a b c = by x p y b c (reading-with kind subtype payload sheet a b c) (ap readAnswerBy (sym (reading-with kind subtype payload sheet a b c)) ∙ e)
       where
@@ -177,7 +178,7 @@ pub record WasWritten (kind subtype : ℕ) (sheet out : List ℕ) (bits bytes : 
   pub here : layoutFor kind subtype ≡ present layout
   pub writes : writeL layout sheet ≡ written text
   pub good : badLength bytes ≡ false
-  pub room : byteRoom ≤ length out
+  pub room : longestPayload ≤ length out
   pub count : bits ≡ length text
   pub round : bytes ≡ bytesFor (length text)
   pub leaves : outAfter kind subtype sheet out ≡ outBy (written text) out
@@ -190,9 +191,9 @@ pub was-written : (kind subtype : ℕ) (sheet out : List ℕ) (bits bytes : ℕ)
     → WasWritten kind subtype sheet out bits bytes
 unfolding writeAnswer outAfter
 was-written kind subtype sheet out bits bytes e =
-    go (ltb (length out) byteRoom) (layoutFor kind subtype) refl refl
+    go (ltb (length out) longestPayload) (layoutFor kind subtype) refl refl
   where
-    last : (l : Layout Message) (o : Written) → layoutFor kind subtype ≡ present l → byteRoom ≤ length out → writeL l sheet ≡ o → (y : Bool)
+    last : (l : Layout Message) (o : Written) → layoutFor kind subtype ≡ present l → longestPayload ≤ length out → writeL l sheet ≡ o → (y : Bool)
         → ((text : List ℕ) → o ≡ written text → badLength (bytesFor (length text)) ≡ y)
         → outAfter kind subtype sheet out ≡ outBy (thenLength o) out → writeAnswerBy (thenLength o) ≡ writer.Written bits bytes
         → WasWritten kind subtype sheet out bits bytes
@@ -219,33 +220,33 @@ was-written kind subtype sheet out bits bytes e =
           leaves = s ∙ ap (λ x. outBy (stop x (unwritten refusal.Length) (written text)) out) g;
         }
 
-    go : (x : Bool) (p : Part (Layout Message)) → ltb (length out) byteRoom ≡ x → layoutFor kind subtype ≡ p → WasWritten kind subtype sheet out bits bytes
+    go : (x : Bool) (p : Part (Layout Message)) → ltb (length out) longestPayload ≡ x → layoutFor kind subtype ≡ p → WasWritten kind subtype sheet out bits bytes
     go x p a b = by x p a b (writing-with kind subtype sheet out a b) (ap writeAnswerBy (sym (writing-with kind subtype sheet out a b)) ∙ e)
       where
-        by : (x : Bool) (p : Part (Layout Message)) → ltb (length out) byteRoom ≡ x → layoutFor kind subtype ≡ p
+        by : (x : Bool) (p : Part (Layout Message)) → ltb (length out) longestPayload ≡ x → layoutFor kind subtype ≡ p
             → writing kind subtype sheet out ≡ writingWith sheet x p → writeAnswerBy (writingWith sheet x p) ≡ writer.Written bits bytes
             → WasWritten kind subtype sheet out bits bytes
         by true p a b r e = let z : _≡_ {A = ℕ} 0 1 = cc in absurd (omega arith)
         by false absent a b r e = let z : _≡_ {A = ℕ} 0 1 = cc in absurd (omega arith)
         by false (present l) a b r e =
-            last l (writeL l sheet) b (ltb-false (length out) byteRoom a) refl (badOf (writeL l sheet)) (λ text q. ap badOf (sym q)) (ap (λ x. outBy x out) r) e
+            last l (writeL l sheet) b (ltb-false (length out) longestPayload a) refl (badOf (writeL l sheet)) (λ text q. ap badOf (sym q)) (ap (λ x. outBy x out) r) e
 
 -- ---- what makes a success
 
 pub reads-so : (kind subtype : ℕ) (payload sheet : List ℕ) (l : Layout Message) (m : Message) (cs : List ℕ) (n : ℕ) → layoutFor kind subtype ≡ present l
-    → readL l (toBits payload) ≡ accepted m cs n → entryRoom ≤ length sheet → badLength (length payload) ≡ false
+    → readL l (toBits payload) ≡ accepted m cs n → sheetRoom ≤ length sheet → badLength (length payload) ≡ false
     → (readAnswer kind subtype payload sheet ≡ reader.Read n (length cs)) × (sheetAfter kind subtype payload sheet ≡ cs ++ drop (length cs) sheet)
 unfolding readAnswer sheetAfter
 reads-so kind subtype payload sheet l m cs n p r room good =
     let e : reading kind subtype payload sheet ≡ accepted m cs n
-    = reading-with kind subtype payload sheet (le-ltb (length sheet) entryRoom room) p good ∙ r in
+    = reading-with kind subtype payload sheet (le-ltb (length sheet) sheetRoom room) p good ∙ r in
     (ap readAnswerBy e, ap (λ x. sheetBy x sheet) e)
 
 pub writes-so : (kind subtype : ℕ) (sheet out : List ℕ) (l : Layout Message) (text : List ℕ) → layoutFor kind subtype ≡ present l
-    → writeL l sheet ≡ written text → byteRoom ≤ length out → badLength (bytesFor (length text)) ≡ false
+    → writeL l sheet ≡ written text → longestPayload ≤ length out → badLength (bytesFor (length text)) ≡ false
     → (writeAnswer kind subtype sheet out ≡ writer.Written (length text) (bytesFor (length text))) × (outAfter kind subtype sheet out ≡ outBy (written text) out)
 unfolding writeAnswer outAfter
 writes-so kind subtype sheet out l text p w room good =
     let e : writing kind subtype sheet out ≡ written text
-    = writing-with kind subtype sheet out (le-ltb (length out) byteRoom room) p ∙ ap thenLength w ∙ ap (λ x. stop x (unwritten refusal.Length) (written text)) good in
+    = writing-with kind subtype sheet out (le-ltb (length out) longestPayload room) p ∙ ap thenLength w ∙ ap (λ x. stop x (unwritten refusal.Length) (written text)) good in
     (ap writeAnswerBy e, ap (λ x. outBy x out) e)

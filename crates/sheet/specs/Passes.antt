@@ -5,6 +5,7 @@ use Prim.Native.Nat.{ℕ, _+_, _*_, _^_, _≤_, _<_}
 use lib.Dec.{ltb}
 use lib.ListN.{length, drop}
 use lib.Seq.{sets}
+use Rattle.sizes.specs.Sizes.{longestPayload}
 use Rattle.answer.specs.declared.Refusal.{Refusal}
 use Rattle.bits.specs.Bits.{toBits}
 use Rattle.layout.specs.Layout.{Layout, Outcome, accepted, refused, readL, Written, written, unwritten, writeL}
@@ -14,7 +15,7 @@ use Rattle.rows.specs.Puts.{Counted}
 use Rattle.message.specs.declared.State.{State}
 use Rattle.message.specs.Machine.{fieldOf, stepOf}
 use Rattle.message.specs.Messages.{Message}
-use Rattle.sheet.specs.Sheet.{byteRoom, readAnswerBy, sheetBy, bytesFor, thenLength, writeAnswerBy, outBy}
+use Rattle.sheet.specs.Sheet.{readAnswerBy, sheetBy, bytesFor, thenLength, writeAnswerBy, outBy}
 use Rattle.sheet.specs.declared.ReadAnswer.{ReadAnswer}
 use Rattle.sheet.specs.declared.ReadAnswer.the-variants as reader
 use Rattle.sheet.specs.declared.WriteAnswer.{WriteAnswer}
@@ -72,7 +73,7 @@ pub record ReadWhole (payload sheet : List ℕ) (start : State) (answer : ReadAn
 -- what a pass comes to by what the writing gives; bits that do not all have room may be stored in part or not at all
 pub data PutBy (out out' : List ℕ) : Written → Pass → Type 0 where
   whole : {bits : List ℕ} {entries count : ℕ} → Counted count (length bits)
-      → (length bits ≤ 8 * byteRoom → length bits ≤ 8 * length out → toBits out' ≡ bits ++ drop (length bits) (toBits out))
+      → (length bits ≤ 8 * longestPayload → length bits ≤ 8 * length out → toBits out' ≡ bits ++ drop (length bits) (toBits out))
       → PutBy out out' (written bits) (Whole entries count)
   fault : {why : Refusal} → PutBy out out' (unwritten why) (Fault why)
 
@@ -92,11 +93,11 @@ bytesWritten (writer.Refused why) = 0
 pub record SheetJudged (sheet : List ℕ) (start : State) (answer : WriteAnswer) : Type 0 where
   pub answers : ForLayout start (λ l. answer ≡ writeAnswerBy (thenLength (writeL l sheet)))
   pub round : bytesWritten answer ≡ bytesFor (bitsWritten answer)
-  pub good : bytesWritten answer ≤ byteRoom
+  pub good : bytesWritten answer ≤ longestPayload
 
 -- what is kept aside of an accepted sheet: its bits, where all of them have room
 pub data AsideBits (aside aside' : List ℕ) : Written → Type 0 where
-  text : {bits : List ℕ} → (length bits ≤ 8 * byteRoom → length bits ≤ 8 * length aside → toBits aside' ≡ bits ++ drop (length bits) (toBits aside))
+  text : {bits : List ℕ} → (length bits ≤ 8 * longestPayload → length bits ≤ 8 * length aside → toBits aside' ≡ bits ++ drop (length bits) (toBits aside))
       → AsideBits aside aside' (written bits)
   nothing : {why : Refusal} → AsideBits aside aside' (unwritten why)
 

@@ -4,6 +4,7 @@ use mathlib.Core.List.{List, _++_}
 use Prim.Native.Nat.{ℕ, _+_, _-_, _*_, _/_}
 use lib.Dec.{eqb, ltb}
 use lib.ListN.{length, drop}
+use Rattle.sizes.specs.Sizes.{longestPayload, sheetRoom}
 use Rattle.answer.specs.Number.{numberOf}
 use Rattle.answer.specs.declared.Refusal.the-variants.{Length, UnknownType, Room}
 use Rattle.bits.specs.Bits.{toBits, bitsOf}
@@ -15,16 +16,9 @@ use Rattle.sheet.specs.declared.ReadAnswer.the-variants as reader
 use Rattle.sheet.specs.declared.WriteAnswer.{WriteAnswer}
 use Rattle.sheet.specs.declared.WriteAnswer.the-variants as writer
 
--- "Reading wants 8,184 entries, writing 1,023 bytes of room."
-abbrev pub entryRoom : ℕ
-entryRoom = 8184
-
-abbrev pub byteRoom : ℕ
-byteRoom = 1023
-
 -- LENGTH: "payload of 0 or over 1,023 bytes"
 abbrev pub badLength : ℕ → Bool
-badLength bytes = eqb bytes 0 || ltb byteRoom bytes
+badLength bytes = eqb bytes 0 || ltb longestPayload bytes
 
 -- refuse here if the test holds, else go on
 abbrev pub stop : {A : Type 0} → Bool → A → A → A
@@ -47,7 +41,7 @@ judging kind subtype payload =
 
 -- "Reading order of checks: ROOM, UNKNOWN_TYPE, LENGTH, then the first fault in reading order"
 unfoldable pub reading : (kind subtype : ℕ) (payload sheet : List ℕ) → Outcome Message
-reading kind subtype payload sheet = stop (ltb (length sheet) entryRoom) (refused Room) (judging kind subtype payload)
+reading kind subtype payload sheet = stop (ltb (length sheet) sheetRoom) (refused Room) (judging kind subtype payload)
 
 -- the count of bits read and of entries written, or the refusal
 abbrev pub readAnswerBy : Outcome Message → ReadAnswer
@@ -88,7 +82,7 @@ judgingSheet kind subtype sheet =
 
 -- "Writing: ROOM, UNKNOWN_TYPE, first fault, LEFTOVER, LENGTH."
 unfoldable pub writing : (kind subtype : ℕ) (sheet out : List ℕ) → Written
-writing kind subtype sheet out = stop (ltb (length out) byteRoom) (unwritten Room) (judgingSheet kind subtype sheet)
+writing kind subtype sheet out = stop (ltb (length out) longestPayload) (unwritten Room) (judgingSheet kind subtype sheet)
 
 -- the count of bits and of bytes written, or the refusal
 abbrev pub writeAnswerBy : Written → WriteAnswer

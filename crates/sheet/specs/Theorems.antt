@@ -6,19 +6,20 @@ use Prim.Native.Nat.{ℕ, _-_, _*_, _≤_}
 use native.Mathlib.Omega.{arith}
 use lib.ListN.{length, take, drop, length-append, length-drop}
 use lib.Seq.{take-at, length-take-le}
+use Rattle.sizes.specs.Sizes.{longestPayload, sheetRoom}
 use Rattle.bits.specs.Bits.{toBits}
 use Rattle.bits.specs.Laws.{length-toBits, length-bitsOf, bits-toBits, toBits-take}
 use Rattle.layout.specs.Layout.{accepted, readL, Written, written, writeL}
 use Rattle.layout.specs.Parts.{present}
 use Rattle.layout.specs.RoundTrip.{write-read, read-write, write-injective}
-use Rattle.sheet.specs.Sheet.{entryRoom, byteRoom, badLength, bytesFor, fillFor, readAnswer, sheetAfter, writeAnswer, outAfter}
+use Rattle.sheet.specs.Sheet.{badLength, bytesFor, fillFor, readAnswer, sheetAfter, writeAnswer, outAfter}
 use Rattle.sheet.specs.Laws.{good-some, some-good, WasRead, was-read, read-has-bit, WasWritten, was-written, reads-so, writes-so}
 use Rattle.sheet.specs.declared.ReadAnswer.the-variants as reader
 use Rattle.sheet.specs.declared.WriteAnswer.the-variants as writer
 
 -- After a successful read, write of the entries read succeeds and gives the payload's bits up to the count read.
 pub read-then-write : (kind subtype : ℕ) (payload sheet out : List ℕ) (bits entries : ℕ) → readAnswer kind subtype payload sheet ≡ reader.Read bits entries
-    → byteRoom ≤ length out
+    → longestPayload ≤ length out
     → (writeAnswer kind subtype (take entries (sheetAfter kind subtype payload sheet)) out ≡ writer.Written bits (bytesFor bits))
     × (take bits (outAfter kind subtype (take entries (sheetAfter kind subtype payload sheet)) out) ≡ take bits (toBits payload))
 read-then-write kind subtype payload sheet out bits entries e room =
@@ -26,7 +27,7 @@ read-then-write kind subtype payload sheet out bits entries e room =
     let back = write-read (w .layout) (toBits payload) (w .codes) bits (bits-toBits payload) (w .reads) in
     let text : List ℕ = take bits (toBits payload) in
     let size : length text ≡ bits = length-take-le bits (toBits payload) (back .1) in
-    let short : bits ≤ 8 * byteRoom = omega (arith, back .1, length-toBits payload, good-some (length payload) (w .good) .1) in
+    let short : bits ≤ 8 * longestPayload = omega (arith, back .1, length-toBits payload, good-some (length payload) (w .good) .1) in
     let good : badLength (bytesFor bits) ≡ false = some-good (bytesFor bits) (λ z. omega (arith, read-has-bit w)) (omega arith) in
     let read : take entries (sheetAfter kind subtype payload sheet) ≡ w .codes
     = ap (take entries) (w .leaves) ∙ take-at (w .codes) (drop (length (w .codes)) sheet) entries (sym (w .count)) in
@@ -45,7 +46,7 @@ written-bytes kind subtype sheet out out' bits bytes w e =
     let fill : List ℕ = fillFor n in
     let rest : List ℕ = drop (8 * bytesFor n) (toBits out) in
     let a : toBits out' ≡ text ++ (fill ++ rest) = e ∙ w .leaves in
-    let few : bytes ≤ byteRoom = good-some bytes (w .good) .1 in
+    let few : bytes ≤ longestPayload = good-some bytes (w .good) .1 in
     let f : length fill ≡ 8 * bytesFor n - n = length-bitsOf (8 * bytesFor n - n) 0 in
     let whole : length (text ++ fill) ≡ 8 * bytes = omega (arith, length-append text fill, w .round) in
     let i : bytes ≤ length out'
@@ -54,7 +55,7 @@ written-bytes kind subtype sheet out out' bits bytes w e =
 
 -- After a successful write, read of the bytes written gives the sheet, and as many bits.
 pub write-then-read : (kind subtype : ℕ) (sheet out out' back : List ℕ) (bits bytes : ℕ) → writeAnswer kind subtype sheet out ≡ writer.Written bits bytes
-    → toBits out' ≡ outAfter kind subtype sheet out → entryRoom ≤ length back
+    → toBits out' ≡ outAfter kind subtype sheet out → sheetRoom ≤ length back
     → (readAnswer kind subtype (take bytes out') back ≡ reader.Read bits (length sheet))
     × (sheetAfter kind subtype (take bytes out') back ≡ sheet ++ drop (length sheet) back)
 write-then-read kind subtype sheet out out' back bits bytes e o room =

@@ -3,19 +3,15 @@ ghost use mathlib.Core.Path.{_≡_};
 ghost use Prim.Native.Nat.{_+_, _*_, _^_, _≤_, _<_};
 ghost use lib.ListN.{length};
 ghost use lib.Seq.{sets};
+ghost use Rattle.sizes.specs.Sizes.{longestPayload, sheetRoom};
 ghost use Rattle.bits.specs.Bits.{toBits};
-ghost use Rattle.sheet.specs.Sheet.{entryRoom, byteRoom, badLength, judged, readAnswer, sheetAfter, judgedSheet, writeAnswer, outAfter, numberOfRead, numberOfWritten};
+ghost use Rattle.sheet.specs.Sheet.{badLength, judged, readAnswer, sheetAfter, judgedSheet, writeAnswer, outAfter, numberOfRead, numberOfWritten};
 ghost use Rattle.sheet.specs.Passes.{ReadPass, ReadJudged, ReadKept, ReadWhole, WritePass, SheetJudged, SheetKept, WriteWhole};
 use answer::Refusal;
 use layout::Verdict;
 use message::Start;
 use message::State;
 use rows::Ran;
-
-// "Reading wants 8,184 entries, writing 1,023 bytes of room."
-const ENTRY_ROOM: usize = 8184;
-
-const BYTE_ROOM: usize = 1023;
 
 // What `read` answers: the count of bits read and of entries written, or the refusal.
 pub enum ReadAnswer {
@@ -42,12 +38,12 @@ fn bad_length(bytes: usize) -> bool
     if bytes == 0 {
         return true;
     }
-    BYTE_ROOM < bytes
+    sizes::LONGEST_PAYLOAD < bytes
 }
 
 // One pass over a payload: what it comes to, and the codes in the sheet as far as that has room.
 fn read_pass(payload: &[u8], sheet: &mut [u64], start: State) -> Pass
-    requires { ⌜ length (now payload) ≤ byteRoom ⌝ }
+    requires { ⌜ length (now payload) ≤ longestPayload ⌝ }
     ensures { λ r. ⌜ ReadPass (now (payload .entry)) (now (sheet .entry)) start r (now (sheet .exit)) ⌝ }
 {
     let total = payload.len() * 8;
@@ -102,7 +98,7 @@ fn read_pass(payload: &[u8], sheet: &mut [u64], start: State) -> Pass
 
 // A pass says whether the message is accepted, and keeps its codes aside as far as there is room.
 fn keep_from(payload: &[u8], aside: &mut [u64], start: State) -> ReadAnswer
-    requires { ⌜ length (now payload) ≤ byteRoom ⌝ }
+    requires { ⌜ length (now payload) ≤ longestPayload ⌝ }
     ensures { λ r. ⌜ ReadKept (now (payload .entry)) (now (aside .entry)) start r (now (aside .exit)) ⌝ }
 {
     match read_pass(payload, aside, start) {
@@ -112,7 +108,7 @@ fn keep_from(payload: &[u8], aside: &mut [u64], start: State) -> ReadAnswer
 }
 
 fn judge_from(payload: &[u8], start: State) -> ReadAnswer
-    requires { ⌜ length (now payload) ≤ byteRoom ⌝ }
+    requires { ⌜ length (now payload) ≤ longestPayload ⌝ }
     ensures { λ r. ⌜ ReadJudged (now (payload .entry)) start r ⌝ }
 {
     let mut none = [0u64; 1];
@@ -132,7 +128,7 @@ fn copy_codes(codes: &[u64], sheet: &mut [u64])
 
 // The message is judged before its codes come onto the sheet: a refusal alters nothing. Where they did not all have room aside, it is read a second time.
 fn read_by(payload: &[u8], sheet: &mut [u64], aside: &mut [u64], start: State) -> ReadAnswer
-    requires { ⌜ (length (now payload) ≤ byteRoom) × (entryRoom ≤ length (now sheet)) ⌝ }
+    requires { ⌜ (length (now payload) ≤ longestPayload) × (sheetRoom ≤ length (now sheet)) ⌝ }
     ensures { λ r. ⌜ ReadWhole (now (payload .entry)) (now (sheet .entry)) start r (now (sheet .exit)) ⌝ }
 {
     let judged = keep_from(payload, aside, start);
@@ -151,7 +147,7 @@ fn read_by(payload: &[u8], sheet: &mut [u64], aside: &mut [u64], start: State) -
 
 // A payload of 64 bytes has no more than 512 entries.
 fn read_small(payload: &[u8], sheet: &mut [u64], start: State) -> ReadAnswer
-    requires { ⌜ (length (now payload) ≤ byteRoom) × (entryRoom ≤ length (now sheet)) ⌝ }
+    requires { ⌜ (length (now payload) ≤ longestPayload) × (sheetRoom ≤ length (now sheet)) ⌝ }
     ensures { λ r. ⌜ ReadWhole (now (payload .entry)) (now (sheet .entry)) start r (now (sheet .exit)) ⌝ }
 {
     let mut aside = [0u64; 512];
@@ -159,7 +155,7 @@ fn read_small(payload: &[u8], sheet: &mut [u64], start: State) -> ReadAnswer
 }
 
 fn read_whole(payload: &[u8], sheet: &mut [u64], start: State) -> ReadAnswer
-    requires { ⌜ (length (now payload) ≤ byteRoom) × (entryRoom ≤ length (now sheet)) ⌝ }
+    requires { ⌜ (length (now payload) ≤ longestPayload) × (sheetRoom ≤ length (now sheet)) ⌝ }
     ensures { λ r. ⌜ ReadWhole (now (payload .entry)) (now (sheet .entry)) start r (now (sheet .exit)) ⌝ }
 {
     if payload.len() <= 64 {
@@ -189,7 +185,7 @@ pub fn read(kind: u8, subtype: u8, payload: &[u8], sheet: &mut [u64]) -> ReadAns
     ensures { λ r. ⌜ r ≡ readAnswer kind subtype (now (payload .entry)) (now (sheet .entry)) ⌝ }
     ensures { λ _. ⌜ now (sheet .exit) ≡ sheetAfter kind subtype (now (payload .entry)) (now (sheet .entry)) ⌝ }
 {
-    if sheet.len() < ENTRY_ROOM {
+    if sheet.len() < sizes::SHEET_ROOM {
         return ReadAnswer::Refused(Refusal::Room);
     }
     match message::start_of(kind, subtype) {
@@ -283,7 +279,7 @@ fn judge_sheet_from(sheet: &[u64], start: State) -> WriteAnswer
 
 // The sheet is judged before its bits and the fill behind them come into `out`: a refusal alters nothing.
 fn write_by(sheet: &[u64], out: &mut [u8], aside: &mut [u8], start: State) -> WriteAnswer
-    requires { ⌜ (byteRoom ≤ length (now out)) × (byteRoom ≤ length (now aside)) ⌝ }
+    requires { ⌜ (longestPayload ≤ length (now out)) × (longestPayload ≤ length (now aside)) ⌝ }
     ensures { λ r. ⌜ WriteWhole (now (sheet .entry)) (now (out .entry)) start r (now (out .exit)) ⌝ }
 {
     let judged = keep_sheet_from(sheet, aside, start);
@@ -299,10 +295,10 @@ fn write_by(sheet: &[u64], out: &mut [u8], aside: &mut [u8], start: State) -> Wr
 }
 
 fn write_whole(sheet: &[u64], out: &mut [u8], start: State) -> WriteAnswer
-    requires { ⌜ byteRoom ≤ length (now out) ⌝ }
+    requires { ⌜ longestPayload ≤ length (now out) ⌝ }
     ensures { λ r. ⌜ WriteWhole (now (sheet .entry)) (now (out .entry)) start r (now (out .exit)) ⌝ }
 {
-    let mut aside = [0u8; BYTE_ROOM];
+    let mut aside = [0u8; sizes::LONGEST_PAYLOAD];
     write_by(sheet, out, &mut aside[..], start)
 }
 
@@ -321,7 +317,7 @@ pub fn write(kind: u8, subtype: u8, sheet: &[u64], out: &mut [u8]) -> WriteAnswe
     ensures { λ r. ⌜ r ≡ writeAnswer kind subtype (now (sheet .entry)) (now (out .entry)) ⌝ }
     ensures { λ _. ⌜ toBits (now (out .exit)) ≡ outAfter kind subtype (now (sheet .entry)) (now (out .entry)) ⌝ }
 {
-    if out.len() < BYTE_ROOM {
+    if out.len() < sizes::LONGEST_PAYLOAD {
         return WriteAnswer::Refused(Refusal::Room);
     }
     match message::start_of(kind, subtype) {

@@ -9,14 +9,14 @@ use lib.ListN.{length, getD, take, drop, length-append, length-drop, take-append
 use lib.Seq.{take-add, drop-append-le, drop-drop, drop-cons, length-take-le, slice-empty, length-slice}
 use lib.Dec.{ltb}
 use borrow.Author.Tests.{ltb-true, ltb-false, le-ltb}
+use Rattle.sizes.specs.Sizes.{longestFrame, mostNoise}
 use Rattle.bytes.specs.Bytes as Bytes
 use Rattle.bytes.specs.Bytes.{indexOf}
 use Rattle.frame.specs.declared.Checked.the-variants.{Short}
 use Rattle.frame.specs.Check.{checked}
-use Rattle.frame.specs.Fields.{longest, preamble}
+use Rattle.frame.specs.Fields.{preamble}
 use Rattle.frame.specs.Laws.{short-wants}
 use Rattle.stream.specs.declared.Place.{Place}
-use Rattle.stream.specs.Scan.{most}
 use Rattle.stream.specs.Tray.{Outcome, feed}
 use Rattle.stream.specs.Check.{none-short, preamble-short}
 use Rattle.stream.specs.Walk.{plus, fedFrom, liveAt, Seen, toEnd, Along, reached}
@@ -27,10 +27,10 @@ use Rattle.stream.proofs.Turns.{fed-at}
 over : (a b c : ℕ) → a ≡ b + c → a - b ≡ c
 over a b c e = omega arith
 
-passed-noise : (f u l k : ℕ) → f ≤ u + l → l ≤ 65534 - k → k < 65535 → k + (f - u) < 65535
+passed-noise : (f u l k : ℕ) → f ≤ u + l → l ≤ (mostNoise - 1) - k → k < mostNoise → k + (f - u) < mostNoise
 passed-noise f u l k a b c = omega arith
 
-fits-noise : (k l : ℕ) → l ≤ 65534 - k → k < 65535 → k + l < 65535
+fits-noise : (k l : ℕ) → l ≤ (mostNoise - 1) - k → k < mostNoise → k + l < mostNoise
 fits-noise k l a b = omega arith
 
 passed-in : (f u l n : ℕ) → f ≤ u + l → l ≤ n - u → u ≤ n → f ≤ n
@@ -58,7 +58,7 @@ module _ (place : Place) (input : List ℕ) (s : Seen place input) where
       ∙ drop-append-le (place .start) (take (place .held) input) (take c (drop (place .held) input)) (omega arith)
       ∙ ap (λ n. liveAt place input ++ take c (drop n input)) (s .held-used)
 
-  along-by : (c : ℕ) → place .used + c ≤ length input → place .held - place .start + c ≤ longest
+  along-by : (c : ℕ) → place .used + c ≤ length input → place .held - place .start + c ≤ longestFrame
       → ((i : ℕ) → i < c → IsShort (liveAt place input ++ take i (drop (place .used) input)))
       → Along place input (record { start = place .start; held = place .held + c; noise = place .noise; used = place .used + c })
   along-by c u m g =
@@ -75,7 +75,7 @@ module _ (place : Place) (input : List ℕ) (s : Seen place input) where
         no-further = omega arith;
       }
 
-  module _ (wanted : ℕ) (m : wanted ≤ longest)
+  module _ (wanted : ℕ) (m : wanted ≤ longestFrame)
       (g : (i : ℕ) → place .held - place .start + i < wanted → place .used + i < length input → IsShort (liveAt place input ++ take i (drop (place .used) input))) where
     end : ℕ
     end = place .start + min wanted (length input - place .start)
@@ -156,12 +156,12 @@ module _ (place : Place) (input : List ℕ) (s : Seen place input) where
     none-live : liveAt place input ≡ []
     none-live = drop-of-length-le (take (place .held) input) {i = place .start} (omega (arith, length-take-le (place .held) input (omega arith)))
 
-    module _ (found : ℕ) (limit : ℕ) (l : limit ≡ min (65534 - place .noise) (length input - place .used))
+    module _ (found : ℕ) (limit : ℕ) (l : limit ≡ min ((mostNoise - 1) - place .noise) (length input - place .used))
         (q : found ≡ place .used + indexOf 0x73 (Bytes.slice (place .used) (place .used + limit) input)) (b : found ≤ place .used + limit) where
-      limit-in : (limit ≤ 65534 - place .noise) × (limit ≤ length input - place .used)
+      limit-in : (limit ≤ (mostNoise - 1) - place .noise) × (limit ≤ length input - place .used)
       limit-in =
-          let x = min-le-left (65534 - place .noise) (length input - place .used) in
-          let y = min-le-right (65534 - place .noise) (length input - place .used) in
+          let x = min-le-left ((mostNoise - 1) - place .noise) (length input - place .used) in
+          let y = min-le-right ((mostNoise - 1) - place .noise) (length input - place .used) in
           (omega arith, omega arith)
 
       split : drop (place .used) (take (place .used + limit) input) ++ drop (place .used + limit) input ≡ drop (place .used) input

@@ -8,9 +8,9 @@ use lib.ListN.{length, take, drop}
 use lib.Seq.{length-take-le}
 use lib.Dec.{ltb}
 use borrow.Author.Tests.{lt-ltb, le-ltb, not-true, not-false}
+use Rattle.sizes.specs.Sizes.{longestFrame}
 use Rattle.answer.specs.declared.Refusal.{Refusal}
 use Rattle.answer.specs.declared.Refusal.the-variants.{Room, State}
-use Rattle.frame.specs.Fields.{longest}
 use Rattle.stream.specs.declared.Tray.{Tray}
 use Rattle.stream.specs.declared.Answer.{Answer}
 use Rattle.stream.specs.declared.Place.{Place}
@@ -28,43 +28,43 @@ use Rattle.stream.proofs.Loop.{same-bytes}
 
 -- ---- ROOM, STATE
 
-module _ (bytes : List ℕ) (tray : Tray) (h : length bytes < 1103) where
+module _ (bytes : List ℕ) (tray : Tray) (h : length bytes < longestFrame) where
   pub room-call : (input : List ℕ) (r : Answer) → r ≡ answerOf tray (refused Room) → r ≡ callAnswer bytes tray input
   unfolding called
-  room-call input r e = e ∙ rw (lt-ltb (length bytes) 1103 h)
+  room-call input r e = e ∙ rw (lt-ltb (length bytes) longestFrame h)
 
   pub room-call-bytes : (input : List ℕ) → bytes ≡ callBytes bytes tray input
   unfolding called
-  room-call-bytes input = rw (lt-ltb (length bytes) 1103 h)
+  room-call-bytes input = rw (lt-ltb (length bytes) longestFrame h)
 
   pub room-finish : (r : Answer) → r ≡ answerOf tray (refused Room) → r ≡ finishAnswer bytes tray
   unfolding finished
-  room-finish r e = e ∙ rw (lt-ltb (length bytes) 1103 h)
+  room-finish r e = e ∙ rw (lt-ltb (length bytes) longestFrame h)
 
   pub room-finish-bytes : bytes ≡ finishBytes bytes tray
   unfolding finished
-  room-finish-bytes = rw (lt-ltb (length bytes) 1103 h)
+  room-finish-bytes = rw (lt-ltb (length bytes) longestFrame h)
 
-module _ (bytes : List ℕ) (tray : Tray) (h : 1103 ≤ length bytes) (s : Bool) (q : s ≡ sound bytes tray) where
+module _ (bytes : List ℕ) (tray : Tray) (h : longestFrame ≤ length bytes) (s : Bool) (q : s ≡ sound bytes tray) where
   module _ (n : not s ≡ true) where
     unsound : sound bytes tray ≡ false
     unsound = sym q ∙ not-true s n
 
     pub state-call : (input : List ℕ) (r : Answer) → r ≡ answerOf tray (refused State) → r ≡ callAnswer bytes tray input
     unfolding called
-    state-call input r e = e ∙ rw (le-ltb (length bytes) 1103 h, unsound)
+    state-call input r e = e ∙ rw (le-ltb (length bytes) longestFrame h, unsound)
 
     pub state-call-bytes : (input : List ℕ) → bytes ≡ callBytes bytes tray input
     unfolding called
-    state-call-bytes input = rw (le-ltb (length bytes) 1103 h, unsound)
+    state-call-bytes input = rw (le-ltb (length bytes) longestFrame h, unsound)
 
     pub state-finish : (r : Answer) → r ≡ answerOf tray (refused State) → r ≡ finishAnswer bytes tray
     unfolding finished
-    state-finish r e = e ∙ rw (le-ltb (length bytes) 1103 h, unsound)
+    state-finish r e = e ∙ rw (le-ltb (length bytes) longestFrame h, unsound)
 
     pub state-finish-bytes : bytes ≡ finishBytes bytes tray
     unfolding finished
-    state-finish-bytes = rw (le-ltb (length bytes) 1103 h, unsound)
+    state-finish-bytes = rw (le-ltb (length bytes) longestFrame h, unsound)
 
   pub ready-now : not s ≡ false → Ready bytes tray
   ready-now n = record { room = h; is-sound = sym q ∙ not-false s n }
@@ -82,7 +82,7 @@ module _ (bytes : List ℕ) (tray : Tray) (r : Ready bytes tray) (bytes₁ : Lis
   live-length : length (liveOf bytes tray) ≡ tray .held - tray .shown
   live-length = length-part bytes (tray .shown) (tray .held) (held-in bytes tray r)
 
-  live-fits : length (liveOf bytes tray) ≤ longest
+  live-fits : length (liveOf bytes tray) ≤ longestFrame
   live-fits = omega (arith, live-length, sound-parts bytes tray (r .is-sound) .held-most)
 
   dropped : bytes₁ ≡ laid bytes (liveOf bytes tray)
@@ -99,7 +99,7 @@ module _ (bytes : List ℕ) (tray : Tray) (r : Ready bytes tray) (bytes₁ : Lis
   live-now : take (tray .held - tray .shown) bytes₁ ≡ liveOf bytes tray
   live-now = rw (dropped, ← live-length) (take-laid bytes (liveOf bytes tray) live-fits)
 
-  beyond : drop longest bytes₁ ≡ drop longest bytes
+  beyond : drop longestFrame bytes₁ ≡ drop longestFrame bytes
   beyond = rw dropped (drop-laid bytes (liveOf bytes tray) live-fits)
 
   fed : (input : List ℕ) → fedFrom bytes₁ place input ≡ called bytes tray input

@@ -10,6 +10,7 @@ use lib.ListN.{length, take, drop, length-append}
 use lib.Seq.{length-take-le}
 use lib.Dec.{ltb, eqb}
 use borrow.Author.Tests.{lt-ltb, le-ltb, eqb-true, eqb-false}
+use Rattle.sizes.specs.Sizes.{mostNoise}
 use Rattle.bytes.specs.Bytes.{indexOf, indexAfter}
 use Rattle.answer.specs.declared.Refusal.{Refusal}
 use Rattle.answer.specs.declared.Refusal.the-variants.{Preamble}
@@ -42,13 +43,13 @@ plus-plus u v (told e c n) = let q : u + (v + n) ≡ u + v + n = omega arith in 
 plus-plus u v (hungry c n) = let q : u + (v + n) ≡ u + v + n = omega arith in rw q
 plus-plus u v (done c) = refl
 
-pub more-some : (k : ℕ) → k + 1 < 65535 → oneMore k ≡ some (k + 1)
+pub more-some : (k : ℕ) → k + 1 < mostNoise → oneMore k ≡ some (k + 1)
 unfolding oneMore
-more-some k h = rw (lt-ltb (suc k) 65535 (omega arith), add-one k)
+more-some k h = rw (lt-ltb (suc k) mostNoise (omega arith), add-one k)
 
-pub more-full : (k : ℕ) → k + 1 ≡ 65535 → oneMore k ≡ full
+pub more-full : (k : ℕ) → k + 1 ≡ mostNoise → oneMore k ≡ full
 unfolding oneMore
-more-full k h = rw (le-ltb (suc k) 65535 (omega arith))
+more-full k h = rw (le-ltb (suc k) mostNoise (omega arith))
 
 -- ---- deciding on the bytes held
 
@@ -57,13 +58,13 @@ unfolding decide
 decide-accept [] f k e = cc none-short
 decide-accept (x ∷ xs) f k e = rw (e, decide)
 
-pub decide-full : (s : List ℕ) (r : Refusal) (k : ℕ) → checked s ≡ Refused r → k + 1 ≡ 65535
-    → decide s k ≡ event (noise 65535) (record { held = drop 1 s; shown = 0; noise = 0 })
+pub decide-full : (s : List ℕ) (r : Refusal) (k : ℕ) → checked s ≡ Refused r → k + 1 ≡ mostNoise
+    → decide s k ≡ event (noise mostNoise) (record { held = drop 1 s; shown = 0; noise = 0 })
 unfolding decide
 decide-full [] r k e h = cc none-short
 decide-full (x ∷ xs) r k e h = rw (e, decide, more-full k h)
 
-pub decide-noise : (s : List ℕ) (r : Refusal) (k : ℕ) → checked s ≡ Refused r → k + 1 < 65535 → decide s k ≡ decide (drop 1 s) (k + 1)
+pub decide-noise : (s : List ℕ) (r : Refusal) (k : ℕ) → checked s ≡ Refused r → k + 1 < mostNoise → decide s k ≡ decide (drop 1 s) (k + 1)
 unfolding decide
 decide-noise [] r k e h = cc none-short
 decide-noise (x ∷ xs) r k e h = rw (e, decide, more-some k h)
@@ -127,12 +128,12 @@ pub feed-block : (c : ℕ) (p s : List ℕ) (n k : ℕ) → checked s ≡ Short 
 feed-block c p s n k e h l = feed-all c p s k (λ i m. short-on s p n e i (omega arith) (omega arith)) l
 
 -- where no byte is held, a byte that is no preamble is noise
-feed-quiet-one : (x : ℕ) (p : List ℕ) (k : ℕ) → (x ≡ preamble → ⊥) → k + 1 < 65535 → feed (x ∷ p) [] k ≡ taken (feed p [] (k + 1))
+feed-quiet-one : (x : ℕ) (p : List ℕ) (k : ℕ) → (x ≡ preamble → ⊥) → k + 1 < mostNoise → feed (x ∷ p) [] k ≡ taken (feed p [] (k + 1))
 feed-quiet-one x p k h l =
     feed-take x p [] 1 k none-short
     ∙ ap taken (feed-same p (x ∷ []) [] k (k + 1) (decide-noise (x ∷ []) Preamble k (no-preamble x [] h) l))
 
-pub feed-quiet : (s p : List ℕ) (k : ℕ) → k + length s < 65535
+pub feed-quiet : (s p : List ℕ) (k : ℕ) → k + length s < mostNoise
     → feed (s ++ p) [] k ≡ plus (indexOf preamble s) (feed (drop (indexOf preamble s) (s ++ p)) [] (k + indexOf preamble s))
 unfolding indexOf indexAfter
 feed-quiet [] p k h = rw (add-zero k) (sym (plus-zero (feed p [] k)))

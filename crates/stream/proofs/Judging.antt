@@ -7,6 +7,7 @@ use native.Mathlib.Omega.{arith}
 use lib.ListN.{length, take, drop}
 use lib.Dec.{ltb, leb, eqb}
 use borrow.Author.Tests.{lt-ltb, le-ltb, lt-leb, le-leb, eq-eqb, ne-eqb, not-true, not-false}
+use Rattle.sizes.specs.Sizes.{longestFrame, mostNoise}
 use Rattle.frame.specs.declared.Frame.{Frame}
 use Rattle.frame.specs.declared.Checked.{Checked}
 use Rattle.frame.specs.declared.Checked.the-variants.{Accepted, Short, Refused}
@@ -16,27 +17,27 @@ use Rattle.stream.specs.Tray.{zeros, isFrame, sound}
 use Rattle.stream.proofs.Parts.{part-is}
 
 module _ (bytes : List ℕ) (tray : Tray) where
-  pub unsound-held : 1103 < tray .held → false ≡ sound bytes tray
+  pub unsound-held : longestFrame < tray .held → false ≡ sound bytes tray
   unfolding sound
-  unsound-held h = rw (lt-leb (tray .held) 1103 h)
+  unsound-held h = rw (lt-leb (tray .held) longestFrame h)
 
-  pub unsound-noise : 65535 ≤ tray .noise → false ≡ sound bytes tray
+  pub unsound-noise : mostNoise ≤ tray .noise → false ≡ sound bytes tray
   unfolding sound
-  unsound-noise h = rw (le-ltb (tray .noise) 65535 h, and-false (leb (tray .held) 1103 && zeros (drop (tray .held) (take 1103 bytes))))
+  unsound-noise h = rw (le-ltb (tray .noise) mostNoise h, and-false (leb (tray .held) longestFrame && zeros (drop (tray .held) (take longestFrame bytes))))
 
-  module _ (r : Bool) (q : r ≡ zeros (take (1103 - tray .held) (drop (tray .held) bytes))) where
+  module _ (r : Bool) (q : r ≡ zeros (take (longestFrame - tray .held) (drop (tray .held) bytes))) where
     pub unsound-zeros : not r ≡ true → false ≡ sound bytes tray
     unfolding sound
     unsound-zeros e =
-        let z : zeros (drop (tray .held) (take 1103 bytes)) ≡ false = sym (ap zeros (part-is bytes (tray .held) 1103)) ∙ sym q ∙ not-true r e in
-        rw (z, and-false (leb (tray .held) 1103))
+        let z : zeros (drop (tray .held) (take longestFrame bytes)) ≡ false = sym (ap zeros (part-is bytes (tray .held) longestFrame)) ∙ sym q ∙ not-true r e in
+        rw (z, and-false (leb (tray .held) longestFrame))
 
-    module _ (e : not r ≡ false) (h : tray .held ≤ 1103) (n : tray .noise < 65535) where
+    module _ (e : not r ≡ false) (h : tray .held ≤ longestFrame) (n : tray .noise < mostNoise) where
       pub so-far : sound bytes tray ≡ (eqb (tray .shown) 0 || isFrame (tray .shown) (checked (take (tray .held) bytes)))
       unfolding sound
       so-far =
-          let z : zeros (drop (tray .held) (take 1103 bytes)) ≡ true = sym (ap zeros (part-is bytes (tray .held) 1103)) ∙ sym q ∙ not-false r e in
-          rw (z, le-leb (tray .held) 1103 h, lt-ltb (tray .noise) 65535 n)
+          let z : zeros (drop (tray .held) (take longestFrame bytes)) ≡ true = sym (ap zeros (part-is bytes (tray .held) longestFrame)) ∙ sym q ∙ not-false r e in
+          rw (z, le-leb (tray .held) longestFrame h, lt-ltb (tray .noise) mostNoise n)
 
       pub sound-none : tray .shown ≡ 0 → true ≡ sound bytes tray
       sound-none s = sym (so-far ∙ rw (eq-eqb (tray .shown) 0 s))

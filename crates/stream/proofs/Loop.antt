@@ -9,16 +9,16 @@ use lib.ListN.{length, take, drop, length-drop, drop-of-length-le}
 use lib.Seq.{drop-drop, length-take-le, length-slice, slice-empty}
 use lib.Dec.{ltb}
 use borrow.Author.Tests.{lt-ltb, le-ltb}
+use Rattle.sizes.specs.Sizes.{longestFrame, mostNoise}
 use Rattle.answer.specs.declared.Refusal.{Refusal}
 use Rattle.frame.specs.declared.Frame.{Frame}
 use Rattle.frame.specs.declared.Checked.{Checked}
 use Rattle.frame.specs.declared.Checked.the-variants.{Accepted, Short, Refused}
 use Rattle.frame.specs.Check.{checked}
-use Rattle.frame.specs.Fields.{longest}
 use Rattle.stream.specs.declared.Said.{Said}
 use Rattle.stream.specs.declared.Answer.{Answer}
 use Rattle.stream.specs.declared.Place.{Place}
-use Rattle.stream.specs.Scan.{Event, frame, noise, most}
+use Rattle.stream.specs.Scan.{Event, frame, noise}
 use Rattle.stream.specs.Tray.{accept, Outcome, refused, told, hungry, done, feedEnd, feed, freshTray, answerOf, bytesOf, laid}
 use Rattle.stream.specs.Kept.{Good, feed-kept}
 use Rattle.stream.specs.Sound.{laid-same, laid-again, length-laid, drop-laid}
@@ -30,7 +30,7 @@ use Rattle.stream.proofs.Turns.{length-live, fed-at}
 use Rattle.stream.proofs.Returns.{Closing, back, told-answer, starved-answer, accept-answer, told-bytes, starved-bytes, accept-bytes}
 
 -- the tray's bytes where nothing is refused depend on the bytes beyond 1,103 alone
-pub same-bytes : (b b′ : List ℕ) → drop longest b ≡ drop longest b′ → (o : Outcome) → Good o → bytesOf b o ≡ bytesOf b′ o
+pub same-bytes : (b b′ : List ℕ) → drop longestFrame b ≡ drop longestFrame b′ → (o : Outcome) → Good o → bytesOf b o ≡ bytesOf b′ o
 same-bytes b b′ q (refused r) g = absurd g
 same-bytes b b′ q (told e c n) g = laid-same b b′ (c .held) q
 same-bytes b b′ q (hungry c n) g = laid-same b b′ (c .held) q
@@ -46,7 +46,7 @@ good-plus u (done c) g = g
 pub record Far (bytes₀ : List ℕ) (place₀ : Place) (input bytes : List ℕ) (place : Place) : Type 0 where
   pub standing : Standing place bytes input
   pub same : length bytes ≡ length bytes₀
-  pub beyond : drop longest bytes ≡ drop longest bytes₀
+  pub beyond : drop longestFrame bytes ≡ drop longestFrame bytes₀
   pub on : fedFrom bytes place input ≡ fedFrom bytes₀ place₀ input
 
 pub far-first : (bytes : List ℕ) (place : Place) (input : List ℕ) → Standing place bytes input → Far bytes place input bytes place
@@ -108,10 +108,10 @@ module _ (bytes₀ : List ℕ) (place₀ : Place) (input bytes : List ℕ) (plac
       pub less-noised : toGo place′ input < toGo place input
       less-noised = rw s (omega arith)
 
-      pub far-noised : (place′ .noise ≡ 65535 → ⊥) → Far bytes₀ place₀ input bytes place′
+      pub far-noised : (place′ .noise ≡ mostNoise → ⊥) → Far bytes₀ place₀ input bytes place′
       unfolding fedFrom
       far-noised n =
-          let less : place .noise + 1 < 65535 = omega (arith, t .standing .within, ap (λ p. p .noise) s) in
+          let less : place .noise + 1 < mostNoise = omega (arith, t .standing .within, ap (λ p. p .noise) s) in
           rw s (record {
             standing = record { within = omega (arith, t .standing .within); padded = t .standing .padded };
             same = t .same;
@@ -124,24 +124,24 @@ module _ (bytes₀ : List ℕ) (place₀ : Place) (input bytes : List ℕ) (plac
                 ∙ t .on;
           })
 
-      module _ (n : place′ .noise ≡ 65535) where
-        full-told : fedFrom bytes₀ place₀ input ≡ told (noise 65535) (record { held = liveAt place′ bytes; shown = 0; noise = 0 }) (place′ .used)
+      module _ (n : place′ .noise ≡ mostNoise) where
+        full-told : fedFrom bytes₀ place₀ input ≡ told (noise mostNoise) (record { held = liveAt place′ bytes; shown = 0; noise = 0 }) (place′ .used)
         full-told =
-            let k : place .noise + 1 ≡ 65535 = sym (ap (λ p. p .noise) s) ∙ n in
+            let k : place .noise + 1 ≡ mostNoise = sym (ap (λ p. p .noise) s) ∙ n in
             let d = decide-full (liveAt place bytes) r (place .noise) (verdict ∙ e) k in
             rw (s, ← drop-drop 1 (place .start) (take (place .held) bytes))
             (comes-to _ (feed-event (drop (place .used) input) (liveAt place bytes) (place .noise) _ _ d) ∙ rw (add-zero (place .used)))
 
-        pub full-answer : (x : Answer) → x ≡ settled place′ (Said.Noise 65535) 0 0 → x ≡ answerOf freshTray (fedFrom bytes₀ place₀ input)
+        pub full-answer : (x : Answer) → x ≡ settled place′ (Said.Noise mostNoise) 0 0 → x ≡ answerOf freshTray (fedFrom bytes₀ place₀ input)
         full-answer x w =
             let l : length (liveAt place′ bytes) ≡ place′ .held - place′ .start = rw s (length-slice (place .start + 1) (place .held) bytes (omega (arith, t .standing .within))) in
-            told-answer (liveAt place′ bytes) place′ l (fedFrom bytes₀ place₀ input) (noise 65535) 0 0 full-told x w
+            told-answer (liveAt place′ bytes) place′ l (fedFrom bytes₀ place₀ input) (noise mostNoise) 0 0 full-told x w
 
         pub full-bytes : (now : List ℕ) → now ≡ shifted bytes (place .held) (place′ .start) → now ≡ bytesOf bytes₀ (fedFrom bytes₀ place₀ input)
         full-bytes now w =
             let c : Closing bytes₀ bytes place′ = rw s (record { start-in = omega arith; held-most = closing .held-most; room = closing .room; padded = closing .padded; beyond = closing .beyond }) in
             let w′ : now ≡ shifted bytes (place′ .held) (place′ .start) = w ∙ ap (λ k. shifted bytes k (place′ .start)) (sym (ap (λ p. p .held) s)) in
-            told-bytes bytes₀ (liveAt place′ bytes) now (back bytes₀ bytes place′ c now w′) (fedFrom bytes₀ place₀ input) (noise 65535) 0 0 (place′ .used) full-told
+            told-bytes bytes₀ (liveAt place′ bytes) now (back bytes₀ bytes place′ c now w′) (fedFrom bytes₀ place₀ input) (noise mostNoise) 0 0 (place′ .used) full-told
 
   -- ---- no byte is live in the tray any more
 

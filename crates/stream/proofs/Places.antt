@@ -10,7 +10,6 @@ use lib.Seq.{take-all, drop-drop, length-take-le}
 use lib.Dec.{ltb, eqb}
 use borrow.Author.Tests.{lt-ltb, le-ltb, eq-eqb, ne-eqb}
 use Rattle.frame.specs.declared.Frame.{Frame}
-use Rattle.frame.specs.Fields.{longest}
 use Rattle.frame.specs.Laws.{accepted-length}
 use Rattle.stream.specs.declared.Tray.{Tray}
 use Rattle.stream.specs.declared.Said.{Said}
@@ -50,9 +49,6 @@ module _ (place place′ : Place) (s : place′ ≡ noised place) where
 
   pub noised-old : place .start < place .held → place′ .start ≤ place .held
   noised-old h = rw s (omega arith)
-
-  pub noised-nearer : place .start < place .held → place′ .held - place′ .start < place .held - place .start
-  noised-nearer h = rw s (omega arith)
 
 -- ---- reach
 

@@ -8,8 +8,8 @@ use native.Mathlib.Omega.{arith}
 use lib.ListN.{length, take, drop}
 use lib.Dec.{ltb}
 use borrow.Author.Tests.{lt-ltb}
+use Rattle.sizes.specs.Sizes.{longestFrame}
 use Rattle.frame.specs.declared.Frame.{Frame}
-use Rattle.frame.specs.Fields.{longest}
 use Rattle.stream.specs.declared.Said.{Said}
 use Rattle.stream.specs.declared.Answer.{Answer}
 use Rattle.stream.specs.declared.Place.{Place}
@@ -55,10 +55,10 @@ module _ (bytes₀ live now : List ℕ) (s : now ≡ laid bytes₀ live) (o : Ou
 
 pub record Closing (bytes₀ bytes : List ℕ) (place : Place) : Type 0 where
   pub start-in : place .start ≤ place .held
-  pub held-most : place .held ≤ longest
-  pub room : longest ≤ length bytes
+  pub held-most : place .held ≤ longestFrame
+  pub room : longestFrame ≤ length bytes
   pub padded : bytes ≡ laid bytes (take (place .held) bytes)
-  pub beyond : drop longest bytes ≡ drop longest bytes₀
+  pub beyond : drop longestFrame bytes ≡ drop longestFrame bytes₀
 
 pub back : (bytes₀ bytes : List ℕ) (place : Place) → Closing bytes₀ bytes place → (now : List ℕ) → now ≡ shifted bytes (place .held) (place .start)
     → now ≡ laid bytes₀ (liveAt place bytes)

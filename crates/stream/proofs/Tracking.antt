@@ -6,12 +6,12 @@ use native.Mathlib.Nat.{add-zero, zero-add, lt-of-lt-of-le}
 use native.Mathlib.Omega.{arith}
 use lib.ListN.{length, take, drop, drop-of-length-le}
 use lib.Seq.{drop-drop, take-length, length-slice}
+use Rattle.sizes.specs.Sizes.{longestFrame, mostNoise}
 use Rattle.answer.specs.declared.Refusal.{Refusal}
 use Rattle.frame.specs.declared.Frame.{Frame}
 use Rattle.frame.specs.declared.Checked.{Checked}
 use Rattle.frame.specs.declared.Checked.the-variants.{Accepted, Short, Refused}
 use Rattle.frame.specs.Check.{checked}
-use Rattle.frame.specs.Fields.{longest}
 use Rattle.stream.specs.declared.Said.{Said}
 use Rattle.stream.specs.declared.Answer.{Answer}
 use Rattle.stream.specs.declared.Place.{Place}
@@ -30,7 +30,7 @@ use Rattle.stream.proofs.Returns.{told-answer, starved-answer, accept-a
 abbrev part : List ℕ → ℕ → ℕ → List ℕ
 part input start held = take (held - start) (drop start input)
 
-module _ (bytes input : List ℕ) (start held : ℕ) (empty : Empty bytes) (inside : held ≤ length input) (fits : held - start ≤ longest) where
+module _ (bytes input : List ℕ) (start held : ℕ) (empty : Empty bytes) (inside : held ≤ length input) (fits : held - start ≤ longestFrame) where
   part-length : length (part input start held) ≡ held - start
   part-length = ap length (part-is input start held) ∙ length-slice start held input inside
 
@@ -77,7 +77,7 @@ module _ (bytes₀ : List ℕ) (place₀ : Place) (input bytes : List ℕ) (plac
   comes-to o e = sym (a .on ∙ t .on) ∙ ap (plus (p .used)) e
 
   -- the bytes behind a place, with the first that are not live any more
-  behind : (start : ℕ) → p .held - start ≤ longest → (now : List ℕ) → now ≡ take (length (part input start (p .held))) (part input start (p .held)) ++ drop (length (part input start (p .held))) bytes
+  behind : (start : ℕ) → p .held - start ≤ longestFrame → (now : List ℕ) → now ≡ take (length (part input start (p .held))) (part input start (p .held)) ++ drop (length (part input start (p .held))) bytes
       → now ≡ laid bytes₀ (drop start (take (p .held) input))
   behind start f now e = landed bytes input start (p .held) (t .empty) inside f now e ∙ ap (λ b. laid b (drop start (take (p .held) input))) (t .same)
 
@@ -152,11 +152,11 @@ module _ (bytes₀ : List ℕ) (place₀ : Place) (input bytes : List ℕ) (plac
           nearer : (n h b : ℕ) → b < h → n + (h - (b + 1)) < n + (h - b)
           nearer n h b l = omega arith
 
-      pub track-next : (place′ .noise ≡ 65535 → ⊥) → Track bytes₀ place₀ input bytes place′
+      pub track-next : (place′ .noise ≡ mostNoise → ⊥) → Track bytes₀ place₀ input bytes place′
       unfolding fedFrom L
       track-next n =
           let h = some-live in
-          let less : p .noise + 1 < 65535 = omega (arith, a .seen .noise-less, ap (λ x. x .noise) s) in
+          let less : p .noise + 1 < mostNoise = omega (arith, a .seen .noise-less, ap (λ x. x .noise) s) in
           rw s (record {
             seen = record { start-in = omega arith; held-used = a .seen .held-used; held-most = omega (arith, a .seen .held-most); noise-less = less; used-in = a .seen .used-in };
             empty = t .empty;
@@ -169,7 +169,7 @@ module _ (bytes₀ : List ℕ) (place₀ : Place) (input bytes : List ℕ) (plac
                 ∙ a .on ∙ t .on;
           })
 
-      module _ (n : place′ .noise ≡ 65535) where
+      module _ (n : place′ .noise ≡ mostNoise) where
         full-live : List ℕ
         full-live = drop (place′ .start) (take (p .held) input)
 
@@ -177,19 +177,19 @@ module _ (bytes₀ : List ℕ) (place₀ : Place) (input bytes : List ℕ) (plac
         unfolding full-live
         full-length = length-slice (place′ .start) (p .held) input inside ∙ ap (λ k. k - place′ .start) (sym (ap (λ x. x .held) s))
 
-        full : fedFrom input place₀ input ≡ told (noise 65535) (record { held = full-live; shown = 0; noise = 0 }) (place′ .used)
+        full : fedFrom input place₀ input ≡ told (noise mostNoise) (record { held = full-live; shown = 0; noise = 0 }) (place′ .used)
         unfolding full-live L
         full =
-            let k : p .noise + 1 ≡ 65535 = sym (ap (λ x. x .noise) s) ∙ n in
+            let k : p .noise + 1 ≡ mostNoise = sym (ap (λ x. x .noise) s) ∙ n in
             let d = decide-full L r (p .noise) (verdict ∙ e) k in
             rw (s, ← drop-drop 1 (p .start) (take (p .held) input)) (comes-to _ (feed-event (drop (p .used) input) L (p .noise) _ _ d) ∙ rw (add-zero (p .used)))
 
-        pub most-answer : (x : Answer) → x ≡ settled place′ (Said.Noise 65535) 0 0 → x ≡ answerOf freshTray (fedFrom input place₀ input)
-        most-answer x w = told-answer full-live place′ full-length (fedFrom input place₀ input) (noise 65535) 0 0 full x w
+        pub most-answer : (x : Answer) → x ≡ settled place′ (Said.Noise mostNoise) 0 0 → x ≡ answerOf freshTray (fedFrom input place₀ input)
+        most-answer x w = told-answer full-live place′ full-length (fedFrom input place₀ input) (noise mostNoise) 0 0 full x w
 
         pub most-bytes : (now : List ℕ)
             → now ≡ take (length (take (p .held - place′ .start) (drop (place′ .start) input))) (take (p .held - place′ .start) (drop (place′ .start) input)) ++ drop (length (take (p .held - place′ .start) (drop (place′ .start) input))) bytes
             → now ≡ bytesOf bytes₀ (fedFrom input place₀ input)
         unfolding full-live
         most-bytes now w =
-            told-bytes bytes₀ full-live now (behind (place′ .start) (rw s (omega (arith, a .seen .held-most))) now w) (fedFrom input place₀ input) (noise 65535) 0 0 (place′ .used) full
+            told-bytes bytes₀ full-live now (behind (place′ .start) (rw s (omega (arith, a .seen .held-most))) now w) (fedFrom input place₀ input) (noise mostNoise) 0 0 (place′ .used) full

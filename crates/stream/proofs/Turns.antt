@@ -11,15 +11,15 @@ use mir.Val.{Fits}
 use mir.Syntax.{w64}
 use lib.Dec.{eqb}
 use borrow.Author.Tests.{eqb-true, eqb-false}
+use Rattle.sizes.specs.Sizes.{longestFrame, mostNoise}
 use Rattle.answer.specs.declared.Refusal.{Refusal}
 use Rattle.frame.specs.declared.Frame.{Frame}
 use Rattle.frame.specs.declared.Checked.{Checked}
 use Rattle.frame.specs.declared.Checked.the-variants.{Accepted, Short, Refused}
 use Rattle.frame.specs.Check.{checked}
-use Rattle.frame.specs.Fields.{longest}
 use Rattle.frame.specs.Laws.{short-wants}
 use Rattle.stream.specs.declared.Place.{Place}
-use Rattle.stream.specs.Scan.{Event, frame, noise, most}
+use Rattle.stream.specs.Scan.{Event, frame, noise}
 use Rattle.stream.specs.Tray.{Outcome, feed, laid}
 use Rattle.stream.specs.Sound.{take-laid, drop-laid, length-laid, laid-same, laid-again}
 use Rattle.stream.specs.Walk.{shifted, Within, Standing, plus, fedFrom, toGo, Onward, liveAt, Wanting}
@@ -33,43 +33,43 @@ drop-replicate zero n = rw sub-zero
 drop-replicate (suc c) zero = rw zero-sub
 drop-replicate (suc c) (suc n) = rw suc-sub-suc (drop-replicate c n)
 
-module _ (bytes : List ℕ) (held : ℕ) (most-held : held ≤ longest) (room : longest ≤ length bytes) (padded : bytes ≡ laid bytes (take held bytes)) where
+module _ (bytes : List ℕ) (held : ℕ) (most-held : held ≤ longestFrame) (room : longestFrame ≤ length bytes) (padded : bytes ≡ laid bytes (take held bytes)) where
   length-held : length (take held bytes) ≡ held
   length-held = length-take-le held bytes (omega arith)
 
-  after-held : drop held bytes ≡ replicate (longest - held) 0 ++ drop longest bytes
+  after-held : drop held bytes ≡ replicate (longestFrame - held) 0 ++ drop longestFrame bytes
   unfolding laid
   after-held =
-      ap (drop held) padded ∙ drop-at (take held bytes) _ held length-held ∙ ap (λ n. replicate (longest - n) 0 ++ drop longest bytes) length-held
+      ap (drop held) padded ∙ drop-at (take held bytes) _ held length-held ∙ ap (λ n. replicate (longestFrame - n) 0 ++ drop longestFrame bytes) length-held
 
   -- the live bytes alone, moved to the front
   pub shifted-laid : (start : ℕ) → start ≤ held → shifted bytes held start ≡ laid bytes (drop start (take held bytes))
   unfolding shifted laid
   shifted-laid start h =
       let l : length (drop start (take held bytes)) ≡ held - start = length-part bytes start held (omega arith) in
-      let n : start + (longest - held) ≡ longest - length (drop start (take held bytes)) = omega arith in
+      let n : start + (longestFrame - held) ≡ longestFrame - length (drop start (take held bytes)) = omega arith in
       ap (λ t. drop start (take held bytes) ++ t)
-      (ap (λ t. replicate start 0 ++ t) after-held ∙ sym (append-assoc (replicate start 0) (replicate (longest - held) 0) (drop longest bytes))
-      ∙ ap (λ t. t ++ drop longest bytes) (replicate-append-replicate start (longest - held) 0 ∙ ap (λ k. replicate k 0) n))
+      (ap (λ t. replicate start 0 ++ t) after-held ∙ sym (append-assoc (replicate start 0) (replicate (longestFrame - held) 0) (drop longestFrame bytes))
+      ∙ ap (λ t. t ++ drop longestFrame bytes) (replicate-append-replicate start (longestFrame - held) 0 ∙ ap (λ k. replicate k 0) n))
 
   -- more bytes behind those held
-  pub copied-laid : (part : List ℕ) → held + length part ≤ longest
+  pub copied-laid : (part : List ℕ) → held + length part ≤ longestFrame
       → take held bytes ++ (part ++ drop (held + length part) bytes) ≡ laid bytes (take held bytes ++ part)
   unfolding laid
   copied-laid part h =
       let l : length (take held bytes ++ part) ≡ held + length part = length-append (take held bytes) part ∙ ap (λ k. k + length part) length-held in
-      let n : longest - held - length part ≡ longest - length (take held bytes ++ part) = omega arith in
-      let d : drop (held + length part) bytes ≡ replicate (longest - length (take held bytes ++ part)) 0 ++ drop longest bytes =
+      let n : longestFrame - held - length part ≡ longestFrame - length (take held bytes ++ part) = omega arith in
+      let d : drop (held + length part) bytes ≡ replicate (longestFrame - length (take held bytes ++ part)) 0 ++ drop longestFrame bytes =
       sym (drop-drop (length part) held bytes) ∙ ap (drop (length part)) after-held
-      ∙ drop-append-le (length part) (replicate (longest - held) 0) (drop longest bytes) (rw length-replicate (omega arith))
-      ∙ ap (λ t. t ++ drop longest bytes) (drop-replicate (length part) (longest - held) ∙ ap (λ k. replicate k 0) n) in
+      ∙ drop-append-le (length part) (replicate (longestFrame - held) 0) (drop longestFrame bytes) (rw length-replicate (omega arith))
+      ∙ ap (λ t. t ++ drop longestFrame bytes) (drop-replicate (length part) (longestFrame - held) ∙ ap (λ k. replicate k 0) n) in
       ap (λ t. take held bytes ++ (part ++ t)) d ∙ sym (append-assoc (take held bytes) part _)
 
 -- a place in a tray so laid
-pub stand-laid : (bytes held input : List ℕ) (place : Place) → length held ≡ place .held → place .start ≤ place .held → place .held ≤ longest → longest ≤ length bytes
-    → place .noise < most → place .used ≤ length input → Standing place (laid bytes held) input
+pub stand-laid : (bytes held input : List ℕ) (place : Place) → length held ≡ place .held → place .start ≤ place .held → place .held ≤ longestFrame → longestFrame ≤ length bytes
+    → place .noise < mostNoise → place .used ≤ length input → Standing place (laid bytes held) input
 stand-laid bytes held input place l s h r n u =
-    let f : length held ≤ longest = omega arith in
+    let f : length held ≤ longestFrame = omega arith in
     record {
       within = record { start-in = s; held-most = h; room = omega (arith, length-laid bytes held f r); noise-less = n; used-in = u };
       padded = sym (laid-again bytes held f (take (place .held) (laid bytes held)) ∙ ap (laid bytes) (rw (← l) (take-laid bytes held f)));
@@ -99,7 +99,7 @@ module _ (place : Place) (bytes input : List ℕ) (st : Standing place bytes inp
   length-live = length-part bytes (place .start) (place .held) (omega (arith, st .within))
 
   module _ (wanted : ℕ) (w : Wanting place bytes input wanted) where
-    wants : (place .held - place .start < wanted) × (wanted ≤ 1103)
+    wants : (place .held - place .start < wanted) × (wanted ≤ longestFrame)
     wants = let s = short-wants (liveAt place bytes) wanted (w .short) in (omega (arith, s .0, length-live), s .1)
 
     pub wanted-more : place .held - place .start ≤ wanted
@@ -109,12 +109,12 @@ module _ (place : Place) (bytes input : List ℕ) (st : Standing place bytes inp
     wanted-fits = omega (arith, wants .1, st .within)
 
     -- the live bytes move to the front
-    pub onward-shift : (now : List ℕ) → now ≡ shifted bytes (place .held) (place .start) → 1103 < place .start + wanted
+    pub onward-shift : (now : List ℕ) → now ≡ shifted bytes (place .held) (place .start) → longestFrame < place .start + wanted
         → Onward place bytes input (record { start = 0; held = place .held - place .start; noise = place .noise; used = place .used }) now
     onward-shift now e h =
         let L = liveAt place bytes in
         let l : length L ≡ place .held - place .start = length-live in
-        let f : length L ≤ longest = omega (arith, st .within) in
+        let f : length L ≤ longestFrame = omega (arith, st .within) in
         let q : now ≡ laid bytes L = e ∙ shifted-laid bytes (place .held) (st .within .held-most) (st .within .room) (st .padded) (place .start) (st .within .start-in) in
         let t : take (place .held - place .start) now ≡ L = rw (q, ← l) (take-laid bytes L f) in
         record {
@@ -124,7 +124,7 @@ module _ (place : Place) (bytes input : List ℕ) (st : Standing place bytes inp
           nearer = omega (arith, st .within, wants);
         }
 
-    module _ (count : ℕ) (h : place .start + wanted ≤ 1103) (q : count ≡ min (wanted - (place .held - place .start)) (length input - place .used)) where
+    module _ (count : ℕ) (h : place .start + wanted ≤ longestFrame) (q : count ≡ min (wanted - (place .held - place .start)) (length input - place .used)) where
       count-fits : (1 ≤ count) × (count ≤ wanted - (place .held - place .start)) × (count ≤ length input - place .used)
       count-fits =
           let a = min-some (wanted - (place .held - place .start)) (length input - place .used) (omega (arith, wants)) (omega (arith, w .some-left)) in
@@ -146,14 +146,14 @@ module _ (place : Place) (bytes input : List ℕ) (st : Standing place bytes inp
           let lp : length part ≡ count = ap length p ∙ length-take-le count (drop (place .used) input) (omega (arith, f .2)) in
           let lx : length X ≡ place .held = length-take-le (place .held) bytes (omega (arith, st .within)) in
           let lxp : length (X ++ part) ≡ place .held + count = length-append X part ∙ omega arith in
-          let m : place .held + count ≤ longest = omega (arith, f .1, wants, st .within) in
+          let m : place .held + count ≤ longestFrame = omega (arith, f .1, wants, st .within) in
           let z : place .held + (place .held + count - place .held) ≡ place .held + length part = omega arith in
           let d : drop (place .held + count - place .held) (drop (place .held) bytes) ≡ drop (place .held + length part) bytes =
           drop-drop (place .held + count - place .held) (place .held) bytes ∙ ap (λ k. drop k bytes) z in
           let now = take (place .held) bytes ++ (part ++ drop (place .held + count - place .held) (drop (place .held) bytes)) in
           let s : now ≡ laid bytes (X ++ part) =
           ap (λ t. X ++ (part ++ t)) d ∙ copied-laid bytes (place .held) (st .within .held-most) (st .within .room) (st .padded) part (omega arith) in
-          let g : length (X ++ part) ≤ longest = omega arith in
+          let g : length (X ++ part) ≤ longestFrame = omega arith in
           let t : drop (place .start) (take (place .held + count) now) ≡ L ++ part =
           ap (drop (place .start)) (rw (s, ← lxp) (take-laid bytes (X ++ part) g)) ∙ drop-append-le (place .start) X part (omega (arith, st .within)) in
           record {

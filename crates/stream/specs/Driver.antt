@@ -4,7 +4,7 @@ use mathlib.Core.List.{List, [], _∷_}
 use mathlib.Core.Bool.{true}
 use Prim.Native.Nat.{ℕ, _≤_}
 use lib.ListN.{length, take, drop}
-use Rattle.frame.specs.Fields.{longest}
+use Rattle.sizes.specs.Sizes.{longestFrame}
 use Rattle.stream.specs.declared.Tray.{Tray}
 use Rattle.stream.specs.declared.Said.{Said}
 use Rattle.stream.specs.Scan.{Event, frame, noise}
@@ -12,13 +12,13 @@ use Rattle.stream.specs.Tray.{zeros, sound, freshTray, callAnswer, callB
 
 -- a tray that a call takes: its bytes have room, and it is sound
 pub record Ready (bytes : List ℕ) (tray : Tray) : Type 0 where
-  pub room : longest ≤ length bytes
+  pub room : longestFrame ≤ length bytes
   pub is-sound : sound bytes tray ≡ true
 
 -- the bytes that a fresh tray is lent: room for the longest frame, zeros so far
 pub record Clear (bytes : List ℕ) : Type 0 where
-  pub room : longest ≤ length bytes
-  pub are-zeros : zeros (take longest bytes) ≡ true
+  pub room : longestFrame ≤ length bytes
+  pub are-zeros : zeros (take longestFrame bytes) ≡ true
 
 -- the event that is told by what a call says, with the tray's bytes afterwards: a frame lies first among them
 abbrev pub Tells : Said → List ℕ → Event → Type 0

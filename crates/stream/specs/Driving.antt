@@ -8,11 +8,11 @@ use native.Mathlib.Omega.{arith}
 use lib.ListN.{length, take, drop, replicate, length-replicate}
 use lib.Seq.{length-take-le}
 use lib.Dec.{ltb}
+use Rattle.sizes.specs.Sizes.{longestFrame}
 use Rattle.answer.specs.declared.Refusal.the-variants.{Room, State}
-use Rattle.frame.specs.Fields.{longest}
 use Rattle.stream.specs.declared.Tray.{Tray}
 use Rattle.stream.specs.declared.Said.{Said}
-use Rattle.stream.specs.Scan.{Event, most, scanFrom, scan}
+use Rattle.stream.specs.Scan.{Event, scanFrom, scan}
 use Rattle.stream.specs.Tray.{zeros, sound, contents, Decision, event, none, decide, Outcome, refused, told, hungry, done, taken, feedBy, feedEnd, feed, stop, called, finished}
 use Rattle.stream.specs.Tray.{freshTray, answerOf, laid, callAnswer, callBytes, finishAnswer, finishBytes}
 use Rattle.stream.specs.Driver.{Ready, Clear, Tells, Caller, waits, Feeds, Closes}
@@ -30,7 +30,7 @@ call-ready {bytes} {tray} r input = ready-after bytes (r .room) tray (called byt
 pub finish-ready : {bytes : List ℕ} {tray : Tray} → Ready bytes tray → Ready (finishBytes bytes tray) (finishAnswer bytes tray .tray)
 finish-ready {bytes} {tray} r = ready-after bytes (r .room) tray (finished bytes tray) (end-kept bytes tray r)
 
-pub held-most : {bytes : List ℕ} {tray : Tray} → Ready bytes tray → tray .held ≤ longest
+pub held-most : {bytes : List ℕ} {tray : Tray} → Ready bytes tray → tray .held ≤ longestFrame
 held-most {bytes} {tray} r = sound-parts bytes tray (r .is-sound) .held-most
 
 pub fresh-ready : {bytes : List ℕ} → Clear bytes → Ready bytes freshTray
@@ -78,7 +78,7 @@ feed-used (x ∷ p) h k = go (λ h′ k′. feed-used p h′ k′) (decide h k)
 
 call-used-by : (bytes : List ℕ) (tray : Tray) (input : List ℕ) → Used input (called bytes tray input)
 unfolding called
-call-used-by bytes tray input = go (ltb (length bytes) longest) (not (sound bytes tray))
+call-used-by bytes tray input = go (ltb (length bytes) longestFrame) (not (sound bytes tray))
   where
     go : (a b : Bool) → Used input (stop a Room (stop b State (feed input (liveOf bytes tray) (tray .noise))))
     go true b = tt
@@ -105,7 +105,7 @@ hungry-used bytes tray input q = go (called bytes tray input) (call-used-by byte
 
 -- ---- the lent bytes beyond 1,103 stay
 
-feeds-beyond : {c : Caller} {b b₁ : List ℕ} {t t₁ : Tray} {ps : List (List ℕ)} {es : List Event} → Feeds c b t ps es b₁ t₁ → Ready b t → drop longest b₁ ≡ drop longest b
+feeds-beyond : {c : Caller} {b b₁ : List ℕ} {t t₁ : Tray} {ps : List (List ℕ)} {es : List Event} → Feeds c b t ps es b₁ t₁ → Ready b t → drop longestFrame b₁ ≡ drop longestFrame b
 feeds-beyond Feeds.no-more r = refl
 feeds-beyond (Feeds.an-event {b} {t = t} {p = p} k f) r = feeds-beyond f (call-ready r p) ∙ beyond-after b (called b t p) (call-kept b t p r)
 feeds-beyond (Feeds.all-used {b} {t = t} {p = p} k f) r = feeds-beyond f (call-ready r p) ∙ beyond-after b (called b t p) (call-kept b t p r)
@@ -268,9 +268,9 @@ prefix {b = b} {t = t} {es = es} c f f′ more q =
     (d .0, ap (λ a. a .0) ((rw q at (sym (feeds-ahead c f′))) ∙ a ∙ tells-ahead es d))
 
 -- zeros alone are clear
-pub zeros-clear : (n : ℕ) → longest ≤ n → Clear (replicate n 0)
+pub zeros-clear : (n : ℕ) → longestFrame ≤ n → Clear (replicate n 0)
 zeros-clear n h =
-    record { room = rw length-replicate h; are-zeros = ap zeros (take-replicate longest n h) ∙ zeros-replicate longest }
+    record { room = rw length-replicate h; are-zeros = ap zeros (take-replicate longestFrame n h) ∙ zeros-replicate longestFrame }
   where
     take-replicate : (k n : ℕ) → k ≤ n → take {A = ℕ} k (replicate n 0) ≡ replicate k 0
     take-replicate zero n h = refl

@@ -5,13 +5,13 @@ use Prim.Native.Nat.{ℕ, zero, suc, pred, _+_, _≤_, _<_}
 use native.Mathlib.Omega.{arith}
 use lib.ListN.{length, take, drop, length-append, length-drop}
 use lib.Seq.{take-append-le, drop-append-le}
+use Rattle.sizes.specs.Sizes.{mostNoise}
 use Rattle.answer.specs.declared.Refusal.{Refusal}
 use Rattle.frame.specs.declared.Frame.{Frame}
 use Rattle.frame.specs.declared.Checked.{Checked}
 use Rattle.frame.specs.declared.Checked.the-variants.{Accepted, Short, Refused}
 use Rattle.frame.specs.Check.{checked}
-use Rattle.frame.specs.Fields.{longest}
-use Rattle.stream.specs.Scan.{Event, frame, noise, most, Count, full, some, oneMore, tell, pass, scanBy, scanFrom, scan}
+use Rattle.stream.specs.Scan.{Event, frame, noise, Count, full, some, oneMore, tell, pass, scanBy, scanFrom, scan}
 use Rattle.stream.specs.Tray.{Contents, live, Decision, event, none, accept, next, decideBy, decide}
 use Rattle.stream.specs.Tray.{Outcome, refused, told, hungry, done, taken, feedBy, feedEnd, feed, closeBy, close, closeEnd}
 use Rattle.frame.specs.Laws.{accepted-length, keeps-accepted, keeps-refused}
@@ -25,7 +25,7 @@ module _ {X : Type 0} (cons : Event → X → X) where
   tellTo (suc n) x = cons (noise (suc n)) x
 
   abbrev pub passTo : Count → (ℕ → X) → X
-  passTo full rest = cons (noise most) (rest 0)
+  passTo full rest = cons (noise mostNoise) (rest 0)
   passTo (some n) rest = rest n
 
   abbrev pub tells : List Event → X → X

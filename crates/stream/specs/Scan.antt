@@ -4,6 +4,7 @@ use mathlib.Core.Bool.{Bool, true, false}
 use Prim.Native.Nat.{ℕ, zero, suc, pred}
 use lib.ListN.{take}
 use lib.Dec.{ltb}
+use Rattle.sizes.specs.Sizes.{mostNoise}
 use Rattle.frame.specs.declared.Frame.{Frame}
 use Rattle.frame.specs.declared.Checked.{Checked}
 use Rattle.frame.specs.declared.Checked.the-variants.{Accepted, Short, Refused}
@@ -13,10 +14,6 @@ use Rattle.frame.specs.Check.{checked}
 pub data Event : Type 0 where
   frame : Frame → List ℕ → Event
   noise : ℕ → Event
-
--- "noise is told .. at 65,535"
-abbrev pub most : ℕ
-most = 65535
 
 -- with one more byte of noise the count is full, or it is so many
 pub data Count : Type 0 where
@@ -28,7 +25,7 @@ pickCount true a b = a
 pickCount false a b = b
 
 unfoldable pub oneMore : ℕ → Count
-oneMore count = pickCount (ltb (suc count) most) (some (suc count)) full
+oneMore count = pickCount (ltb (suc count) mostNoise) (some (suc count)) full
 
 -- "a zero count is never told"
 abbrev pub tell : ℕ → List Event → List Event
@@ -37,7 +34,7 @@ tell (suc n) events = noise (suc n) ∷ events
 
 -- "told .. at 65,535 ..; then counted from zero"
 abbrev pub pass : Count → (ℕ → List Event) → List Event
-pass full rest = noise most ∷ rest 0
+pass full rest = noise mostNoise ∷ rest 0
 pass (some n) rest = rest n
 
 -- what lies first in `bytes`: a frame, told just after the noise before it and passed over; or one byte of noise. `Short` is SHORT: nothing

@@ -9,14 +9,14 @@ use lib.ListN.{length, take, drop, replicate, length-append, length-drop, length
 use lib.Seq.{take-append-seam, drop-append-seam, take-at, drop-at, take-take, length-take-le}
 use lib.Dec.{ltb, leb, eqb}
 use borrow.Author.Tests.{lt-ltb, le-leb, eq-eqb, ltb-true, leb-true, eqb-true, eqb-false, le-ltb}
+use Rattle.sizes.specs.Sizes.{longestFrame, mostNoise}
 use Rattle.answer.specs.declared.Refusal.{Refusal}
 use Rattle.frame.specs.declared.Frame.{Frame}
 use Rattle.frame.specs.declared.Checked.{Checked}
 use Rattle.frame.specs.declared.Checked.the-variants.{Accepted, Short, Refused}
 use Rattle.frame.specs.Check.{checked}
-use Rattle.frame.specs.Fields.{longest}
 use Rattle.stream.specs.declared.Tray.{Tray}
-use Rattle.stream.specs.Scan.{Event, frame, noise, most}
+use Rattle.stream.specs.Scan.{Event, frame, noise}
 use Rattle.stream.specs.Tray.{zeros, isFrame, sound, Contents, contents, live, Outcome, refused, told, hungry, done, stop, feed, close, closeEnd, called, finished, freshTray, trayOf, laid}
 use Rattle.stream.specs.Driver.{Ready, Clear}
 use Rattle.stream.specs.Machine.{empty}
@@ -44,9 +44,9 @@ zeros-are (x ∷ xs) h =
 -- ---- soundness in its parts
 
 pub record Sound (bytes : List ℕ) (tray : Tray) : Type 0 where
-  pub held-most : tray .held ≤ longest
-  pub zeros-after : zeros (drop (tray .held) (take longest bytes)) ≡ true
-  pub noise-less : tray .noise < most
+  pub held-most : tray .held ≤ longestFrame
+  pub zeros-after : zeros (drop (tray .held) (take longestFrame bytes)) ≡ true
+  pub noise-less : tray .noise < mostNoise
   pub shown-fits : (tray .shown ≡ 0) ⊎ ((f : Frame) × (checked (take (tray .held) bytes) ≡ Accepted f) × (f .length ≡ tray .shown))
 
 either : (a b : Bool) → (a || b) ≡ true → (a ≡ true) ⊎ (b ≡ true)
@@ -79,62 +79,62 @@ sound-whole bytes tray s =
     (λ e. rw (eq-eqb (tray .shown) 0 e))
     (λ w. rw (w .1, eq-eqb (w .0 .length) (tray .shown) (w .2)) (or-true (eqb (tray .shown) 0)))
     (s .shown-fits) in
-    rw (le-leb (tray .held) longest (s .held-most), s .zeros-after, lt-ltb (tray .noise) most (s .noise-less), shown)
+    rw (le-leb (tray .held) longestFrame (s .held-most), s .zeros-after, lt-ltb (tray .noise) mostNoise (s .noise-less), shown)
 
 -- ---- what is laid out
 
-module _ (bytes held : List ℕ) (fits : length held ≤ longest) where
+module _ (bytes held : List ℕ) (fits : length held ≤ longestFrame) where
   front : List ℕ
-  front = held ++ replicate (longest - length held) 0
+  front = held ++ replicate (longestFrame - length held) 0
 
-  length-front : length front ≡ longest
+  length-front : length front ≡ longestFrame
   unfolding front
   length-front = simp (length-append, length-replicate) (omega arith)
 
-  laid-is : laid bytes held ≡ front ++ drop longest bytes
+  laid-is : laid bytes held ≡ front ++ drop longestFrame bytes
   unfolding laid front
-  laid-is = sym (append-assoc held (replicate (longest - length held) 0) (drop longest bytes))
+  laid-is = sym (append-assoc held (replicate (longestFrame - length held) 0) (drop longestFrame bytes))
 
   pub take-laid : take (length held) (laid bytes held) ≡ held
   unfolding laid
   take-laid = take-append-seam held _
 
-  pub drop-laid : drop longest (laid bytes held) ≡ drop longest bytes
-  drop-laid = rw laid-is (drop-at front (drop longest bytes) longest length-front)
+  pub drop-laid : drop longestFrame (laid bytes held) ≡ drop longestFrame bytes
+  drop-laid = rw laid-is (drop-at front (drop longestFrame bytes) longestFrame length-front)
 
-  pub length-laid : longest ≤ length bytes → length (laid bytes held) ≡ length bytes
+  pub length-laid : longestFrame ≤ length bytes → length (laid bytes held) ≡ length bytes
   length-laid h = rw laid-is (simp (length-append, length-drop, length-front) (omega arith))
 
-  pub zeros-laid : zeros (drop (length held) (take longest (laid bytes held))) ≡ true
+  pub zeros-laid : zeros (drop (length held) (take longestFrame (laid bytes held))) ≡ true
   unfolding front
-  zeros-laid = rw (laid-is, take-at front (drop longest bytes) longest length-front, drop-append-seam held (replicate (longest - length held) 0)) (zeros-replicate (longest - length held))
+  zeros-laid = rw (laid-is, take-at front (drop longestFrame bytes) longestFrame length-front, drop-append-seam held (replicate (longestFrame - length held) 0)) (zeros-replicate (longestFrame - length held))
 
   pub laid-again : (held′ : List ℕ) → laid (laid bytes held) held′ ≡ laid bytes held′
   unfolding laid
-  laid-again held′ = ap (λ l. held′ ++ (replicate (longest - length held′) 0 ++ l)) drop-laid
+  laid-again held′ = ap (λ l. held′ ++ (replicate (longestFrame - length held′) 0 ++ l)) drop-laid
 
-pub contents-laid : (bytes : List ℕ) (c : Contents) → length (c .held) ≤ longest → contents (laid bytes (c .held)) (trayOf c) ≡ c
+pub contents-laid : (bytes : List ℕ) (c : Contents) → length (c .held) ≤ longestFrame → contents (laid bytes (c .held)) (trayOf c) ≡ c
 contents-laid bytes c h = λ i. record { held = take-laid bytes (c .held) h i; shown = c .shown; noise = c .noise }
 
 -- a clear tray's bytes are those of an empty tray
 pub laid-clear : (bytes : List ℕ) → Clear bytes → laid bytes [] ≡ bytes
 unfolding laid
 laid-clear bytes c =
-    let z = zeros-are (take longest bytes) (c .are-zeros) in
-    let l : length (take longest bytes) ≡ longest = length-take-le longest bytes (c .room) in
-    ap (λ l. l ++ drop longest bytes) (sym (z ∙ ap (λ n. replicate n 0) l)) ∙ take-append-drop longest bytes
+    let z = zeros-are (take longestFrame bytes) (c .are-zeros) in
+    let l : length (take longestFrame bytes) ≡ longestFrame = length-take-le longestFrame bytes (c .room) in
+    ap (λ l. l ++ drop longestFrame bytes) (sym (z ∙ ap (λ n. replicate n 0) l)) ∙ take-append-drop longestFrame bytes
 
 -- what is laid depends on the bytes beyond 1,103 alone
-pub laid-same : (b b′ held : List ℕ) → drop longest b ≡ drop longest b′ → laid b held ≡ laid b′ held
+pub laid-same : (b b′ held : List ℕ) → drop longestFrame b ≡ drop longestFrame b′ → laid b held ≡ laid b′ held
 unfolding laid
-laid-same b b′ held q = ap (λ l. held ++ (replicate (longest - length held) 0 ++ l)) q
+laid-same b b′ held q = ap (λ l. held ++ (replicate (longestFrame - length held) 0 ++ l)) q
 
 -- a sound tray's bytes are those held, zeros, and what is beyond
-pub laid-self : (b : List ℕ) (held : ℕ) → longest ≤ length b → held ≤ longest → zeros (drop held (take longest b)) ≡ true → laid b (take held b) ≡ b
+pub laid-self : (b : List ℕ) (held : ℕ) → longestFrame ≤ length b → held ≤ longestFrame → zeros (drop held (take longestFrame b)) ≡ true → laid b (take held b) ≡ b
 unfolding laid
-laid-self b held room most z =
+laid-self b held room fits z =
     let l : length (take held b) ≡ held = length-take-le held b (omega arith) in
-    let m : length (take longest b) ≡ longest = length-take-le longest b room in
-    let q : length (drop held (take longest b)) ≡ longest - length (take held b) = length-drop held (take longest b) ∙ rw (l, m) in
-    let r : replicate (longest - length (take held b)) 0 ≡ drop held (take longest b) = sym (zeros-are _ z ∙ ap (λ n. replicate n 0) q) in
-    rw (r, ← append-assoc, ← take-take held longest b most, take-append-drop held (take longest b)) (take-append-drop longest b)
+    let m : length (take longestFrame b) ≡ longestFrame = length-take-le longestFrame b room in
+    let q : length (drop held (take longestFrame b)) ≡ longestFrame - length (take held b) = length-drop held (take longestFrame b) ∙ rw (l, m) in
+    let r : replicate (longestFrame - length (take held b)) 0 ≡ drop held (take longestFrame b) = sym (zeros-are _ z ∙ ap (λ n. replicate n 0) q) in
+    rw (r, ← append-assoc, ← take-take held longestFrame b fits, take-append-drop held (take longestFrame b)) (take-append-drop longestFrame b)

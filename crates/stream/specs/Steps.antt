@@ -8,14 +8,14 @@ use native.Mathlib.Omega.{arith}
 use lib.ListN.{length, take, drop, length-drop, replicate}
 use lib.Seq.{take-append-le, length-take-le}
 use borrow.Author.Tests.{le-ltb}
+use Rattle.sizes.specs.Sizes.{longestFrame, mostNoise}
 use Rattle.answer.specs.declared.Refusal.{Refusal}
 use Rattle.frame.specs.declared.Frame.{Frame}
 use Rattle.frame.specs.declared.Checked.the-variants.{Accepted}
 use Rattle.frame.specs.Check.{checked}
-use Rattle.frame.specs.Fields.{longest}
 use Rattle.stream.specs.declared.Tray.{Tray}
 use Rattle.stream.specs.declared.Said.{Said}
-use Rattle.stream.specs.Scan.{Event, frame, noise, most, scanFrom}
+use Rattle.stream.specs.Scan.{Event, frame, noise, scanFrom}
 use Rattle.stream.specs.Tray.{Contents, contents, live, Outcome, refused, told, hungry, done, feed, close, closeEnd, called, finished, freshTray, trayOf, saidOf, answerOf, laid, bytesOf}
 use Rattle.stream.specs.Driver.{Ready, Tells}
 use Rattle.frame.specs.Laws.{accepted-length}
@@ -28,13 +28,13 @@ liveOf b t = live (contents b t)
 
 pub called-is : (b : List ℕ) (t : Tray) (p : List ℕ) → Ready b t → called b t p ≡ feed p (liveOf b t) (t .noise)
 unfolding called
-called-is b t p r = rw (le-ltb (length b) longest (r .room), r .is-sound)
+called-is b t p r = rw (le-ltb (length b) longestFrame (r .room), r .is-sound)
 
 pub finished-is : (b : List ℕ) (t : Tray) → Ready b t → finished b t ≡ closeEnd (close (liveOf b t) (t .noise))
 unfolding finished
-finished-is b t r = rw (le-ltb (length b) longest (r .room), r .is-sound)
+finished-is b t r = rw (le-ltb (length b) longestFrame (r .room), r .is-sound)
 
-live-most : (b : List ℕ) (t : Tray) → Ready b t → length (liveOf b t) ≤ longest
+live-most : (b : List ℕ) (t : Tray) → Ready b t → length (liveOf b t) ≤ longestFrame
 live-most b t r =
     let s = sound-parts b t (r .is-sound) in
     let l : length (take (t .held) b) ≡ t .held = length-take-le (t .held) b (omega (arith, s .held-most, r .room)) in
@@ -57,12 +57,12 @@ end-ended b t r = subst (λ o. Ended (scanFrom (liveOf b t) 0 (t .noise)) o) (sy
 
 -- ---- a tray that is ready is ready afterwards
 
-kept-fits : (e : Event) (c : Contents) → Kept e c → length (c .held) ≤ longest
+kept-fits : (e : Event) (c : Contents) → Kept e c → length (c .held) ≤ longestFrame
 kept-fits (frame f bytes) c g = g .4
 kept-fits (noise n) c g = g .2
 
-module _ (b : List ℕ) (room : longest ≤ length b) where
-  laid-ready : (c : Contents) → length (c .held) ≤ longest → c .noise < most
+module _ (b : List ℕ) (room : longestFrame ≤ length b) where
+  laid-ready : (c : Contents) → length (c .held) ≤ longestFrame → c .noise < mostNoise
       → ((c .shown ≡ 0) ⊎ ((f : Frame) × (checked (c .held) ≡ Accepted f) × (f .length ≡ c .shown))) → Ready (laid b (c .held)) (trayOf c)
   laid-ready c fits less shown = record {
     room = omega (arith, length-laid b (c .held) fits room);
@@ -148,7 +148,7 @@ end-says b t g (hungry c u) f = absurd f
 end-says b t g (done c) f = inr refl
 
 -- the bytes beyond 1,103 stay
-pub beyond-after : (b : List ℕ) (o : Outcome) → Good o → drop longest (bytesOf b o) ≡ drop longest b
+pub beyond-after : (b : List ℕ) (o : Outcome) → Good o → drop longestFrame (bytesOf b o) ≡ drop longestFrame b
 beyond-after b (refused r) g = absurd g
 beyond-after b (told e c u) g = drop-laid b (c .held) (kept-fits e c g)
 beyond-after b (hungry c u) g = drop-laid b (c .held) (omega (arith, g .has-room))

@@ -3,7 +3,7 @@ use mathlib.Core.Path.{_≡_}
 use mathlib.Core.List.{List, [], _∷_, _++_, flatten}
 use Prim.Native.Nat.{ℕ, _≤_}
 use lib.ListN.{length, replicate}
-use Rattle.frame.specs.Fields.{longest}
+use Rattle.sizes.specs.Sizes.{longestFrame}
 use Rattle.stream.specs.declared.Tray.{Tray}
 use Rattle.stream.specs.declared.Said.{Said}
 use Rattle.stream.specs.Scan.{Event, scan}
@@ -47,14 +47,14 @@ finish-sound r = Driving.finish-ready r
 pub fresh-sound : {bytes : List ℕ} → Clear bytes → Ready bytes freshTray
 fresh-sound c = Driving.fresh-ready c
 
-pub zeros-clear : (n : ℕ) → longest ≤ n → Clear (replicate n 0)
+pub zeros-clear : (n : ℕ) → longestFrame ≤ n → Clear (replicate n 0)
 zeros-clear n h = Driving.zeros-clear n h
 
 -- .. and never holds more than 1,103 bytes.
-pub call-held : {bytes : List ℕ} {tray : Tray} → Ready bytes tray → (input : List ℕ) → callAnswer bytes tray input .tray .held ≤ longest
+pub call-held : {bytes : List ℕ} {tray : Tray} → Ready bytes tray → (input : List ℕ) → callAnswer bytes tray input .tray .held ≤ longestFrame
 call-held r input = Driving.held-most (Driving.call-ready r input)
 
-pub finish-held : {bytes : List ℕ} {tray : Tray} → Ready bytes tray → finishAnswer bytes tray .tray .held ≤ longest
+pub finish-held : {bytes : List ℕ} {tray : Tray} → Ready bytes tray → finishAnswer bytes tray .tray .held ≤ longestFrame
 finish-held r = Driving.held-most (Driving.finish-ready r)
 
 -- No more input is used than there is, and a call that says hungry has used all of it.

@@ -4,6 +4,7 @@ use mathlib.Core.Bool.{Bool, true, false, not, _&&_, _||_}
 use Prim.Native.Nat.{ℕ, zero, suc, _-_}
 use lib.ListN.{length, take, drop, replicate}
 use lib.Dec.{ltb, leb, eqb}
+use Rattle.sizes.specs.Sizes.{longestFrame, mostNoise}
 use Rattle.answer.specs.Number.{numberOf}
 use Rattle.answer.specs.declared.Refusal.{Refusal}
 use Rattle.answer.specs.declared.Refusal.the-variants.{Room, State}
@@ -11,11 +12,10 @@ use Rattle.frame.specs.declared.Frame.{Frame}
 use Rattle.frame.specs.declared.Checked.{Checked}
 use Rattle.frame.specs.declared.Checked.the-variants.{Accepted, Short, Refused}
 use Rattle.frame.specs.Check.{checked}
-use Rattle.frame.specs.Fields.{longest}
 use Rattle.stream.specs.declared.Tray.{Tray}
 use Rattle.stream.specs.declared.Said.{Said}
 use Rattle.stream.specs.declared.Answer.{Answer}
-use Rattle.stream.specs.Scan.{Event, frame, noise, most, Count, full, some, oneMore}
+use Rattle.stream.specs.Scan.{Event, frame, noise, Count, full, some, oneMore}
 
 -- ---- soundness: "a tray holds at most 1,103 bytes, zeros after them, noise under 65,535, and a shown length is 0 or that of an accepted frame lying
 -- first", among the bytes held
@@ -31,9 +31,9 @@ isFrame n (Short m) = false
 
 unfoldable pub sound : List ℕ → Tray → Bool
 sound bytes tray =
-    leb (tray .held) longest
-    && zeros (drop (tray .held) (take longest bytes))
-    && ltb (tray .noise) most
+    leb (tray .held) longestFrame
+    && zeros (drop (tray .held) (take longestFrame bytes))
+    && ltb (tray .noise) mostNoise
     && (eqb (tray .shown) 0 || isFrame (tray .shown) (checked (take (tray .held) bytes)))
 
 -- ---- the tray's contents: the bytes held, the length of the frame last shown, the noise count
@@ -63,7 +63,7 @@ accept f held (suc n) = event (noise (suc n)) (record { held = held; shown = 0; 
 
 -- "that one byte is noise, scanning goes on at the next"; told "at 65,535"
 abbrev pub next : Count → List ℕ → (ℕ → Decision) → Decision
-next full rest go = event (noise most) (record { held = rest; shown = 0; noise = 0 })
+next full rest go = event (noise mostNoise) (record { held = rest; shown = 0; noise = 0 })
 next (some n) rest go = go n
 
 abbrev pub decideBy : Checked → List ℕ → List ℕ → ℕ → (ℕ → Decision) → Decision
@@ -127,13 +127,13 @@ stop false r rest = rest
 
 unfoldable pub called : List ℕ → Tray → List ℕ → Outcome
 called bytes tray input =
-    stop (ltb (length bytes) longest) Room (
+    stop (ltb (length bytes) longestFrame) Room (
     stop (not (sound bytes tray)) State (
     feed input (live (contents bytes tray)) (tray .noise)))
 
 unfoldable pub finished : List ℕ → Tray → Outcome
 finished bytes tray =
-    stop (ltb (length bytes) longest) Room (
+    stop (ltb (length bytes) longestFrame) Room (
     stop (not (sound bytes tray)) State (
     closeEnd (close (live (contents bytes tray)) (tray .noise))))
 
@@ -166,7 +166,7 @@ answerOf tray (done c) = record { said = Said.Done; used = 0; tray = trayOf c }
 
 -- "the tray alone is zeroed past the bytes it holds, up to 1,103"; bytes beyond stay as lent
 unfoldable pub laid : List ℕ → List ℕ → List ℕ
-laid bytes held = held ++ (replicate (longest - length held) 0 ++ drop longest bytes)
+laid bytes held = held ++ (replicate (longestFrame - length held) 0 ++ drop longestFrame bytes)
 
 -- "A refusal .. alters no lent byte"
 abbrev pub bytesOf : List ℕ → Outcome → List ℕ

@@ -5,16 +5,17 @@ use mathlib.Core.Bool.{Bool, true, false, cond}
 use Prim.Native.Nat.{ℕ, zero, suc, _+_, _-_, _*_, _≤_, _<_, min}
 use lib.ListN.{length, take, drop, replicate}
 use lib.Dec.{ltb}
+use Rattle.sizes.specs.Sizes.{longestFrame, mostNoise}
 use Rattle.frame.specs.declared.Frame.{Frame}
 use Rattle.frame.specs.declared.Checked.the-variants.{Short}
 use Rattle.frame.specs.Check.{checked}
-use Rattle.frame.specs.Fields.{longest}
 use Rattle.stream.specs.declared.Tray.{Tray}
 use Rattle.stream.specs.declared.Said.{Said}
 use Rattle.stream.specs.declared.Answer.{Answer}
 use Rattle.stream.specs.declared.Place.{Place}
-use Rattle.stream.specs.Scan.{most}
-use Rattle.stream.specs.Tray.{Outcome, refused, told, hungry, done, feed, close, closeEnd, laid}
+use Rattle.stream.specs.declared.Turn.{Turn}
+use Rattle.stream.specs.declared.Turn.the-variants as turn
+use Rattle.stream.specs.Tray.{Outcome, refused, told, hungry, done, feed, close, closeEnd, freshTray, answerOf, bytesOf, laid}
 
 -- the first `start` of the bytes held go, the rest moves to the front, and zeros fill the end
 unfoldable pub shifted : List ℕ → ℕ → ℕ → List ℕ
@@ -23,9 +24,9 @@ shifted bytes held start = drop start (take held bytes) ++ (replicate start 0 ++
 -- a place within the tray and the input
 pub record Within (place : Place) (bytes input : List ℕ) : Type 0 where
   pub start-in : place .start ≤ place .held
-  pub held-most : place .held ≤ longest
-  pub room : longest ≤ length bytes
-  pub noise-less : place .noise < most
+  pub held-most : place .held ≤ longestFrame
+  pub room : longestFrame ≤ length bytes
+  pub noise-less : place .noise < mostNoise
   pub used-in : place .used ≤ length input
 
 -- and zeros after the bytes held
@@ -48,6 +49,22 @@ fedFrom bytes place input = plus (place .used) (feed (drop (place .used) input) 
 unfoldable pub closedFrom : List ℕ → Place → Outcome
 closedFrom bytes place = plus (place .used) (closeEnd (close (drop (place .start) (take (place .held) bytes)) (place .noise)))
 
+-- a step of finish: what it comes to stays the same
+pub record Nearer (bytes : List ℕ) (place : Place) (bytes′ : List ℕ) (place′ : Place) : Type 0 where
+  pub standing : Standing place′ bytes′ []
+  pub same : bytes′ ≡ bytes
+  pub on : closedFrom bytes′ place′ ≡ closedFrom bytes place
+  pub less : place′ .held - place′ .start < place .held - place .start
+
+-- what finish comes to is said, and the tray is as it leaves it
+pub record Closed (bytes : List ℕ) (place : Place) (answer : Answer) (bytes′ : List ℕ) : Type 0 where
+  pub says : answer ≡ answerOf freshTray (closedFrom bytes place)
+  pub leaves : bytes′ ≡ bytesOf bytes (closedFrom bytes place)
+
+abbrev pub CloseTurn : List ℕ → Place → Turn → List ℕ → Type 0
+CloseTurn bytes place (turn.On place′) bytes′ = Nearer bytes place bytes′ place′
+CloseTurn bytes place (turn.Ended answer) bytes′ = Closed bytes place answer bytes′
+
 -- how far a place is from the end: each turn of the loop comes nearer
 abbrev pub toGo : Place → List ℕ → ℕ
 toGo place input = 3 * (length input - place .used) + (place .held - place .start) + place .held
@@ -55,7 +72,7 @@ toGo place input = 3 * (length input - place .used) + (place .held - place .star
 -- a step from a place on: what the call comes to stays the same
 pub record Onward (place : Place) (bytes input : List ℕ) (place′ : Place) (bytes′ : List ℕ) : Type 0 where
   pub standing : Standing place′ bytes′ input
-  pub beyond : drop longest bytes′ ≡ drop longest bytes
+  pub beyond : drop longestFrame bytes′ ≡ drop longestFrame bytes
   pub on : fedFrom bytes′ place′ input ≡ fedFrom bytes place input
   pub nearer : toGo place′ input < toGo place input
 
@@ -72,8 +89,8 @@ pub record Wanting (place : Place) (bytes input : List ℕ) (wanted : ℕ) : Typ
 pub record Seen (place : Place) (input : List ℕ) : Type 0 where
   pub start-in : place .start ≤ place .held
   pub held-used : place .held ≡ place .used
-  pub held-most : place .held - place .start ≤ longest
-  pub noise-less : place .noise < most
+  pub held-most : place .held - place .start ≤ longestFrame
+  pub noise-less : place .noise < mostNoise
   pub used-in : place .used ≤ length input
 
 -- how far such a place is from the end
@@ -99,7 +116,7 @@ reached place input wanted =
 
 -- a tray with room that holds nothing
 pub record Empty (bytes : List ℕ) : Type 0 where
-  pub room : longest ≤ length bytes
+  pub room : longestFrame ≤ length bytes
   pub padded : bytes ≡ laid bytes []
 
 -- one byte of noise

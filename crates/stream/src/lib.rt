@@ -3,18 +3,13 @@ ghost use mathlib.Core.Path.{_≡_};
 ghost use mathlib.Core.List.{[], _++_};
 ghost use Prim.Native.Nat.{ℕ, _+_, _-_, _≤_, _<_, min};
 ghost use lib.ListN.{length, take, drop, replicate};
+ghost use Rattle.sizes.specs.Sizes.{longestFrame, mostNoise};
 ghost use Rattle.stream.specs.Tray.{zeros, isFrame, sound, freshTray, numberOfSaid, refused, answerOf, bytesOf, callAnswer, callBytes, finishAnswer, finishBytes};
 ghost use Rattle.stream.specs.Driver.{Ready};
-ghost use Rattle.stream.specs.Walk.{shifted, Standing, fedFrom, closedFrom, Wanting, Onward, Seen, Along, reached, Empty, noised, settled, shownAnswer, droppedPlace};
+ghost use Rattle.stream.specs.Walk.{shifted, Standing, fedFrom, Closed, CloseTurn, Wanting, Onward, Seen, Along, reached, Empty, noised, settled, shownAnswer, droppedPlace};
 use answer::Refusal;
 use frame::Checked;
 use frame::Frame;
-
-// The longest frame: the tray's room.
-const LONGEST: usize = 1103;
-
-// Noise is told at this count.
-const MOST: u32 = 65535;
 
 // The first byte of a frame.
 const PREAMBLE: u8 = 0x73;
@@ -88,17 +83,17 @@ fn is_frame(length: usize, first: Checked) -> bool
 
 // Every condition of soundness is tested; the shown frame is checked again.
 fn is_sound(bytes: &[u8], tray: Tray) -> bool
-    requires { ⌜ 1103 ≤ length (now bytes) ⌝ }
+    requires { ⌜ longestFrame ≤ length (now bytes) ⌝ }
     ensures { λ r. ⌜ r ≡ sound (now (bytes .entry)) tray ⌝ }
 {
     let held = tray.held;
-    if LONGEST < held {
+    if sizes::LONGEST_FRAME < held {
         return false;
     }
-    if MOST <= tray.noise {
+    if sizes::MOST_NOISE <= tray.noise {
         return false;
     }
-    if !all_zero(&bytes[held..LONGEST]) {
+    if !all_zero(&bytes[held..sizes::LONGEST_FRAME]) {
         return false;
     }
     if tray.shown == 0 {
@@ -146,7 +141,7 @@ fn shift(bytes: &mut [u8], held: usize, start: usize)
 
 // The first live byte is noise.
 fn noisy(place: Place) -> Place
-    requires { ⌜ (place .start < place .held) × (place .noise < 65535) ⌝ }
+    requires { ⌜ (place .start < place .held) × (place .noise < mostNoise) ⌝ }
     ensures { λ r. ⌜ r ≡ noised place ⌝ }
 {
     Place {
@@ -176,7 +171,7 @@ fn take_more(bytes: &mut [u8], place: Place, input: &[u8], wanted: usize) -> Pla
     let start = place.start;
     let held = place.held;
     let used = place.used;
-    if LONGEST < start + wanted {
+    if sizes::LONGEST_FRAME < start + wanted {
         shift(bytes, held, start);
         return Place {
             start: 0,
@@ -234,7 +229,7 @@ fn pass(place: Place, input: &[u8]) -> Place
         return place;
     }
     let used = place.used;
-    let limit = (MOST - 1 - place.noise) as usize;
+    let limit = (sizes::MOST_NOISE - 1 - place.noise) as usize;
     let end = used + least(limit, input.len() - used);
     let found = bytes::scan::find(input, used, end, PREAMBLE);
     Place {
@@ -312,10 +307,10 @@ fn feed_input(bytes: &mut [u8], place: Place, input: &[u8]) -> Answer
             }
             Checked::Refused(_) => {
                 place = noisy(place);
-                if place.noise == MOST {
+                if place.noise == sizes::MOST_NOISE {
                     let start = place.start;
                     bytes::copy(&input[start..held], bytes);
-                    return say(place, Said::Noise(MOST), 0, 0);
+                    return say(place, Said::Noise(sizes::MOST_NOISE), 0, 0);
                 }
             }
         }
@@ -346,10 +341,10 @@ fn feed(bytes: &mut [u8], place: Place, input: &[u8]) -> Answer
             }
             Checked::Refused(_) => {
                 place = noisy(place);
-                if place.noise == MOST {
+                if place.noise == sizes::MOST_NOISE {
                     let start = place.start;
                     shift(bytes, held, start);
-                    return say(place, Said::Noise(MOST), 0, 0);
+                    return say(place, Said::Noise(sizes::MOST_NOISE), 0, 0);
                 }
             }
         }
@@ -367,27 +362,39 @@ fn feed(bytes: &mut [u8], place: Place, input: &[u8]) -> Answer
     feed_input(bytes, outside, input)
 }
 
-// Finish from a place on: every byte that is left is tried as the first of a frame.
-fn close(bytes: &mut [u8], place: Place) -> Answer
+// Where a turn of finish comes to: on from a place, or to an answer.
+enum Turn {
+    On(Place),
+    Ended(Answer),
+}
+
+// One turn of finish: the first live byte is tried as the first of a frame.
+fn close_turn(bytes: &mut [u8], place: Place) -> Turn
     requires { ⌜ Standing place (now bytes) [] ⌝ }
-    ensures { λ r. ⌜ r ≡ answerOf freshTray (closedFrom (now (bytes .entry)) place) ⌝ }
-    ensures { λ _. ⌜ now (bytes .exit) ≡ bytesOf (now (bytes .entry)) (closedFrom (now (bytes .entry)) place) ⌝ }
+    requires { ⌜ place .start < place .held ⌝ }
+    ensures { λ r. ⌜ CloseTurn (now (bytes .entry)) place r (now (bytes .exit)) ⌝ }
 {
-    let mut place = place;
-    while place.start < place.held {
-        let start = place.start;
-        let held = place.held;
-        if let Checked::Accepted(frame) = frame::check(&bytes[start..held]) {
-            shift(bytes, held, start);
-            return show(place, frame);
-        }
-        place = noisy(place);
-        if place.noise == MOST {
-            let start = place.start;
-            shift(bytes, held, start);
-            return say(place, Said::Noise(MOST), 0, 0);
-        }
+    let start = place.start;
+    let held = place.held;
+    if let Checked::Accepted(frame) = frame::check(&bytes[start..held]) {
+        shift(bytes, held, start);
+        return Turn::Ended(show(place, frame));
     }
+    let next = noisy(place);
+    if next.noise == sizes::MOST_NOISE {
+        let start = next.start;
+        shift(bytes, held, start);
+        return Turn::Ended(say(next, Said::Noise(sizes::MOST_NOISE), 0, 0));
+    }
+    Turn::On(next)
+}
+
+// The end of finish, where no byte is live: what is left to be told.
+fn close_end(bytes: &mut [u8], place: Place) -> Answer
+    requires { ⌜ Standing place (now bytes) [] ⌝ }
+    requires { ⌜ place .held ≤ place .start ⌝ }
+    ensures { λ r. ⌜ Closed (now (bytes .entry)) place r (now (bytes .exit)) ⌝ }
+{
     let start = place.start;
     let held = place.held;
     shift(bytes, held, start);
@@ -396,6 +403,25 @@ fn close(bytes: &mut [u8], place: Place) -> Answer
         return say(place, Said::Noise(untold), 0, 0);
     }
     say(place, Said::Done, 0, 0)
+}
+
+// Finish from a place on: every byte that is left is tried as the first of a frame.
+fn close(bytes: &mut [u8], place: Place) -> Answer
+    requires { ⌜ Standing place (now bytes) [] ⌝ }
+    ensures { λ r. ⌜ Closed (now (bytes .entry)) place r (now (bytes .exit)) ⌝ }
+{
+    let mut place = place;
+    while place.start < place.held {
+        match close_turn(bytes, place) {
+            Turn::Ended(answer) => {
+                return answer;
+            }
+            Turn::On(next) => {
+                place = next;
+            }
+        }
+    }
+    close_end(bytes, place)
 }
 
 // A refusal returns the old state and uses no input.
@@ -431,7 +457,7 @@ pub fn call(bytes: &mut [u8], tray: Tray, input: &[u8]) -> Answer
     ensures { λ r. ⌜ r ≡ callAnswer (now (bytes .entry)) tray (now (input .entry)) ⌝ }
     ensures { λ _. ⌜ now (bytes .exit) ≡ callBytes (now (bytes .entry)) tray (now (input .entry)) ⌝ }
 {
-    if bytes.len() < LONGEST {
+    if bytes.len() < sizes::LONGEST_FRAME {
         return refused(tray, Refusal::Room);
     }
     if !is_sound(bytes, tray) {
@@ -446,7 +472,7 @@ pub fn finish(bytes: &mut [u8], tray: Tray) -> Answer
     ensures { λ r. ⌜ r ≡ finishAnswer (now (bytes .entry)) tray ⌝ }
     ensures { λ _. ⌜ now (bytes .exit) ≡ finishBytes (now (bytes .entry)) tray ⌝ }
 {
-    if bytes.len() < LONGEST {
+    if bytes.len() < sizes::LONGEST_FRAME {
         return refused(tray, Refusal::Room);
     }
     if !is_sound(bytes, tray) {

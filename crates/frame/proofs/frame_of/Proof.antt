@@ -1,5 +1,5 @@
 -- `frame_of`: each field is read where the definition has it.
-use Rattle.frame.proofs.Checking.{is-frame}
+use Rattle.frame.specs.Check.{frameOf}
 use borrow.Author.Needs.{needs}
 use Rattle.frame.proofs.frame_of.Statement.{statement}
 use Rattle.frame.proofs.frame_of.Tie as tie
@@ -65,15 +65,8 @@ add-t19 : tie.Need-add-t19
 add-t19 c = search needs
 
 returns : tie.Need-returns
-returns c = let at = c .before .before in
-    let pr = at .before in
-    let tag = pr .before .before in
-    let su = tag .before .before in
-    let ty = su .before .before in
-    let cn = ty .before .before in
-    is-frame _ _ _ _ _ _ _ _ _ _ _ _ _ _ _ (cn .before .before .small-at .ensures .0) (cn .before .wide .ensures .0) (cn .small-at2 .ensures .0) (c .wide2 .ensures .0)
-    (ty .before .seal-of .ensures) (ty .small-at3 .ensures .0) (su .before .payload-length .ensures .0) (su .small-at4 .ensures .0)
-    (tag .before .narrow .ensures) (tag .number-at .ensures) (pr .before .small-at5 .ensures .0) (pr .small-at6 .ensures .0) (at .payload-at .ensures .0) (c .before .check-at .ensures .0)
+unfolding frameOf
+returns c = cc
 
 pub frame-of-spec : {M : Type 1} → statement M
 frame-of-spec =

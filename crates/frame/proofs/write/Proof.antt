@@ -1,26 +1,24 @@
 -- `write`: the tests are those of `written`, in its order; then each part is laid behind what was written before it.
 use native.Mathlib.Omega.{arith}
-use Rattle.frame.proofs.Writing.{write-room, write-field, write-empty, write-long, write-frame, ranged}
+use Rattle.frame.proofs.Writing.{both, write-room, write-field, write-empty, write-long, write-frame, ranged, payload-fits}
 use borrow.Author.Needs.{needs}
 use Rattle.frame.proofs.write.Statement.{statement}
 use Rattle.frame.proofs.write.Tie as tie
 
 returns : tie.Need-returns
-returns c = write-room _ _ _ (c .if1 .taken)
+returns c = both (search (write-room, needs))
 
 in-range-requires : tie.Need-in-range-requires
 in-range-requires c κs = search needs
 
 returns-2 : tie.Need-returns-2
-returns-2 c = write-field _ _ _ (c .before .before .if1 .left) _ (c .before .in-range .ensures) (c .if2 .taken)
+returns-2 c = both (search (write-field, needs))
 
 returns-3 : tie.Need-returns-3
-returns-3 c = let t = c .before in
-    write-empty _ _ _ (t .before .before .if1 .left) _ (t .before .in-range .ensures) (t .if2 .left) (c .if3 .taken)
+returns-3 c = both (search (write-empty, needs))
 
 returns-4 : tie.Need-returns-4
-returns-4 c = let t = c .before .before in
-    write-long _ _ _ (t .before .before .if1 .left) _ (t .before .in-range .ensures) (t .if2 .left) (c .before .if3 .left) (c .if4 .taken)
+returns-4 c = both (search (write-long, needs))
 
 put-start-requires : tie.Need-put-start-requires
 put-start-requires c κs = search (ranged, needs)
@@ -29,10 +27,7 @@ put-description-requires : tie.Need-put-description-requires
 put-description-requires c κs = search (ranged, needs)
 
 put-payload-requires : tie.Need-put-payload-requires
-put-payload-requires c κs = let d = c .before .before .before in
-    let t = d .before .before .before .before .before .before .before .before in
-    let r = ranged _ _ (t .before .in-range .ensures) (t .if2 .left) in
-    omega (arith, d .put-description .ensures .0)
+put-payload-requires c κs = search (payload-fits, needs)
 
 put-check-requires : tie.Need-put-check-requires
 put-check-requires c κs = let p = c .before .before .before in
@@ -45,14 +40,7 @@ same-length : tie.Need-same-length
 same-length c = search needs
 
 returns-5 : tie.Need-returns-5
-returns-5 c = let k = c .before .before in
-    let p = k .before .before .before .before in
-    let d = p .before .before .before .before in
-    let s = d .before .before .before .before in
-    let e = s .before .before in
-    let t = e .before .before in
-    write-frame _ _ _ (t .before .before .if1 .left) _ (t .before .in-range .ensures) (t .if2 .left) (e .before .if3 .left) (e .if4 .left) _ _ _ _ _ _ _ (s .put-start .ensures)
-    (d .put-description .ensures .0) (d .put-description .ensures .1) (p .put-payload .ensures .0) (p .put-payload .ensures .1) (k .put-check .ensures .0) (k .put-check .ensures .1)
+returns-5 c = both (search (write-frame, needs))
 
 pub write-spec : {M : Type 1} → statement M
 write-spec =

@@ -1,7 +1,5 @@
 -- The tests are those of `judging`, in its order.
-use Rattle.sheet.proofs.Reading.{judge-unknown, judge-length, judge-known}
-use Rattle.sheet.specs.Laws.{good-some}
-use mathlib.Core.Path.{sym, _∙_}
+use Rattle.sheet.proofs.Reading.{judge-unknown, judge-length, judge-known, good-length}
 use borrow.Author.Needs.{needs}
 use Rattle.sheet.proofs.judge.Statement.{statement}
 use Rattle.sheet.proofs.judge.Tie as tie
@@ -22,7 +20,7 @@ returns : tie.Need-returns
 returns c = search (judge-length, needs)
 
 judge-from-requires : tie.Need-judge-from-requires
-judge-from-requires c κs = good-some _ (sym (c .before .bad-length .ensures) ∙ c .if1 .left) .1
+judge-from-requires c κs = search (good-length, needs)
 
 returns-2 : tie.Need-returns-2
 returns-2 c = search (judge-unknown, needs)

@@ -1,6 +1,5 @@
 -- What the pass comes to is what the layout's writing gives.
 use Rattle.sheet.proofs.Writing.{keep-fault, keep-length, keep-whole, count-small}
-use native.Mathlib.Omega.{arith}
 use borrow.Author.Needs.{needs}
 use Rattle.sheet.proofs.keep_sheet_from.Statement.{statement}
 use Rattle.sheet.proofs.keep_sheet_from.Tie as tie
@@ -15,7 +14,7 @@ enum-known-bits : tie.Need-enum-known-bits
 enum-known-bits c = search needs
 
 add-bytes : tie.Need-add-bytes
-add-bytes c = omega (arith, count-small (c .before .before .before .before .before .write-pass .ensures) (c .before .bits .given .1))
+add-bytes c = search (count-small, needs)
 
 bad-length-requires : tie.Need-bad-length-requires
 bad-length-requires c κs = search needs

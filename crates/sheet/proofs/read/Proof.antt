@@ -1,14 +1,11 @@
 -- The tests are those of `reading`, in its order.
-use Rattle.sheet.proofs.Reading.{read-room, read-unknown, read-length, read-known}
-use Rattle.sheet.specs.Laws.{good-some}
-use mathlib.Core.Path.{sym, _∙_}
-use native.Mathlib.Omega.{arith}
+use Rattle.sheet.proofs.Reading.{both, read-room, read-unknown, read-length, read-known, good-length}
 use borrow.Author.Needs.{needs}
 use Rattle.sheet.proofs.read.Statement.{statement}
 use Rattle.sheet.proofs.read.Tie as tie
 
 returns : tie.Need-returns
-returns c = read-room _ _ _ _ (c .if1 .taken)
+returns c = both (search (read-room, needs))
 
 start-of-requires : tie.Need-start-of-requires
 start-of-requires c κs = search needs
@@ -23,31 +20,19 @@ bad-length-requires : tie.Need-bad-length-requires
 bad-length-requires c κs = search needs
 
 returns-2 : tie.Need-returns-2
-returns-2 c =
-    let b = c .before in
-    let s = b .before .before .before .before in
-    read-length _ _ _ _ (s .before .if1 .left) _ _ (s .start-of .ensures) (b .before .before .start .given .1) _ (b .bad-length .ensures) (c .if2 .taken)
+returns-2 c = both (search (read-length, needs))
 
 read-whole-requires : tie.Need-read-whole-requires
-read-whole-requires c κs =
-    let b = c .before .before in
-    (good-some _ (sym (b .bad-length .ensures) ∙ c .before .if2 .left) .1, omega (arith, b .before .before .before .before .before .if1 .left))
+read-whole-requires c κs = search (good-length, needs)
 
 returns-3 : tie.Need-returns-3
-returns-3 c =
-    let s = c .before .before in
-    read-unknown _ _ _ _ (s .before .if1 .left) _ (s .start-of .ensures) (c .enum-told .given .1)
+returns-3 c = both (search (read-unknown, needs))
 
 same-length : tie.Need-same-length
 same-length c = search needs
 
 returns-4 : tie.Need-returns-4
-returns-4 c =
-    let w = c .before .before in
-    let b = w .before .before .before in
-    let s = b .before .before .before .before in
-    read-known _ _ _ _ (s .before .if1 .left) _ _ (s .start-of .ensures) (b .before .before .start .given .1) _ (b .bad-length .ensures) (w .before .before .if2 .left) _ _
-    (w .read-whole .ensures)
+returns-4 c = both (search (read-known, needs))
 
 pub read-spec : {M : Type 1} → statement M
 read-spec =

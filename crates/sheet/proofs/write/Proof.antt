@@ -1,11 +1,11 @@
 -- The tests are those of `writing`, in its order.
-use Rattle.sheet.proofs.Writing.{write-room, write-unknown, write-known}
+use Rattle.sheet.proofs.Writing.{both, write-room, write-unknown, write-known}
 use borrow.Author.Needs.{needs}
 use Rattle.sheet.proofs.write.Statement.{statement}
 use Rattle.sheet.proofs.write.Tie as tie
 
 returns : tie.Need-returns
-returns c = write-room _ _ _ _ (c .if1 .taken)
+returns c = both _ (search (write-room, needs))
 
 start-of-requires : tie.Need-start-of-requires
 start-of-requires c κs = search needs
@@ -20,19 +20,13 @@ write-whole-requires : tie.Need-write-whole-requires
 write-whole-requires c κs = search needs
 
 returns-2 : tie.Need-returns-2
-returns-2 c =
-    let s = c .before .before in
-    write-unknown _ _ _ _ (s .before .if1 .left) _ (s .start-of .ensures) (c .enum-told .given .1)
+returns-2 c = both _ (search (write-unknown, needs))
 
 same-length : tie.Need-same-length
 same-length c = search needs
 
 returns-3 : tie.Need-returns-3
-returns-3 c =
-    let w = c .before .before in
-    let d = w .before .before .before in
-    let s = d .before .before in
-    write-known _ _ _ _ (s .before .if1 .left) _ _ (s .start-of .ensures) (d .start .given .1) _ _ (w .write-whole .ensures)
+returns-3 c = both _ (search (write-known, needs))
 
 pub write-spec : {M : Type 1} → statement M
 write-spec =

@@ -1,6 +1,5 @@
 -- A sheet that is not accepted alters nothing; the bits kept aside are copied, with the fill behind them.
-use Rattle.sheet.proofs.Writing.{whole-refused, whole-bytes, whole-short, whole-fits, whole-count, whole-room, whole-written}
-use native.Mathlib.Omega.{arith}
+use Rattle.sheet.proofs.Writing.{whole-refused, fill-times, fill-under, fill-few, whole-fits, whole-count, whole-room, whole-written}
 use borrow.Author.Needs.{needs}
 use Rattle.sheet.proofs.write_by.Statement.{statement}
 use Rattle.sheet.proofs.write_by.Tie as tie
@@ -15,22 +14,13 @@ enum-known-judged-2 : tie.Need-enum-known-judged-2
 enum-known-judged-2 c = search needs
 
 mul-fill : tie.Need-mul-fill
-mul-fill c =
-    let e = c .before .judged2 .given .1 in
-    let k = c .before .before .before .before .before .keep-sheet-from .ensures in
-    omega (arith, whole-bytes _ _ k _ _ e, whole-short _ _ k _ _ e)
+mul-fill c = search (fill-times, needs)
 
 sub-fill : tie.Need-sub-fill
-sub-fill c =
-    let e = c .before .judged2 .given .1 in
-    let k = c .before .before .before .before .before .keep-sheet-from .ensures in
-    omega (arith, whole-bytes _ _ k _ _ e, whole-short _ _ k _ _ e)
+sub-fill c = search (fill-under, needs)
 
 cast-fill : tie.Need-cast-fill
-cast-fill c =
-    let e = c .before .judged2 .given .1 in
-    let k = c .before .before .before .before .before .keep-sheet-from .ensures in
-    omega (arith, whole-bytes _ _ k _ _ e, whole-short _ _ k _ _ e)
+cast-fill c = search (fill-few, needs)
 
 put-requires : tie.Need-put-requires
 put-requires c κs = search needs
