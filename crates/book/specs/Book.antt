@@ -4,17 +4,10 @@ use mathlib.Core.List.{List, [], _∷_, _++_}
 use Prim.Native.Nat.{ℕ, zero, suc, _*_, _/_, _%_}
 use lib.Dec.{leb, ltb, eqb}
 use lib.ListN.{length, getD, take, drop}
-use Rattle.sizes.specs.Sizes as sizes
+use Rattle.sizes.specs.Sizes.{mostAreas, bookBytes}
 use Rattle.area.specs.Area.{sf031, isArea, bytesOf, numberIn}
 use Rattle.area.specs.declared.AreaId.{AreaId}
 use Rattle.book.specs.declared.Book.{Book}
-
--- for crates that have not moved yet
-abbrev pub mostAreas : ℕ
-mostAreas = sizes.mostAreas
-
-abbrev pub bookBytes : ℕ
-bookBytes = sizes.bookBytes
 
 -- A book says AIOU + 1, and 0 where it has none; a book without areas says 0 and 0.
 abbrev pub bookOf : (aiou-plus-one count : ℕ) → Book
@@ -38,7 +31,7 @@ bytesOfAll (a ∷ l) = bytesOf a ++ bytesOfAll l
 
 -- "A book has an AIOU exactly when it has an area, at most 32, .." AIOU is 0 to 15. A book says AIOU + 1, and 0 where it has none.
 unfoldable pub headSound : Book → Bool
-headSound book = Bool·beq (eqb (book .«aiou_plus_one») 0) (eqb (book .count) 0) && (leb (book .«aiou_plus_one») 16 && leb (book .count) sizes.mostAreas)
+headSound book = Bool·beq (eqb (book .«aiou_plus_one») 0) (eqb (book .count) 0) && (leb (book .«aiou_plus_one») 16 && leb (book .count) mostAreas)
 
 -- ".. ascending, each with fields in range, the last bit zero and no AREA_OFF": n areas whose IDs are `least` and more
 unfoldable pub areasSound : ℕ → ℕ → List ℕ → Bool
@@ -48,7 +41,7 @@ areasSound (suc n) least s =
 
 -- "bytes past them do not count". Fewer bytes than those of a book hold no sound one.
 unfoldable pub sound : Book → List ℕ → Bool
-sound book s = leb sizes.bookBytes (length s) && (headSound book && areasSound (book .count) 0 s)
+sound book s = leb bookBytes (length s) && (headSound book && areasSound (book .count) 0 s)
 
 -- how many of n areas come before the first with this ID: n where none has it
 unfoldable pub placeOf : ℕ → ℕ → List ℕ → ℕ

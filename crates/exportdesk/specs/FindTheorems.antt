@@ -7,7 +7,8 @@ use lib.Dec.{ltb}
 use lib.ListN.{length, take, drop}
 use Rattle.bits.specs.Bits.{Bytes}
 use Rattle.area.specs.declared.AreaId.{AreaId}
-use Rattle.book.specs.Book.{bookBytes, areasIn, sound, placeOf, isHeld, found}
+use Rattle.sizes.specs.Sizes.{bookBytes}
+use Rattle.book.specs.Book.{areasIn, sound, placeOf, isHeld, found}
 use Rattle.book.specs.Take.{lookup}
 use Rattle.book.specs.FindLaws.{bytesOfFound, found-is}
 use Rattle.book.specs.declared.Book.{Book}

@@ -3,12 +3,7 @@ use mathlib.Core.List.{List}
 use mathlib.Core.Bool.{Bool, cond, _&&_}
 use Prim.Native.Nat.{ℕ, zero, suc, _+_, _*_}
 use lib.Dec.{ltb, eqb}
-use Rattle.sizes.specs.Sizes.{longestFrame}
 use Rattle.bits.specs.Bits.{field}
-
--- for crates that have not moved yet
-abbrev pub longest : ℕ
-longest = longestFrame
 
 -- "Preamble 0x73; TF002 type 7; TF003 payload bytes 10; TF004 encrypted 1; TF005 check type 2; TF006 4: four bytes."
 abbrev pub preamble : ℕ
