@@ -13,10 +13,10 @@ pub fn wide(x: u8) -> u64
     x as u64
 }
 
-pub fn count(x: usize) -> u64
-    ensures { λ r. ⌜ r ≡ x ⌝ }
+pub fn count(n: usize) -> u64
+    ensures { λ r. ⌜ r ≡ n ⌝ }
 {
-    x as u64
+    n as u64
 }
 
 // Numbers take the places from the start on; what lies behind them stays. Internal: the calls here and in the crates above have tested ROOM.
