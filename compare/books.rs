@@ -4,8 +4,10 @@ use crate::judge::{hex, Input, Judge};
 use crate::lent;
 use homralgyu::raw;
 use second::answer::{number, Refusal};
+use second::book::BOOK_BYTES;
 use second::book::{self, Book};
 use second::generate::*;
+use second::kept::KEPT_BYTES;
 use second::payload::Message;
 use second::views::AreaId;
 use second::{kept, sheet};
@@ -32,7 +34,7 @@ fn as_numbers(rng: &mut Rng, made: &Book) -> (Book, [u64; 2]) {
 pub fn some_book(rng: &mut Rng) -> (Book, [u64; 2], Vec<u8>) {
     let (made, mut bytes) = if rng.one_in(4) { unsound_book(rng) } else { book(rng) };
     if rng.one_in(20) {
-        let size = buffer_size(rng, 192);
+        let size = buffer_size(rng, BOOK_BYTES);
         bytes.resize(size, 0);
     }
     let (made, numbers) = as_numbers(rng, &made);
@@ -112,7 +114,7 @@ fn take_step(
 
 /// "Order: ROOM, STATE, .. payload refusals, .. for GAD the book's refusals"
 fn take(held: &Book, bytes: &mut [u8], payload: &[u8]) -> Result<Book, Refusal> {
-    if bytes.len() < 192 {
+    if bytes.len() < BOOK_BYTES {
         return Err(Refusal::Room);
     }
     let areas = book::areas(held, bytes).ok_or(Refusal::State)?;
@@ -136,7 +138,7 @@ pub fn history(rng: &mut Rng, judge: &mut Judge) {
 
 pub fn keep(rng: &mut Rng, judge: &mut Judge) {
     let (held, numbers, bytes) = some_book(rng);
-    let room = buffer_size(rng, 227);
+    let room = buffer_size(rng, KEPT_BYTES);
     let out = lent_bytes(rng, room);
     let places = places(rng);
     let counts = rng.pick(&[0, 1, 1, 1, 1, 1, 1, 1, 2]);
@@ -166,7 +168,7 @@ pub fn keep(rng: &mut Rng, judge: &mut Judge) {
 
 pub fn read(rng: &mut Rng, judge: &mut Judge) {
     let bytes = if rng.one_in(3) { second::generate::kept(rng) } else { broken_kept(rng) };
-    let room = buffer_size(rng, 192);
+    let room = buffer_size(rng, BOOK_BYTES);
     let places = places(rng);
     read_kept(rng, judge, &bytes, room, places);
 }

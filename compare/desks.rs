@@ -7,9 +7,13 @@ use crate::marks;
 use crate::tables::{self, LentTable, Table};
 use homralgyu::raw;
 use second::answer::{number, Refusal};
+use second::book::BOOK_BYTES;
+use second::desk::LOG_BYTES;
 use second::desk::{self, Of};
+use second::frame::LONGEST_PAYLOAD;
 use second::frame::{assemble, Plain};
 use second::generate::*;
+use second::kept::KEPT_BYTES;
 use second::kept;
 use second::payload::GadArea;
 use second::views::AreaId;
@@ -50,7 +54,7 @@ pub fn sound(judge: &mut Judge, table: &Table) {
     let ours = table.lend();
     let answer = raw::desk_is_sound(ours.numbers.now(), ours.live.now(), ours.run.now());
     let second = match table.desk() {
-        Some(desk) if table.live.len() >= 192 && table.run.len() >= 192 => {
+        Some(desk) if table.live.len() >= BOOK_BYTES && table.run.len() >= BOOK_BYTES => {
             if desk::sound(&desk, &table.live, &table.run) {
                 0
             } else {
@@ -143,7 +147,7 @@ pub fn take(
 
 /// A kept book for the desk: that of its own live book, another, or a broken one.
 fn some_kept(rng: &mut Rng, table: &Table) -> Vec<u8> {
-    let mut out = vec![0; 227];
+    let mut out = vec![0; KEPT_BYTES];
     let own = table.desk().map(|desk| kept::write(&desk.live, &table.live, &mut out));
     match (rng.below(3), own) {
         (0, Some(Ok(size))) => out[..size].to_vec(),
@@ -155,7 +159,7 @@ fn some_kept(rng: &mut Rng, table: &Table) -> Vec<u8> {
 /// A book taken in as the live one: read from its kept form, or any.
 pub fn take_book(rng: &mut Rng, judge: &mut Judge, table: &mut Table) {
     let kept = some_kept(rng, table);
-    let read = if rng.one_in(2) { books::read_kept(rng, judge, &kept, 192, 2) } else { None };
+    let read = if rng.one_in(2) { books::read_kept(rng, judge, &kept, BOOK_BYTES, 2) } else { None };
     let (held, numbers, bytes) = read.unwrap_or_else(|| books::some_book(rng));
     let places = books::places(rng);
     let numbers = books::lent_numbers(rng, &numbers, places);
@@ -193,7 +197,7 @@ pub fn history(rng: &mut Rng, judge: &mut Judge) {
     for frame in &scene.frames {
         // now and then, instead, a frame for the desk as it stands: of the run's book, which may no longer be live
         let own = if rng.one_in(3) { table.frame(rng) } else { frame.clone() };
-        take(rng, judge, &mut table, &own, 4096, 1);
+        take(rng, judge, &mut table, &own, LOG_BYTES, 1);
         match rng.below(12) {
             0..=3 => find(rng, judge, &table),
             4 => sound(judge, &table),
@@ -223,7 +227,7 @@ pub fn full(rng: &mut Rng, judge: &mut Judge) {
             ];
             rich_sheet(rng, 1, made.constellation, 3, codes).payload()
         })
-        .find(|payload| payload.len() <= 1023);
+        .find(|payload| payload.len() <= LONGEST_PAYLOAD);
     let parts = Plain {
         type_: 2,
         check_type: rng.below(4),
@@ -234,10 +238,10 @@ pub fn full(rng: &mut Rng, judge: &mut Judge) {
         processor: made.processor,
     };
     let gad = assemble(&parts, None, &gad_sheet(rng, aiou, &[grid]).payload(), &[]);
-    take(rng, judge, &mut table, &gad, 4096, 1);
+    take(rng, judge, &mut table, &gad, LOG_BYTES, 1);
     if let Some(payload) = hpac {
         let parts = Plain { type_: 1, subtype: made.constellation, ..parts };
-        take(rng, judge, &mut table, &assemble(&parts, None, &payload, &[]), 4096, 1);
+        take(rng, judge, &mut table, &assemble(&parts, None, &payload, &[]), LOG_BYTES, 1);
     }
 }
 
@@ -248,7 +252,7 @@ pub fn odd(rng: &mut Rng, judge: &mut Judge) {
     find(rng, judge, &table);
     take_book(rng, judge, &mut table.clone());
     let frame = if rng.one_in(6) { odd_frame(rng) } else { table.frame(rng) };
-    let log = if rng.one_in(6) { buffer_size(rng, 4096) } else { 4096 };
+    let log = if rng.one_in(6) { buffer_size(rng, LOG_BYTES) } else { LOG_BYTES };
     let places = rng.pick(&[1, 1, 1, 1, 1, 1, 1, 1, 1, 2, 0]);
     take(rng, judge, &mut table.clone(), &frame, log, places);
 }

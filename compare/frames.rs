@@ -4,6 +4,7 @@ use crate::judge::{hex, Input, Judge};
 use crate::lent;
 use homralgyu::{raw, Parts};
 use second::answer::number;
+use second::frame::LONGEST_FRAME;
 use second::frame::{self, Frame, Plain};
 use second::generate::*;
 
@@ -93,7 +94,7 @@ pub fn write(rng: &mut Rng, judge: &mut Judge) {
     let some = rng.below(40) as usize;
     let payload_size = rng.pick(&[0, 1, 1022, 1023, 1024, 2000, some, some]);
     let payload = rng.bytes(payload_size);
-    let room = buffer_size(rng, 1103);
+    let room = buffer_size(rng, LONGEST_FRAME);
     let out = lent_bytes(rng, room);
     let places = rng.pick(&[0, 1, 1, 1, 1, 1, 1, 2]);
     let size = lent_entries(rng, places);

@@ -4,7 +4,9 @@ use crate::judge::{hex, Input, Judge};
 use crate::lent;
 use homralgyu::raw;
 use second::answer::number;
+use second::frame::LONGEST_PAYLOAD;
 use second::generate::*;
+use second::sheet::SHEET_ENTRIES;
 use second::sheet;
 
 /// One of the twelve, mostly.
@@ -32,7 +34,7 @@ fn counts_room(rng: &mut Rng) -> Vec<u64> {
 pub fn read(rng: &mut Rng, judge: &mut Judge) {
     let (of, (kind, subtype)) = types(rng);
     let payload = if rng.one_in(3) { payload(rng, of.0, of.1) } else { odd_payload(rng, of.0, of.1) };
-    let places = buffer_size(rng, 8184);
+    let places = buffer_size(rng, SHEET_ENTRIES);
     let entries = vec![rng.draw(); places];
     let counts = counts_room(rng);
     let said = || {
@@ -88,7 +90,7 @@ pub fn write(rng: &mut Rng, judge: &mut Judge) {
         }
         _ => odd_sheet(rng, of.0, of.1),
     };
-    let room = buffer_size(rng, 1023);
+    let room = buffer_size(rng, LONGEST_PAYLOAD);
     let out = lent_bytes(rng, room);
     let counts = counts_room(rng);
     let said = || format!("type {kind}-{subtype}, sheet {codes:?}, room of {room}, {} counts", counts.len());

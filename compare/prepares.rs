@@ -8,7 +8,9 @@ use crate::marks;
 use crate::tables::{self, Table};
 use homralgyu::raw;
 use second::answer::{number, Refusal};
+use second::desk::LOG_BYTES;
 use second::desk;
+use second::frame::LONGEST_FRAME;
 use second::frame::{self, assemble};
 use second::generate::*;
 use second::prepare::{self, Event, Prepared, State};
@@ -22,7 +24,7 @@ struct Places {
     header: usize,
 }
 
-const ENOUGH: Places = Places { tray: 3, log: 4096, told: 5, header: 15 };
+const ENOUGH: Places = Places { tray: 3, log: LOG_BYTES, told: 5, header: 15 };
 
 /// What goes on from call to call.
 struct Job {
@@ -168,7 +170,7 @@ fn around(rng: &mut Rng, inner: &[u8]) -> Vec<u8> {
 /// A stream cut anyhow, from a fresh tray and a new desk to done.
 fn prepare_all(rng: &mut Rng, judge: &mut Judge, scene: &Scene, input: &[u8]) {
     let made = desk::new(scene.solution, scene.processor, scene.constellation).expect("in range");
-    let mut job = Job { tray: Tray::default(), bytes: vec![0; 1103], table: tables::fresh(rng, &made) };
+    let mut job = Job { tray: Tray::default(), bytes: vec![0; LONGEST_FRAME], table: tables::fresh(rng, &made) };
     let cuts = cutting(rng, input.len());
     let mut rest = input;
     for size in cuts.into_iter().chain([usize::MAX]) {
@@ -194,20 +196,20 @@ pub fn odd(rng: &mut Rng, judge: &mut Judge) {
             // a frame of the desk is held, not shown yet
             let frame = table.frame(rng);
             let mut bytes = frame.clone();
-            bytes.resize(1103, 0);
-            (Tray { held: frame.len().min(1103) as u64, shown: 0, noise: rng.below(2) }, bytes)
+            bytes.resize(LONGEST_FRAME, 0);
+            (Tray { held: frame.len().min(LONGEST_FRAME) as u64, shown: 0, noise: rng.below(2) }, bytes)
         }
         _ => tray(rng),
     };
     let mut job = Job { tray, bytes, table };
     if rng.one_in(12) {
-        let size = buffer_size(rng, 1103);
+        let size = buffer_size(rng, LONGEST_FRAME);
         job.bytes.resize(size, 0);
     }
     let places = if rng.one_in(8) {
         Places {
             tray: rng.pick(&[0, 2, 3, 3, 4]),
-            log: buffer_size(rng, 4096),
+            log: buffer_size(rng, LOG_BYTES),
             told: rng.pick(&[0, 4, 5, 5, 6]),
             header: rng.pick(&[0, 14, 15, 15, 16]),
         }

@@ -5,6 +5,7 @@ use crate::judge::{hex, Input, Judge};
 use crate::lent;
 use homralgyu::raw;
 use second::answer::number;
+use second::frame::LONGEST_FRAME;
 use second::frame;
 use second::generate::*;
 use second::stream::{self, Event, Step, Tray};
@@ -85,7 +86,7 @@ const ENOUGH: Places = Places { tray: 3, told: 3, header: 15 };
 pub fn whole(rng: &mut Rng, judge: &mut Judge, input: &[u8]) {
     let cuts = cutting(rng, input.len());
     let mut tray = Tray::default();
-    let mut bytes = vec![0; 1103];
+    let mut bytes = vec![0; LONGEST_FRAME];
     let mut rest = input;
     for size in cuts.into_iter().chain([usize::MAX]) {
         let (mut portion, behind) = rest.split_at(size.min(rest.len()));
@@ -121,7 +122,7 @@ pub fn noisy(rng: &mut Rng, judge: &mut Judge) {
 pub fn odd(rng: &mut Rng, judge: &mut Judge) {
     let (mut tray, mut bytes) = if rng.one_in(2) { unsound_tray(rng) } else { tray(rng) };
     if rng.one_in(12) {
-        let size = buffer_size(rng, 1103);
+        let size = buffer_size(rng, LONGEST_FRAME);
         bytes.resize(size, 0);
     }
     let places = if rng.one_in(8) {

@@ -2,6 +2,7 @@
 
 use crate::judge::hex;
 use crate::lent::{self, Lent};
+use second::book::BOOK_BYTES;
 use second::book;
 use second::desk::Desk;
 use second::generate::{self, *};
@@ -72,8 +73,8 @@ pub fn fresh(rng: &mut Rng, desk: &Desk) -> Table {
     let surplus = rng.pick(&[0, 0, 1, 9]);
     Table {
         numbers: desk.numbers().to_vec(),
-        live: lent_bytes(rng, 192 + surplus),
-        run: lent_bytes(rng, 192 + surplus),
+        live: lent_bytes(rng, BOOK_BYTES + surplus),
+        run: lent_bytes(rng, BOOK_BYTES + surplus),
     }
 }
 

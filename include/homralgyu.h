@@ -20,6 +20,14 @@
 extern "C" {
 #endif
 
+/* The sizes of document 01 that a caller lends by: bytes, and entries of a sheet. */
+#define HOMRALGYU_LONGEST_PAYLOAD 1023
+#define HOMRALGYU_LONGEST_FRAME 1103 /* also a tray */
+#define HOMRALGYU_SHEET_ROOM 8184
+#define HOMRALGYU_BOOK_BYTES 192
+#define HOMRALGYU_KEPT_ROOM 227
+#define HOMRALGYU_LOG_ROOM 4096
+
 /* A header: fifteen numbers. */
 enum homralgyu_header {
     HOMRALGYU_LENGTH,                /* bytes of the whole frame */

@@ -11,7 +11,7 @@ enum { SOLUTION = 5, PROCESSOR = 11, GPS = 0, HPAC = 1, GAD = 2, PORTION = 40 };
 /* Everything that a job lends to its calls. */
 struct job {
     uint64_t desk[HOMRALGYU_DESK], tray[3], told[5], header[HOMRALGYU_HEADER];
-    uint8_t bytes[1103], live[192], run[192], log[4096];
+    uint8_t bytes[HOMRALGYU_LONGEST_FRAME], live[HOMRALGYU_BOOK_BYTES], run[HOMRALGYU_BOOK_BYTES], log[HOMRALGYU_LOG_ROOM];
 };
 
 struct input {
@@ -38,7 +38,7 @@ static void print_bytes(const char *what, const uint8_t *bytes, size_t size)
 /* A sheet as a plain frame at the end of the input. */
 static void add(struct input *input, uint8_t type, uint8_t solution, uint64_t tag, const uint64_t *sheet, size_t entries)
 {
-    uint8_t payload[1023], frame[1103];
+    uint8_t payload[HOMRALGYU_LONGEST_PAYLOAD], frame[HOMRALGYU_LONGEST_FRAME];
     uint64_t counts[2], size[1];
     must(homralgyu_sheet_write(type, GPS, sheet, entries, payload, sizeof payload, counts, 2), "sheet_write");
     must(homralgyu_frame_write(type, 2, GPS, 0, tag, solution, PROCESSOR, payload, counts[1], frame, sizeof frame, size, 1),
@@ -116,7 +116,7 @@ static void find(const struct job *job, uint8_t id)
 /* The live book of one desk, kept, and taken in by another. */
 static void hand_over(const struct job *from, struct job *to)
 {
-    uint8_t kept[227], bytes[192];
+    uint8_t kept[HOMRALGYU_KEPT_ROOM], bytes[HOMRALGYU_BOOK_BYTES];
     uint64_t written[1], book[2];
     must(homralgyu_kept_write(&from->desk[HOMRALGYU_DESK_AIOU], 2, from->live, sizeof from->live, kept, sizeof kept, written, 1),
          "kept_write");

@@ -4,7 +4,7 @@ use homralgyu::{Desk, Event, Parts, Refusal, Stream};
 
 /// A sheet of GPS as a plain frame.
 fn frame_of(message_type: u8, sheet: &[u64]) -> Result<Vec<u8>, Refusal> {
-    let mut payload = [0; 1023];
+    let mut payload = [0; homralgyu::LONGEST_PAYLOAD];
     let (bits, bytes) = homralgyu::write_sheet(message_type, 0, sheet, &mut payload)?;
     println!("payload of {bits} bits in {bytes} bytes");
     let parts = Parts {
@@ -16,7 +16,7 @@ fn frame_of(message_type: u8, sheet: &[u64]) -> Result<Vec<u8>, Refusal> {
         solution: 5,
         processor: 11,
     };
-    let mut frame = vec![0; 1103];
+    let mut frame = vec![0; homralgyu::LONGEST_FRAME];
     let length = homralgyu::write(&parts, &payload[..bytes], &mut frame)?;
     frame.truncate(length);
     Ok(frame)
@@ -38,7 +38,7 @@ fn find_and_read() -> Result<(), Refusal> {
             Event::Frame(header) => {
                 println!("frame {} {} {}", header.length, header.parts.message_type, header.parts.subtype);
                 let (header, payload) = homralgyu::open(stream.frame())?;
-                let mut back = vec![0; 8184];
+                let mut back = vec![0; homralgyu::SHEET_ROOM];
                 let (bits, entries) = homralgyu::read_payload(
                     header.parts.message_type,
                     header.parts.subtype,
@@ -61,7 +61,7 @@ fn desk() -> Result<(), Refusal> {
     let message = frame_of(1, &[0, 3, 0, 0, 5, 9, 0, 0])?;
     let definition = frame_of(2, &[0, 3, 0, 0, 5, 900, 0, 1, 0, 0, 0])?;
     let mut desk = Desk::new(5, 11, 0)?;
-    let mut log = [0; 4096];
+    let mut log = [0; homralgyu::LOG_ROOM];
     let written = desk.take(&message, &mut log)?;
     println!("log {:02X?}", &log[..written]);
     desk.take(&definition, &mut log)?;

@@ -20,6 +20,19 @@
 //! # }
 //! ```
 
+/// The longest payload, in bytes (document 01).
+pub const LONGEST_PAYLOAD: usize = 1023;
+/// The longest frame, in bytes; also a tray.
+pub const LONGEST_FRAME: usize = 1103;
+/// The entries that reading a payload wants.
+pub const SHEET_ROOM: usize = 8184;
+/// The bytes of a book.
+pub const BOOK_BYTES: usize = 192;
+/// The bytes that writing a kept book wants.
+pub const KEPT_ROOM: usize = 227;
+/// The bytes of log that a frame wants.
+pub const LOG_ROOM: usize = 4096;
+
 /// The functions of `include/homralgyu.h`, on slices of any size: what document 01 calls ROOM is theirs to say.
 pub mod raw {
     extern "C" {
@@ -729,7 +742,7 @@ pub enum Event {
 /// A stream's tray.
 #[derive(Clone, Debug)]
 pub struct Stream {
-    bytes: [u8; 1103],
+    bytes: [u8; LONGEST_FRAME],
     tray: [u64; 3],
 }
 
@@ -741,7 +754,7 @@ impl Default for Stream {
 
 impl Stream {
     pub fn new() -> Stream {
-        Stream { bytes: [0; 1103], tray: [0; 3] }
+        Stream { bytes: [0; LONGEST_FRAME], tray: [0; 3] }
     }
 
     /// Takes input until an event is due or all of it is used: the event, and how many bytes were used.
@@ -777,7 +790,7 @@ fn event(told: &[u64; 3], header: &[u64; 15]) -> Event {
 #[derive(Clone, Debug)]
 pub struct Book {
     numbers: [u64; 2],
-    bytes: [u8; 192],
+    bytes: [u8; BOOK_BYTES],
 }
 
 impl Default for Book {
@@ -789,7 +802,7 @@ impl Default for Book {
 impl Book {
     /// an empty book
     pub fn new() -> Book {
-        Book { numbers: [0; 2], bytes: [0; 192] }
+        Book { numbers: [0; 2], bytes: [0; BOOK_BYTES] }
     }
 
     /// Takes a GAD payload, whole or not at all.
@@ -802,7 +815,7 @@ impl Book {
         &self.bytes[..6 * self.numbers[1] as usize]
     }
 
-    /// Writes the book as a kept book into 227 bytes or more: the bytes written.
+    /// Writes the book as a kept book into `KEPT_ROOM` bytes or more: the bytes written.
     pub fn keep(&self, out: &mut [u8]) -> Result<usize, Refusal> {
         let mut written = [0];
         answer(raw::kept_write(&self.numbers, &self.bytes, out, &mut written), ())
@@ -828,14 +841,14 @@ impl Book {
 #[derive(Clone, Debug)]
 pub struct Desk {
     numbers: [u64; 9],
-    live: [u8; 192],
-    run: [u8; 192],
+    live: [u8; BOOK_BYTES],
+    run: [u8; BOOK_BYTES],
 }
 
 impl Desk {
     /// A desk for one solution, processor and constellation (0 GPS to 4 QZSS), without a book and without a run.
     pub fn new(solution: u8, processor: u8, constellation: u8) -> Result<Desk, Refusal> {
-        let mut desk = Desk { numbers: [0; 9], live: [0; 192], run: [0; 192] };
+        let mut desk = Desk { numbers: [0; 9], live: [0; BOOK_BYTES], run: [0; BOOK_BYTES] };
         answer(raw::desk_new(solution, processor, constellation, &mut desk.numbers), ())?;
         Ok(desk)
     }
@@ -888,14 +901,14 @@ pub enum Prepared {
 pub struct Prepare {
     stream: Stream,
     desk: Desk,
-    log: [u8; 4096],
+    log: [u8; LOG_ROOM],
     logged: usize,
 }
 
 impl Prepare {
     /// The start of a stream to this desk.
     pub fn new(desk: Desk) -> Prepare {
-        Prepare { stream: Stream::new(), desk, log: [0; 4096], logged: 0 }
+        Prepare { stream: Stream::new(), desk, log: [0; LOG_ROOM], logged: 0 }
     }
 
     /// Takes input until an event is due or all of it is used: the event, and how many bytes were used.

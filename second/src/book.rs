@@ -251,11 +251,11 @@ mod tests {
 
     #[test]
     fn what_makes_a_book_unsound() {
-        let mut bytes = [0u8; 192];
+        let mut bytes = [0u8; BOOK_BYTES];
         put(&[area(5, 900, 0, 0), area(9, 900, 0, 0)], &mut bytes);
         let book = Book { aiou: Some(15), count: 2 };
         assert!(sound(&book, &bytes));
-        assert!(sound(&Book::default(), &[0xFF; 192]));
+        assert!(sound(&Book::default(), &[0xFF; BOOK_BYTES]));
         assert!(!sound(&Book { aiou: Some(16), count: 2 }, &bytes));
         assert!(!sound(&Book { aiou: None, count: 2 }, &bytes));
         assert!(!sound(&Book { aiou: Some(1), count: 0 }, &bytes));

@@ -91,8 +91,8 @@ mod tests {
 
     #[test]
     fn the_empty_book() {
-        let mut out = [0xA5; 227];
-        assert_eq!(write(&Book::default(), &[0; 192], &mut out), Ok(3));
+        let mut out = [0xA5; KEPT_BYTES];
+        assert_eq!(write(&Book::default(), &[0; BOOK_BYTES], &mut out), Ok(3));
         assert_eq!(out[..4], [1, 0, 0, 0xA5]);
         assert_eq!(answer(&out[..3]), Ok(Book::default()));
         assert_eq!(answer(&out[..2]), Err(Refusal::Short));
@@ -104,17 +104,17 @@ mod tests {
     fn a_full_book_takes_227_bytes_and_comes_back() {
         let held: Vec<_> = (224..256).map(area).collect();
         let book = Book { aiou: Some(15), count: 32 };
-        let mut bytes = [0u8; 192];
+        let mut bytes = [0u8; BOOK_BYTES];
         put(&held, &mut bytes);
-        let mut out = [0u8; 227];
+        let mut out = [0u8; KEPT_BYTES];
         assert_eq!(write(&book, &bytes, &mut out[..226]), Err(Refusal::Room));
         assert_eq!(write(&book, &bytes[..191], &mut out), Err(Refusal::Room));
         assert_eq!(write(&Book { count: 31, aiou: None }, &bytes, &mut out), Err(Refusal::State));
-        assert_eq!(write(&book, &bytes, &mut out), Ok(227));
-        let mut back = [0u8; 192];
+        assert_eq!(write(&book, &bytes, &mut out), Ok(KEPT_BYTES));
+        let mut back = [0u8; BOOK_BYTES];
         assert_eq!(read(&out, &mut back), Ok(book));
         assert_eq!(back, bytes);
-        for end in 0..227 {
+        for end in 0..KEPT_BYTES {
             assert_eq!(answer(&out[..end]), Err(Refusal::Short));
         }
     }

@@ -113,7 +113,7 @@ mod tests {
         input.extend(hpac(43200, &payload));
         input.extend(hpac(43199, &payload));
         let (mut tray, mut live, mut run, mut log) =
-            (vec![0; 1103], vec![0; 192], vec![0; 192], vec![0; 4096]);
+            (vec![0; LONGEST_FRAME], vec![0; BOOK_BYTES], vec![0; BOOK_BYTES], vec![0; LOG_BYTES]);
         let mut lent = Lent { tray: &mut tray, live: &mut live, run: &mut run, log: &mut log };
         let mut state = new(5, 11, 0).unwrap();
         let mut joined = Vec::new();
@@ -145,7 +145,7 @@ mod tests {
         let mut state = new(5, 11, 0).unwrap();
         state.tray.held = 2000;
         state.desk.solution = 128;
-        let sizes = [1103usize, 192, 192, 4096];
+        let sizes = [LONGEST_FRAME, BOOK_BYTES, BOOK_BYTES, LOG_BYTES];
         for short in 0..5 {
             let mut buffers: Vec<Vec<u8>> =
                 sizes.iter().enumerate().map(|(i, &size)| vec![0; size - (i == short) as usize]).collect();
