@@ -1,2 +1,4 @@
 pub mod Number
+pub mod Stop
+pub mod Matched
 pub mod Determined

@@ -1,6 +1,7 @@
 // The refusals of document 01, "Answer numbers". OK, number 0, is no refusal: each call has an answer of its own for it.
 ghost use mathlib.Core.Path.{_≡_};
 ghost use Rattle.answer.specs.Number.{numberOf};
+ghost use Rattle.answer.specs.Matched.{Matched};
 
 pub enum Refusal {
     Short,
@@ -23,9 +24,8 @@ pub enum Refusal {
     Form,
 }
 
-// The refusal's number in document 01.
-pub fn number(refusal: Refusal) -> u8
-    ensures { λ r. ⌜ r ≡ numberOf refusal ⌝ }
+fn number_by_refusal(refusal: Refusal) -> u8
+    ensures { λ r. ⌜ Matched numberOf refusal r ⌝ }
 {
     match refusal {
         Refusal::Short => 1,
@@ -47,4 +47,11 @@ pub fn number(refusal: Refusal) -> u8
         Refusal::State => 17,
         Refusal::Form => 18,
     }
+}
+
+// The refusal's number in document 01.
+pub fn number(refusal: Refusal) -> u8
+    ensures { λ r. ⌜ r ≡ numberOf refusal ⌝ }
+{
+    number_by_refusal(refusal)
 }
