@@ -23,13 +23,14 @@ pick false a b = b
 
 -- ---- the codes a field takes
 
--- least to most, and the one code `extra`; below least the field's own refusal, FIELD for any other
+-- the one code `extra`, and least to most without the one code `except`, which is FIELD; below and above the field's own refusals
 unfoldable pub judge : Field → ℕ → Verdict
 judge f c =
     pick (eqb c (f .extra)) Taken (
     pick (ltb c (f .least)) (Fault (f .under)) (
-    pick (leb c (f .most)) Taken (
-    Fault refusal.Field)))
+    pick (ltb (f .most) c) (Fault (f .over)) (
+    pick (eqb c (f .except)) (Fault refusal.Field)
+    Taken)))
 
 -- ---- reading
 
@@ -83,12 +84,12 @@ abbrev pub behind : List ℕ → Written → Written
 behind bs (written cs) = written (bs ++ cs)
 behind bs (unwritten why) = unwritten why
 
--- at each field SHORT if the sheet has ended, FIELD for a code too wide, then its verdict; at the end LEFTOVER for a sheet that goes on
+-- at each field SHORT if the sheet has ended, then its verdict, then FIELD for a code too wide; at the end LEFTOVER for a sheet that goes on
 unfoldable pub writeL : {A : Type 0} → Layout A → List ℕ → Written
 writeL (done v) [] = written []
 writeL (done v) (c ∷ cs) = unwritten refusal.Leftover
 writeL (field f next) [] = unwritten refusal.Short
 writeL (field f next) (c ∷ cs) =
-    fitting (ltb c (2 ^ f .width)) (
     judgedW (judge f c) (
+    fitting (ltb c (2 ^ f .width)) (
     behind (bitsOf (f .width) c) (writeL (next c) cs)))

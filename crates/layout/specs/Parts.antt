@@ -8,7 +8,7 @@ use Rattle.layout.specs.Layout.{Layout}
 
 -- 0 to most
 abbrev pub upTo : (sf width most : ℕ) → Field
-upTo sf width most = record { sf = sf; width = width; least = 0; most = most; extra = most; under = refusal.Field }
+upTo sf width most = record { sf = sf; width = width; least = 0; most = most; extra = most; except = most; under = refusal.Field; over = refusal.Field }
 
 -- every code of its width
 abbrev pub free : (sf width : ℕ) → Field

@@ -20,16 +20,15 @@ use Rattle.layout.specs.declared.Verdict.{Verdict}
 use Rattle.layout.specs.declared.Verdict.the-variants.{Taken, Fault}
 use Rattle.layout.specs.Layout.{Layout, done, field, pick, judge, Written, written, unwritten, fitting, judgedW, behind, writeL}
 use Rattle.layout.specs.Walks.{Walks, ends, goes}
-use Rattle.layout.specs.Run.{Ended, finished, stopped, judgedE, taken-fits, wide-fault, On}
+use Rattle.layout.specs.Run.{Ended, finished, stopped, judgedE, taken-fits, On}
 
 unfoldable pub putL : {A : Type 0} → Layout A → (sheet : List ℕ) (pos at : ℕ) (out : List ℕ) → Ended
 putL (done v) [] pos at out = finished at pos out
 putL (done v) (c ∷ cs) pos at out = stopped refusal.Leftover
 putL (field f next) [] pos at out = stopped refusal.Short
 putL (field f next) (c ∷ cs) pos at out =
-    pick (ltb c (2 ^ f .width))
-    (judgedE (judge f c) (putL (next c) cs (pos + f .width) (at + 1) (sets out pos (bitsOf (f .width) c))))
-    (stopped refusal.Field)
+    judgedE (judge f c)
+    (pick (ltb c (2 ^ f .width)) (putL (next c) cs (pos + f .width) (at + 1) (sets out pos (bitsOf (f .width) c))) (stopped refusal.Field))
 
 -- ---- a run comes to what the writing gives
 
@@ -68,10 +67,10 @@ put-writes (field f next) [] pos at out = refl
 put-writes (field f next) (c ∷ cs) pos at out =
     let w : ℕ = f .width in
     let o : Written = writeL (next c) cs in
-    ap (λ e. pick (ltb c (2 ^ w)) (judgedE (judge f c) e) (stopped refusal.Field))
+    ap (λ e. judgedE (judge f c) (pick (ltb c (2 ^ w)) e (stopped refusal.Field)))
     (put-writes (next c) cs (pos + w) (at + 1) (sets out pos (bitsOf w c)) ∙ ended-behind c w (length cs) o pos at out)
-    ∙ ap (λ e. pick (ltb c (2 ^ w)) e (stopped refusal.Field)) (ended-judged (judge f c) (behind (bitsOf w c) o) (suc (length cs)) pos at out)
-    ∙ ended-fitting (ltb c (2 ^ w)) (judgedW (judge f c) (behind (bitsOf w c) o)) (suc (length cs)) pos at out
+    ∙ ap (judgedE (judge f c)) (ended-fitting (ltb c (2 ^ w)) (behind (bitsOf w c) o) (suc (length cs)) pos at out)
+    ∙ ended-judged (judge f c) (fitting (ltb c (2 ^ w)) (behind (bitsOf w c) o)) (suc (length cs)) pos at out
 
 -- ---- a turn of the loop, at a state that walks what is left
 
@@ -100,11 +99,7 @@ module _ {S A : Type 0} {fieldOf : S → Field} {stepOf : S → ℕ → S} (shee
   put-fault c why (ends e) z h n j = absurd (omega arith)
   put-fault c why (goes {f} {next} e i rest) z h n j =
       let k : judge f c ≡ Fault why = ap (λ (x : Field). judge x c) (sym e) ∙ j in
-      rw (drop-cons sheet at 0 h, ← n, k) (go (ltb c (2 ^ f .width)) refl k)
-    where
-      go : (b : Bool) → ltb c (2 ^ f .width) ≡ b → judge f c ≡ Fault why → pick b (stopped why) (stopped refusal.Field) ≡ stopped why
-      go true p k = refl
-      go false p k = let q : judge f c ≡ Fault refusal.Field = wide-fault i (ltb-false c (2 ^ f .width) p) in cc
+      rw (drop-cons sheet at 0 h, ← n, k) refl
 
   pub put-on : {s : S} {l : Layout A} (c : ℕ) → Walks fieldOf stepOf s l → 0 < fieldOf s .width → at < length sheet
       → c ≡ getD sheet at 0 → judge (fieldOf s) c ≡ Taken

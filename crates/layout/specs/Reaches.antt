@@ -70,12 +70,12 @@ module _ {A : Type 0} where
           let inside : at < length sheet = ltb-true at (length sheet) p in
           let c : ℕ = getD sheet at 0 in
           let o : Written = writeL (next c) (drop (suc at) sheet) in
-          let e' : fitting (ltb c (2 ^ f .width)) (judgedW (judge f c) (behind (bitsOf (f .width) c) o)) ≡ written bits
+          let e' : judgedW (judge f c) (fitting (ltb c (2 ^ f .width)) (behind (bitsOf (f .width) c) o)) ≡ written bits
           = ap (writeL (field f next)) (sym (drop-cons sheet at 0 inside)) ∙ e in
-          let h1 = fitting-acc (ltb c (2 ^ f .width)) _ e' in
-          let h2 = judgedW-acc (judge f c) _ (h1 .1) in
+          let h1 = judgedW-acc (judge f c) _ e' in
+          let h2 = fitting-acc (ltb c (2 ^ f .width)) _ (h1 .1) in
           let h3 = behind-acc (bitsOf (f .width) c) o (h2 .1) in
-          (inside, h2 .0, ih c (h3 .0) (omega arith) (h3 .1))
+          (inside, h1 .0, ih c (h3 .0) (omega arith) (h3 .1))
       go false p ih =
           let all : at ≡ length sheet = omega (arith, ltb-false at (length sheet) p) in
           let e' : writeL (field f next) [] ≡ written bits = ap (writeL (field f next)) (sym (ap (λ x. drop x sheet) all ∙ drop-length sheet)) ∙ e in

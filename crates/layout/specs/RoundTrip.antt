@@ -121,14 +121,14 @@ module _ {A : Type 0} where
   read-write (field f next) (c ∷ cs) bs e =
       let w : ℕ = f .width in
       let o : Written = writeL (next c) cs in
-      let h1 : (ltb c (2 ^ w) ≡ true) × (judgedW (judge f c) (behind (bitsOf w c) o) ≡ written bs) = fitting-acc _ _ e in
-      let h2 : (judge f c ≡ Taken) × (behind (bitsOf w c) o ≡ written bs) = judgedW-acc _ _ (h1 .1) in
+      let h1 : (judge f c ≡ Taken) × (fitting (ltb c (2 ^ w)) (behind (bitsOf w c) o) ≡ written bs) = judgedW-acc _ _ e in
+      let h2 : (ltb c (2 ^ w) ≡ true) × (behind (bitsOf w c) o ≡ written bs) = fitting-acc _ _ (h1 .1) in
       let h3 : (q : List ℕ) × (o ≡ written q) × (bs ≡ bitsOf w c ++ q) = behind-acc (bitsOf w c) o (h2 .1) in
-      let fits : c < 2 ^ w = ltb-true _ _ (h1 .0) in
+      let fits : c < 2 ^ w = ltb-true _ _ (h2 .0) in
       let r = read-write (next c) cs (h3 .0) (h3 .1) in (
         r .0,
         λ rest. subst (λ (x : List ℕ). readL (field f next) (x ++ rest) ≡ accepted (r .0) (c ∷ cs) (length x)) (sym (h3 .2))
-            (read-step f next (r .0) c cs (h3 .0) rest fits (h2 .0) (r .1 rest)),
+            (read-step f next (r .0) c cs (h3 .0) rest fits (h1 .0) (r .1 rest)),
       )
 
   -- ---- what follows from them

@@ -7,7 +7,7 @@ use Prim.Native.Nat.{ℕ, zero, suc, _+_, _^_, _≤_, _<_}
 use native.Mathlib.Nat.{add-zero, add-assoc}
 use native.Mathlib.Numerals.{add-one}
 use native.Mathlib.Omega.{arith}
-use borrow.Author.Tests.{le-leb, lt-leb, le-ltb, ltb-true, leb-true, eqb-true, ne-eqb}
+use borrow.Author.Tests.{le-leb, lt-leb, ltb-false, eqb-true}
 use lib.Dec.{eqb, ltb, leb}
 use lib.ListN.{length, take, drop, set, length-drop}
 use lib.Seq.{sets, drop-drop}
@@ -74,28 +74,36 @@ module _ {A : Type 0} where
 
 -- ---- codes that a field takes fit its width
 
-judge-cases : (f : Field) (c : ℕ) → judge f c ≡ Taken → Fine f → c < 2 ^ f .width
+-- it is the one code `extra`, or at most `most`
+pub data Takes (f : Field) (c : ℕ) : Type 0 where
+  extra : c ≡ f .extra → Takes f c
+  range : c ≤ f .most → Takes f c
+
+pub taken-within : (f : Field) (c : ℕ) → judge f c ≡ Taken → Takes f c
 unfolding judge
-judge-cases f c e h = go (eqb c (f .extra)) (ltb c (f .least)) (leb c (f .most)) refl refl refl e
+taken-within f c e = go (eqb c (f .extra)) (ltb c (f .least)) (ltb (f .most) c) refl refl e
   where
-    go : (x y z : Bool) → eqb c (f .extra) ≡ x → ltb c (f .least) ≡ y → leb c (f .most) ≡ z
-        → pick x Taken (pick y (Fault (f .under)) (pick z Taken (Fault refusal.Field))) ≡ Taken → c < 2 ^ f .width
-    go true y z p q r e = omega (arith, eqb-true c (f .extra) p, h .extra)
-    go false true z p q r e = let x : _≡_ {A = ℕ} 0 1 = cc in absurd (omega arith)
-    go false false true p q r e = omega (arith, leb-true c (f .most) r, h .most)
-    go false false false p q r e = let x : _≡_ {A = ℕ} 0 1 = cc in absurd (omega arith)
+    go : (x y z : Bool) → eqb c (f .extra) ≡ x → ltb (f .most) c ≡ z
+        → pick x Taken (pick y (Fault (f .under)) (pick z (Fault (f .over)) (pick (eqb c (f .except)) (Fault refusal.Field) Taken))) ≡ Taken → Takes f c
+    go true y z p r e = extra (eqb-true c (f .extra) p)
+    go false true z p r e = let x : _≡_ {A = ℕ} 0 1 = cc in absurd (omega arith)
+    go false false true p r e = let x : _≡_ {A = ℕ} 0 1 = cc in absurd (omega arith)
+    go false false false p r e = range (ltb-false (f .most) c r)
 
 pub taken-fits : {f : Field} {c : ℕ} → Fine f → judge f c ≡ Taken → c < 2 ^ f .width
-taken-fits {f} {c} h e = judge-cases f c e h
+taken-fits {f} {c} h e = go (taken-within f c e)
+  where
+    go : Takes f c → c < 2 ^ f .width
+    go (extra p) = omega (arith, h .extra)
+    go (range p) = omega (arith, h .most)
 
--- a code too wide for its field is FIELD by the field's range too
-pub wide-fault : {f : Field} {c : ℕ} → Fine f → 2 ^ f .width ≤ c → judge f c ≡ Fault refusal.Field
-unfolding judge
-wide-fault {f} {c} h w =
-    let x : eqb c (f .extra) ≡ false = ne-eqb c (f .extra) (λ e. omega (arith, h .extra)) in
-    let y : ltb c (f .least) ≡ false = le-ltb c (f .least) (omega (arith, h .order, h .most)) in
-    let z : leb c (f .most) ≡ false = lt-leb c (f .most) (omega (arith, h .most)) in
-    rw (x, y, z)
+-- where `extra` is the highest code
+pub taken-most : (f : Field) (c : ℕ) → f .most ≤ f .extra → judge f c ≡ Taken → c ≤ f .extra
+taken-most f c h e = go (taken-within f c e)
+  where
+    go : Takes f c → c ≤ f .extra
+    go (extra p) = omega arith
+    go (range p) = omega arith
 
 -- ---- a turn of the loop, at a state that walks what is left
 

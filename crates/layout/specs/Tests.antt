@@ -1,5 +1,5 @@
--- Serves proofs, and is proved: a test of the code where a definition picks, a `match` where it goes by cases, and a count that goes down.
-use mathlib.Core.Path.{_≡_, ap, sym, _∙_}
+-- Serves proofs, and is proved: a test of the code where a definition picks, and a count that goes down.
+use mathlib.Core.Path.{_≡_, ap, _∙_}
 use Prim.Native.Nat.{ℕ, suc, _-_, _≤_, _<_}
 use native.Mathlib.Omega.{arith}
 use borrow.Author.Tests.{eq-eqb, ne-eqb, lt-ltb, le-ltb, le-leb, lt-leb}
@@ -32,18 +32,6 @@ if-less a b y e h = rw (lt-ltb a b e) h
 
 pub if-from : {B : Type 0} (a b : ℕ) (x : B) {y r : B} → b ≤ a → r ≡ y → r ≡ pick (ltb a b) x y
 if-from a b x e h = rw (le-ltb a b e) h
-
--- an arm of a `match` on s, which is v there
-pub arm : {S A : Type 0} (f : S → A) {s v : S} {r : A} → s ≡ v → r ≡ f v → r ≡ f s
-arm f e h = h ∙ ap f (sym e)
-
--- What a function that is one `match` on s ensures of its result: it is f of s, given `arm`. So the search has `arm` at hand and
--- closes each of the arms, however many there are: such a function has no file of proofs. Its caller says `matched`.
-abbrev pub Matched : {S A : Type 0} → (f : S → A) (s : S) (r : A) → Type 0
-Matched {S} {A} f s r = ((v : S) (x : A) → s ≡ v → x ≡ f v → x ≡ f s) → r ≡ f s
-
-pub matched : {S A : Type 0} (f : S → A) {s : S} {r : A} → Matched f s r → r ≡ f s
-matched f h = h (λ v x e q. arm f e q)
 
 -- a field whose number an inner call gave
 pub sf-free : (w : ℕ) {sf sf' : ℕ} {r : Field} → r ≡ free sf w → sf ≡ sf' → r ≡ free sf' w

@@ -18,7 +18,6 @@ use Rattle.layout.specs.Parts.{free, absent, present, optional, times, e
 pub record Fine (f : Field) : Type 0 where
   pub some : 0 < f .width
   pub word : f .width ≤ 64
-  pub order : f .least ≤ f .most
   pub most : f .most < 2 ^ f .width
   pub extra : f .extra < 2 ^ f .width
 
@@ -38,20 +37,18 @@ abbrev fits : Field → Bool
 fits f = both (ltb (f .most) (2 ^ f .width)) (ltb (f .extra) (2 ^ f .width))
 
 abbrev pub isFine : Field → Bool
-isFine f = both (ltb 0 (f .width)) (both (leb (f .width) 64) (both (leb (f .least) (f .most)) (fits f)))
+isFine f = both (ltb 0 (f .width)) (both (leb (f .width) 64) (fits f))
 
 -- of a field that is written out, `fine tt`
 pub fine : {f : Field} → T (isFine f) → Fine f
 fine {f} t =
     let t1 = both-second (ltb 0 (f .width)) _ t in
-    let t2 = both-second (leb (f .width) 64) _ t1 in
-    let t3 = both-second (leb (f .least) (f .most)) (fits f) t2 in
+    let t2 = both-second (leb (f .width) 64) (fits f) t1 in
     record {
       some = ltb→lt _ _ (both-first (ltb 0 (f .width)) _ t);
-      word = leb→le _ _ (both-first (leb (f .width) 64) _ t1);
-      order = leb→le _ _ (both-first (leb (f .least) (f .most)) (fits f) t2);
-      most = ltb→lt _ _ (both-first (ltb (f .most) (2 ^ f .width)) (ltb (f .extra) (2 ^ f .width)) t3);
-      extra = ltb→lt _ _ (both-second (ltb (f .most) (2 ^ f .width)) (ltb (f .extra) (2 ^ f .width)) t3);
+      word = leb→le _ _ (both-first (leb (f .width) 64) (fits f) t1);
+      most = ltb→lt _ _ (both-first (ltb (f .most) (2 ^ f .width)) (ltb (f .extra) (2 ^ f .width)) t2);
+      extra = ltb→lt _ _ (both-second (ltb (f .most) (2 ^ f .width)) (ltb (f .extra) (2 ^ f .width)) t2);
     }
 
 -- a field that takes its full width
@@ -60,7 +57,6 @@ fine-free sf w p q =
     record {
       some = p;
       word = q;
-      order = omega arith;
       most = omega (arith, pow-pos w);
       extra = omega (arith, pow-pos w);
     }

@@ -4,15 +4,19 @@ ghost use Rattle.layout.specs.Layout.{judge};
 ghost use Rattle.layout.specs.Parts.{upTo};
 use answer::Refusal;
 
-// Its number in its document, its width in bits, and the codes it takes: least to most, and the one code `extra`.
-// A code below `least` is refused as `under` says; any other that is not taken is FIELD.
+// Its number in its document, its width in bits, and the codes it takes: the one code `extra`, and
+// least to most without the one code `except`. A code below `least` is refused as `under` says, one
+// above `most` as `over` says, and `except` is FIELD. `extra` comes first: a field that leaves out
+// no code names it as `except` too.
 pub struct Field {
     pub sf: u64,
     pub width: u32,
     pub least: u64,
     pub most: u64,
     pub extra: u64,
+    pub except: u64,
     pub under: Refusal,
+    pub over: Refusal,
 }
 
 // What a field says of a code.
@@ -31,11 +35,13 @@ pub fn up_to(sf: u64, width: u32, most: u64) -> Field
         least: 0,
         most: most,
         extra: most,
+        except: most,
         under: Refusal::Field,
+        over: Refusal::Field,
     }
 }
 
-// Least to most, and the one code `extra`.
+// The one code `extra`, then least to most, then the one code `except`.
 pub fn judge(field: Field, code: u64) -> Verdict
     ensures { λ r. ⌜ r ≡ judge field code ⌝ }
 {
@@ -46,8 +52,12 @@ pub fn judge(field: Field, code: u64) -> Verdict
         let under = field.under;
         return Verdict::Fault(under);
     }
-    if code <= field.most {
-        return Verdict::Taken;
+    if field.most < code {
+        let over = field.over;
+        return Verdict::Fault(over);
     }
-    Verdict::Fault(Refusal::Field)
+    if code == field.except {
+        return Verdict::Fault(Refusal::Field);
+    }
+    Verdict::Taken
 }
