@@ -5,8 +5,8 @@ use lib.Count.{ones}
 use lib.Dec.{eqb}
 use Rattle.layout.specs.declared.Field.{Field}
 use Rattle.layout.specs.Layout.{Layout, field, pick}
-use Rattle.layout.specs.Parts.{free, upTo, times}
-use Rattle.codes.specs.Fields.{steps, orInvalid}
+use Rattle.layout.specs.Parts.{free, times}
+use Rattle.fields.specs.Fields.{sf}
 
 pub record Vtec : Type 0 where
   pub quality : ℕ
@@ -44,27 +44,27 @@ setBits (m ∷ ms) = ones m + setBits ms
 
 -- by SF081
 abbrev pub vtecResidual : ℕ → Field
-vtecResidual size = pick (eqb size 0) (orInvalid 82 7) (orInvalid 83 11)
+vtecResidual size = pick (eqb size 0) (sf 82) (sf 83)
 
 -- table 6.28
 abbrev pub vtec : {A : Type 0} → (Vtec → Layout A) → Layout A
 vtec k =
-    field (free 55 4) (λ quality.
-    field (free 81 1) (λ size.
+    field (sf 55) (λ quality.
+    field (sf 81) (λ size.
     field (vtecResidual size) (λ residual.
     k (record { quality = quality; size = size; residual = residual }))))
 
 -- tables 6.26 and 6.27: "average VTEC before the node mask, one VTEC block per set mask bit"; SF075 and SF076 mean code plus one
 abbrev pub area : {A : Type 0} → (Area → Layout A) → Layout A
 area k =
-    field (free 72 2) (λ id.
-    field (upTo 73 8 170) (λ latitude.
-    field (upTo 74 9 360) (λ longitude.
-    field (free 75 4) (λ rows.
-    field (free 76 4) (λ columns.
-    field (free 77 2) (λ latitudeSpacing.
-    field (free 78 2) (λ longitudeSpacing.
-    field (steps 80 12) (λ average.
+    field (sf 72) (λ id.
+    field (sf 73) (λ latitude.
+    field (sf 74) (λ longitude.
+    field (sf 75) (λ rows.
+    field (sf 76) (λ columns.
+    field (sf 77) (λ latitudeSpacing.
+    field (sf 78) (λ longitudeSpacing.
+    field (sf 80) (λ average.
     nodeMask (suc rows * suc columns) (λ mask.
     times (setBits mask) vtec (λ nodes.
     k (record {
@@ -83,9 +83,9 @@ area k =
 -- table 6.25; SF071 means code plus one
 abbrev pub bpac : {A : Type 0} → (Bpac → Layout A) → Layout A
 bpac k =
-    field (free 5 9) (λ siou.
-    field (free 69 1) (λ reserved.
-    field (free 70 2) (λ height.
-    field (free 71 2) (λ count.
+    field (sf 5) (λ siou.
+    field (sf 69) (λ reserved.
+    field (sf 70) (λ height.
+    field (sf 71) (λ count.
     times (suc count) area (λ areas.
     k (record { siou = siou; height = height; areas = areas }))))))

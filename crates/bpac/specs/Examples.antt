@@ -3,6 +3,7 @@ use mathlib.Core.Path.{_≡_, refl}
 use mathlib.Core.List.{List, [], _∷_}
 use lib.Count.{ones, onesIn}
 use Rattle.bits.specs.Bits.{bitsOf, toBits, number}
+use Rattle.fields.specs.Fields.{table, find, lineOf, sf}
 use Rattle.layout.specs.Layout.{done, judge, Outcome, accepted, readL}
 use Rattle.bpac.specs.Bpac.{bpac}
 
@@ -28,5 +29,5 @@ nodes-72 : readL (bpac done)
     })
     (5 ∷ 0 ∷ 1 ∷ 0 ∷ 3 ∷ 85 ∷ 180 ∷ 8 ∷ 7 ∷ 0 ∷ 1 ∷ 2047 ∷ 1 ∷ 128 ∷ 1 ∷ 0 ∷ 127 ∷ 2 ∷ 1 ∷ 2047 ∷ [])
     157
-unfolding readL judge toBits bitsOf number ones onesIn
+unfolding readL judge table find lineOf sf toBits bitsOf number ones onesIn
 nodes-72 = refl

@@ -12,9 +12,9 @@ use Rattle.layout.specs.Layout.{Layout, field, pick}
 use Rattle.layout.specs.Parts.{upTo, free, times}
 use Rattle.layout.specs.Walks.{Walks, goes, fine, fine-free, fine-pick, Leads, leads-times}
 use Rattle.layout.specs.Tests.{one-less}
+use Rattle.fields.specs.Fields.{table, find, lineOf, sf}
 use Rattle.bpac.specs.declared.State.{State}
 use Rattle.bpac.specs.declared.State.the-variants.{Siou, Reserved, Height, Count, Id, Latitude, Longitude, Rows, Columns, LatitudeSpacing, LongitudeSpacing, Average, Nodes, Quality, Size, Residual, Done}
-use Rattle.codes.specs.Fields.{steps}
 use Rattle.bpac.specs.Bpac.{Vtec, Area, nodeMask, setBits, vtecResidual, vtec, area, bpac}
 
 -- ---- the field at hand
@@ -25,21 +25,21 @@ groupField last zero = free 79 (last % 64 + 1)
 groupField last (suc groups) = free 79 64
 
 abbrev pub bpacField : State → Field
-bpacField Siou = free 5 9
-bpacField Reserved = free 69 1
-bpacField Height = free 70 2
-bpacField Count = free 71 2
-bpacField (Id more) = free 72 2
-bpacField (Latitude more) = upTo 73 8 170
-bpacField (Longitude more) = upTo 74 9 360
-bpacField (Rows more) = free 75 4
-bpacField (Columns more rows) = free 76 4
-bpacField (LatitudeSpacing more last) = free 77 2
-bpacField (LongitudeSpacing more last) = free 78 2
-bpacField (Average more last) = steps 80 12
+bpacField Siou = sf 5
+bpacField Reserved = sf 69
+bpacField Height = sf 70
+bpacField Count = sf 71
+bpacField (Id more) = sf 72
+bpacField (Latitude more) = sf 73
+bpacField (Longitude more) = sf 74
+bpacField (Rows more) = sf 75
+bpacField (Columns more rows) = sf 76
+bpacField (LatitudeSpacing more last) = sf 77
+bpacField (LongitudeSpacing more last) = sf 78
+bpacField (Average more last) = sf 80
 bpacField (Nodes more last groups seen) = groupField last groups
-bpacField (Quality more left) = free 55 4
-bpacField (Size more left) = free 81 1
+bpacField (Quality more left) = sf 55
+bpacField (Size more left) = sf 81
 bpacField (Residual more left size) = vtecResidual size
 bpacField Done = upTo 0 0 0
 
@@ -122,6 +122,7 @@ node-fits rows columns r c = let h : (rows + 1) * (columns + 1) ≤ 256 * 256 = 
 
 module _ {A : Type 0} where
   leads-vtec : (more n : ℕ) → Leads {A = A} bpacField bpacStep (blocksFrom more (suc n)) vtec (blocksFrom more n)
+  unfolding sf lineOf find table
   leads-vtec more n k rest =
       goes refl (fine tt) (λ _ _. goes refl (fine tt) (λ size _. goes refl (fine-pick (eqb size 0) (fine tt) (fine tt)) (λ _ _. rest _)))
 
@@ -142,6 +143,7 @@ module _ {A : Type 0} where
       subst (λ x. Walks bpacField bpacStep (blocksFrom more x) (k (c ∷ ms))) {x = seen + setBits (c ∷ ms)} {y = counted seen c + setBits ms} (omega arith) (rest (c ∷ ms))))
 
   leads-area : (n : ℕ) → Leads {A = A} bpacField bpacStep (areasFrom (suc n)) area (areasFrom n)
+  unfolding sf lineOf find table
   leads-area n k rest =
       goes refl (fine tt) (λ id _. goes refl (fine tt) (λ latitude _. goes refl (fine tt) (λ longitude _. goes refl (fine tt) (λ rows hr.
       goes refl (fine tt) (λ columns hc. goes refl (fine tt) (λ latitudeSpacing _. goes refl (fine tt) (λ longitudeSpacing _. goes refl (fine tt) (λ average _.
@@ -171,6 +173,7 @@ module _ {A : Type 0} where
       (leads-times bpacField bpacStep (blocksFrom n) (leads-vtec n) (setBits mask) _ (λ nodes. rest (body mask nodes)))))))))))))
 
   pub leads-bpac : Leads {A = A} bpacField bpacStep Siou bpac Done
+  unfolding sf lineOf find table
   leads-bpac k rest =
       goes refl (fine tt) (λ siou _. goes refl (fine tt) (λ _ _. goes refl (fine tt) (λ height _. goes refl (fine tt) (λ count _.
       leads-times bpacField bpacStep areasFrom leads-area (suc count) _ (λ areas. rest (record { siou = siou; height = height; areas = areas }))))))

@@ -1,6 +1,6 @@
 // BPAC, 3-0: tables 6.25 to 6.28. `more` areas come after the one at hand.
 ghost use mathlib.Core.Path.{_≡_};
-ghost use Rattle.layout.specs.Tests.{Matched};
+ghost use Rattle.answer.specs.Matched.{Matched};
 ghost use Prim.Native.Nat.{_%_};
 ghost use Rattle.bpac.specs.Machine.{bpacField, bpacStep, areasFrom, blocksFrom, groupField, groupsFrom, counted, lastNode};
 use codes::satellites::set_bits;
@@ -49,9 +49,9 @@ fn residual_field(size: u64) -> Field
     ensures { λ r. ⌜ r ≡ bpacField (State.Residual 0 0 size) ⌝ }
 {
     if size == 0 {
-        return up_to(82, 7, 127);
+        return fields::sf(82);
     }
-    up_to(83, 11, 2047)
+    fields::sf(83)
 }
 
 pub fn field_of(s: State) -> Field
@@ -64,21 +64,21 @@ fn field_by_state(s: State) -> Field
     ensures { λ r. ⌜ Matched bpacField s r ⌝ }
 {
     match s {
-        State::Siou => up_to(5, 9, 511),
-        State::Reserved => up_to(69, 1, 1),
-        State::Height => up_to(70, 2, 3),
-        State::Count => up_to(71, 2, 3),
-        State::Id(_) => up_to(72, 2, 3),
-        State::Latitude(_) => up_to(73, 8, 170),
-        State::Longitude(_) => up_to(74, 9, 360),
-        State::Rows(_) => up_to(75, 4, 15),
-        State::Columns(_, _) => up_to(76, 4, 15),
-        State::LatitudeSpacing(_, _) => up_to(77, 2, 3),
-        State::LongitudeSpacing(_, _) => up_to(78, 2, 3),
-        State::Average(_, _) => up_to(80, 12, 4094),
+        State::Siou => fields::sf(5),
+        State::Reserved => fields::sf(69),
+        State::Height => fields::sf(70),
+        State::Count => fields::sf(71),
+        State::Id(_) => fields::sf(72),
+        State::Latitude(_) => fields::sf(73),
+        State::Longitude(_) => fields::sf(74),
+        State::Rows(_) => fields::sf(75),
+        State::Columns(_, _) => fields::sf(76),
+        State::LatitudeSpacing(_, _) => fields::sf(77),
+        State::LongitudeSpacing(_, _) => fields::sf(78),
+        State::Average(_, _) => fields::sf(80),
         State::Nodes(_, last, groups, _) => group_field(last, groups),
-        State::Quality(_, _) => up_to(55, 4, 15),
-        State::Size(_, _) => up_to(81, 1, 1),
+        State::Quality(_, _) => fields::sf(55),
+        State::Size(_, _) => fields::sf(81),
         State::Residual(_, _, size) => residual_field(size),
         State::Done => up_to(0, 0, 0),
     }

@@ -6,6 +6,7 @@ use lib.ListN.{length}
 use Rattle.layout.specs.declared.Field.{Field}
 use Rattle.layout.specs.Parts.{free}
 use Rattle.layout.specs.Determined.{determined}
+use Rattle.fields.specs.Fields.{sf}
 use Rattle.codes.specs.declared.Constellation.{Constellation}
 use Rattle.codes.specs.declared.satellites.Satellites.{Satellites}
 use Rattle.codes.specs.Tables.{maskSize, biasSize, firstSatellite, maskSf}
@@ -20,7 +21,7 @@ bias-size-determined c size p q = determined p q
 pub first-satellite-determined : (c : Constellation) {r r' : ℕ} → r ≡ firstSatellite c → r' ≡ firstSatellite c → r ≡ r'
 first-satellite-determined c p q = determined p q
 
-pub mask-size-field-determined : (c : Constellation) {r r' : Field} → r ≡ free (maskSf c) 2 → r' ≡ free (maskSf c) 2 → r ≡ r'
+pub mask-size-field-determined : (c : Constellation) {r r' : Field} → r ≡ sf (maskSf c) → r' ≡ sf (maskSf c) → r ≡ r'
 mask-size-field-determined c p q = determined p q
 
 pub mask-field-determined : (c : Constellation) (size : ℕ) {r r' : Field} → r ≡ maskField (maskSf c) (maskSize c size) → r' ≡ maskField (maskSf c) (maskSize c size) → r ≡ r'

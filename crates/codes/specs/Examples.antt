@@ -8,7 +8,7 @@ use Rattle.layout.specs.Layout.{judge}
 use Rattle.codes.specs.declared.Constellation.{Constellation}
 use Rattle.codes.specs.declared.Constellation.the-variants.{Gps, Glonass, Galileo, BeiDou, Qzss}
 use Rattle.codes.specs.Tables.{maskSizes, maskSize, biasMaskSizes, biasSize}
-use Rattle.codes.specs.Fields.{correction, yawField}
+use Rattle.fields.specs.Fields.{table, find, lineOf, sf}
 
 by-constellation : (Constellation → List ℕ) → List (List ℕ)
 by-constellation f = f Gps ∷ f Glonass ∷ f Galileo ∷ f BeiDou ∷ f Qzss ∷ []
@@ -24,22 +24,22 @@ bias-sizes : by-constellation (λ c. biasSize c 0 ∷ biasSize c 1 ∷ []) ≡ (
 unfolding by-constellation biasSize biasMaskSizes
 bias-sizes = refl
 
-correction-top : judge correction 16382 ≡ Taken
-unfolding judge
+correction-top : judge (sf 20) 16382 ≡ Taken
+unfolding judge table find lineOf sf
 correction-top = refl
 
-correction-over : judge correction 16383 ≡ Fault refusal.Field
-unfolding judge
+correction-over : judge (sf 20) 16383 ≡ Fault refusal.Field
+unfolding judge table find lineOf sf
 correction-over = refl
 
-yaw-top : judge yawField 59 ≡ Taken
-unfolding judge
+yaw-top : judge (sf 21) 59 ≡ Taken
+unfolding judge table find lineOf sf
 yaw-top = refl
 
-yaw-over : judge yawField 60 ≡ Fault refusal.Field
-unfolding judge
+yaw-over : judge (sf 21) 60 ≡ Fault refusal.Field
+unfolding judge table find lineOf sf
 yaw-over = refl
 
-yaw-invalid : judge yawField 63 ≡ Taken
-unfolding judge
+yaw-invalid : judge (sf 21) 63 ≡ Taken
+unfolding judge table find lineOf sf
 yaw-invalid = refl

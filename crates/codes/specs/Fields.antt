@@ -1,4 +1,4 @@
--- Definitions to believe: the kinds of fields (document 01, "Codes") and the satellite mask.
+-- Definitions to believe: the satellite mask (document 01, "Codes").
 use mathlib.Core.Bool.{Bool, true, false}
 use mathlib.Core.List.{List, [], _∷_, _++_}
 use Prim.Native.Nat.{ℕ, zero, suc, _-_, _/_, _%_, _^_}
@@ -7,32 +7,24 @@ use lib.ListN.{length, getD, replicate}
 use Rattle.answer.specs.declared.Refusal.the-variants as refusal
 use Rattle.layout.specs.declared.Field.{Field}
 use Rattle.layout.specs.Layout.{Layout, field, pick}
-use Rattle.layout.specs.Parts.{upTo, free}
+use Rattle.fields.specs.Fields.{sf}
 use Rattle.codes.specs.declared.Constellation.{Constellation}
 use Rattle.codes.specs.declared.satellites.Satellites.{Satellites}
 use Rattle.codes.specs.Tables.{maskSf, maskSize, firstSatellite}
 
--- ---- fields: SF number, width, codes. `free` takes its full width, `upTo` the codes from 0 on.
-
--- "A symmetric field of n bits takes 0 to 2^n - 2"; here the top code is FIELD
-abbrev pub steps : (sf width : ℕ) → Field
-steps sf width = upTo sf width (2 ^ width - 2)
-
--- SF020, wherever it stands: orbit, clock and phase bias
-abbrev pub correction : Field
-correction = steps 20 14
-
--- a symmetric field whose top code is "invalid", and taken
-abbrev pub orInvalid : (sf width : ℕ) → Field
-orInvalid sf width = free sf width
-
--- "SF021 0 to 59, with 63 invalid"
-abbrev pub yawField : Field
-yawField = record { sf = 21; width = 6; least = 0; most = 59; extra = 63; under = refusal.Field }
-
 -- the bits of a satellite mask: MASK_EMPTY without a satellite
-abbrev pub maskField : (sf width : ℕ) → Field
-maskField sf width = record { sf = sf; width = width; least = 1; most = 2 ^ width - 1; extra = 2 ^ width - 1; under = refusal.MaskEmpty }
+abbrev pub maskField : (number width : ℕ) → Field
+maskField number width =
+    record {
+      sf = number;
+      width = width;
+      least = 1;
+      most = 2 ^ width - 1;
+      extra = 2 ^ width - 1;
+      except = 2 ^ width - 1;
+      under = refusal.MaskEmpty;
+      over = refusal.Field;
+    }
 
 -- ---- the satellite mask: its size, its bits, the satellites in mask order
 
@@ -47,7 +39,7 @@ satellitesOf constellation size mask = numbered (firstSatellite constellation) (
 
 abbrev pub satelliteMask : {A : Type 0} → Constellation → (List ℕ → Layout A) → Layout A
 satelliteMask constellation k =
-    field (free (maskSf constellation) 2) (λ size.
+    field (sf (maskSf constellation)) (λ size.
     field (maskField (maskSf constellation) (maskSize constellation size)) (λ mask.
     k (satellitesOf constellation size mask)))
 

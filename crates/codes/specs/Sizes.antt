@@ -10,10 +10,11 @@ use lib.ListN.{getD}
 use lib.Pow.{pow-pos}
 use Rattle.layout.specs.Layout.{pick}
 use Rattle.layout.specs.Parts.{free}
-use Rattle.layout.specs.Walks.{Fine, fine-free}
+use Rattle.layout.specs.Walks.{Fine, fine, fine-free}
+use Rattle.fields.specs.Fields.{table, find, lineOf, sf}
 use Rattle.codes.specs.declared.Constellation.{Constellation}
 use Rattle.codes.specs.declared.Constellation.the-variants.{Gps, Glonass, Galileo, BeiDou, Qzss}
-use Rattle.codes.specs.Tables.{rowOf, maskSizes, maskSize, biasMaskSizes, biasSize}
+use Rattle.codes.specs.Tables.{rowOf, maskSf, maskSizes, maskSize, biasMaskSizes, biasSize}
 use Rattle.codes.specs.Fields.{maskField}
 
 -- 1 to 64
@@ -35,6 +36,23 @@ word-at (x ∷ l) i d t h = go (λ t i. word-at l i d t h) (ltb 0 x) (leb x 64) 
     go rest true true p q t (suc i) = rest t i
     go rest true false p q t i = absurd t
     go rest false b p q t i = absurd t
+
+-- the size of a satellite mask has two bits
+pub mask-size-width : (c : Constellation) → sf (maskSf c) .width ≡ 2
+unfolding sf lineOf find table
+mask-size-width Gps = refl
+mask-size-width Glonass = refl
+mask-size-width Galileo = refl
+mask-size-width BeiDou = refl
+mask-size-width Qzss = refl
+
+pub fine-mask-size : (c : Constellation) → Fine (sf (maskSf c))
+unfolding sf lineOf find table
+fine-mask-size Gps = fine tt
+fine-mask-size Glonass = fine tt
+fine-mask-size Galileo = fine tt
+fine-mask-size BeiDou = fine tt
+fine-mask-size Qzss = fine tt
 
 pub mask-word : (c : Constellation) (size : ℕ) → Word (maskSize c size)
 unfolding maskSize maskSizes
@@ -58,7 +76,6 @@ fine-bits sf (suc w) h =
     record {
       some = h .some;
       word = h .most;
-      order = omega (arith, pow-pos w);
       most = omega (arith, pow-pos w);
       extra = omega (arith, pow-pos w);
     }

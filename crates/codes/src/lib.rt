@@ -1,5 +1,5 @@
 // Document 01, "Codes": the constellations, the sizes of masks, the satellites of a mask, and the fields that go by them.
-mod fields;
+mod masks;
 pub mod satellites;
 pub mod tables;
 

@@ -2,13 +2,13 @@
 ghost use mathlib.Core.Path.{_≡_};
 ghost use Prim.Native.Nat.{_+_, _%_, _<_};
 ghost use Rattle.layout.specs.Parts.{free};
+ghost use Rattle.fields.specs.Fields.{sf};
 ghost use Rattle.codes.specs.Fields.{maskField};
 ghost use Rattle.codes.specs.Tables.{rowOf, maskSize, biasSize, firstSatellite, maskSf};
 use crate::Constellation;
-use crate::fields::full_width;
-use crate::fields::mask_bits;
+use crate::masks::full_width;
+use crate::masks::mask_bits;
 use layout::Field;
-use layout::up_to;
 
 // "Mask sizes for size codes 0 to 3"
 const MASK_SIZES: [[u32; 4]; 5] = [
@@ -88,9 +88,9 @@ fn mask_sf(constellation: Constellation) -> u64
 
 // A satellite mask: its size, its bits.
 pub fn mask_size_field(constellation: Constellation) -> Field
-    ensures { λ r. ⌜ r ≡ free (maskSf constellation) 2 ⌝ }
+    ensures { λ r. ⌜ r ≡ sf (maskSf constellation) ⌝ }
 {
-    up_to(mask_sf(constellation), 2, 3)
+    fields::sf(mask_sf(constellation))
 }
 
 pub fn mask_field(constellation: Constellation, size: u64) -> Field

@@ -2,26 +2,27 @@
 use mathlib.Core.Path.{_≡_, refl, ap, sym, _∙_}
 use Prim.Native.Nat.{ℕ, zero, suc, _-_}
 use Rattle.layout.specs.declared.Field.{Field}
-use Rattle.layout.specs.Parts.{upTo, free}
+use Rattle.layout.specs.Parts.{upTo}
 use Rattle.layout.specs.Walks.{goes, fine, Leads, leads-times}
 use Rattle.layout.specs.Tests.{one-less}
+use Rattle.fields.specs.Fields.{table, find, lineOf, sf}
 use Rattle.gad.specs.declared.Head.{Head}
 use Rattle.gad.specs.declared.State.{State}
 use Rattle.gad.specs.declared.State.the-variants.{Siou, Aiou, Reserved, Count, Id, Latitude, Longitude, Rows, Columns, LatitudeSpacing, LongitudeSpacing, Done}
 use Rattle.gad.specs.Gad.{block, gad}
 
 abbrev pub gadField : State → Field
-gadField Siou = free 5 9
-gadField (Aiou siou) = free 68 4
-gadField (Reserved siou aiou) = free 69 1
-gadField (Count siou aiou) = free 30 5
-gadField (Id head) = free 31 8
-gadField (Latitude head id) = upTo 32 11 1800
-gadField (Longitude head id latitude) = upTo 33 12 3600
-gadField (Rows head id latitude longitude) = free 34 3
-gadField (Columns head id latitude longitude rows) = free 35 3
-gadField (LatitudeSpacing head id latitude longitude rows columns) = free 36 5
-gadField (LongitudeSpacing head id latitude longitude rows columns spacing) = free 37 5
+gadField Siou = sf 5
+gadField (Aiou siou) = sf 68
+gadField (Reserved siou aiou) = sf 69
+gadField (Count siou aiou) = sf 30
+gadField (Id head) = sf 31
+gadField (Latitude head id) = sf 32
+gadField (Longitude head id latitude) = sf 33
+gadField (Rows head id latitude longitude) = sf 34
+gadField (Columns head id latitude longitude rows) = sf 35
+gadField (LatitudeSpacing head id latitude longitude rows columns) = sf 36
+gadField (LongitudeSpacing head id latitude longitude rows columns spacing) = sf 37
 gadField Done = upTo 0 0 0
 
 -- where n blocks are still to come
@@ -53,11 +54,13 @@ blocks-more siou aiou n h = one-less (blocksFrom siou aiou) n h
 
 module _ {A : Type 0} where
   leads-block : (siou aiou n : ℕ) → Leads {A = A} gadField gadStep (blocksFrom siou aiou (suc n)) block (blocksFrom siou aiou n)
+  unfolding sf lineOf find table
   leads-block siou aiou n k rest =
       goes refl (fine tt) (λ _ _. goes refl (fine tt) (λ _ _. goes refl (fine tt) (λ _ _. goes refl (fine tt) (λ _ _. goes refl (fine tt) (λ _ _.
       goes refl (fine tt) (λ _ _. goes refl (fine tt) (λ _ _. rest _)))))))
 
   pub leads-gad : Leads {A = A} gadField gadStep Siou gad Done
+  unfolding sf lineOf find table
   leads-gad k rest =
       goes refl (fine tt) (λ siou _. goes refl (fine tt) (λ aiou _. goes refl (fine tt) (λ _ _. goes refl (fine tt) (λ count _.
       leads-times gadField gadStep (blocksFrom siou aiou) (leads-block siou aiou) (suc count) _ (λ blocks.

@@ -3,7 +3,8 @@ use mathlib.Core.Path.{_≡_, refl, ap, sym, _∙_}
 use mathlib.Core.List.{List, [], _∷_}
 use Prim.Native.Nat.{ℕ, zero, suc}
 use Rattle.rows.specs.declared.Row.{Row}
-use Rattle.rows.specs.Rows.{cells, cellsIn, again, cellsOf, noRow}
+use Rattle.rows.specs.Rows.{fieldIn, wordOf, cells, cellsIn, again, cellsOf, noRow}
+use Rattle.fields.specs.Fields.{table, find, lineOf, sf}
 use Rattle.rows.specs.Along.{is, Along, stays, passes}
 use Rattle.gad.specs.declared.Head.{Head}
 use Rattle.gad.specs.declared.State.{State}
@@ -12,7 +13,7 @@ use Rattle.gad.specs.Machine.{gadField, gadStep}
 
 -- SF031 to SF037
 abbrev pub blocksRow : ℕ → Row
-blocksRow more = record { group = 0x41412121B6A571; more = more; tail = 0 }
+blocksRow more = record { group = wordOf (31 ∷ 32 ∷ 33 ∷ 34 ∷ 35 ∷ 36 ∷ 37 ∷ []); more = more; tail = 0 }
 
 -- the row from a state on; after it the message has ended
 abbrev pub gadRow : State → Row
@@ -31,7 +32,8 @@ gadRow Done = noRow
 
 blocks-along : (siou aiou more : ℕ)
     → Along gadField gadStep (Id (record { siou = siou; aiou = aiou; more = more }))
-    (again (suc more) (0x71 ∷ 0xA5 ∷ 0xB6 ∷ 0x21 ∷ 0x21 ∷ 0x41 ∷ 0x41 ∷ []) []) (gadStep Done)
+    (again (suc more) (31 ∷ 32 ∷ 33 ∷ 34 ∷ 35 ∷ 36 ∷ 37 ∷ []) []) (gadStep Done)
+unfolding fieldIn sf lineOf find table
 blocks-along siou aiou zero =
     passes (is refl) (λ _. passes (is refl) (λ _. passes (is refl) (λ _. passes (is refl) (λ _. passes (is refl) (λ _. passes (is refl) (λ _. passes (is refl) (λ _.
     stays (λ _. refl))))))))

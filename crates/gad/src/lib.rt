@@ -1,10 +1,11 @@
 // GAD, 2-0: tables 6.23 and 6.24. A state carries the codes of the block that were read.
 ghost use mathlib.Core.Path.{_≡_};
-ghost use Rattle.layout.specs.Tests.{Matched};
+ghost use Rattle.answer.specs.Matched.{Matched};
 ghost use Rattle.gad.specs.Machine.{gadField, gadStep, blocksFrom};
 
 pub mod row;
 
+use fields::sf;
 use layout::Field;
 use layout::up_to;
 
@@ -40,17 +41,17 @@ fn field_by_state(s: State) -> Field
     ensures { λ r. ⌜ Matched gadField s r ⌝ }
 {
     match s {
-        State::Siou => up_to(5, 9, 511),
-        State::Aiou(_) => up_to(68, 4, 15),
-        State::Reserved(_, _) => up_to(69, 1, 1),
-        State::Count(_, _) => up_to(30, 5, 31),
-        State::Id(_) => up_to(31, 8, 255),
-        State::Latitude(_, _) => up_to(32, 11, 1800),
-        State::Longitude(_, _, _) => up_to(33, 12, 3600),
-        State::Rows(_, _, _, _) => up_to(34, 3, 7),
-        State::Columns(_, _, _, _, _) => up_to(35, 3, 7),
-        State::LatitudeSpacing(_, _, _, _, _, _) => up_to(36, 5, 31),
-        State::LongitudeSpacing(_, _, _, _, _, _, _) => up_to(37, 5, 31),
+        State::Siou => sf(5),
+        State::Aiou(_) => sf(68),
+        State::Reserved(_, _) => sf(69),
+        State::Count(_, _) => sf(30),
+        State::Id(_) => sf(31),
+        State::Latitude(_, _) => sf(32),
+        State::Longitude(_, _, _) => sf(33),
+        State::Rows(_, _, _, _) => sf(34),
+        State::Columns(_, _, _, _, _) => sf(35),
+        State::LatitudeSpacing(_, _, _, _, _, _) => sf(36),
+        State::LongitudeSpacing(_, _, _, _, _, _, _) => sf(37),
         State::Done => up_to(0, 0, 0),
     }
 }

@@ -1,17 +1,20 @@
 // The row from a state on (crate `rows`): all blocks, since no code of a block decides what follows.
 ghost use mathlib.Core.Path.{_≡_};
-ghost use Rattle.layout.specs.Tests.{Matched};
+ghost use Rattle.answer.specs.Matched.{Matched};
 ghost use Rattle.gad.specs.Rows.{blocksRow, gadRow};
 use crate::Head;
 use crate::State;
 use rows::Row;
 use rows::none;
 
+// SF031 to SF037.
+const BLOCK: u64 = 31 + 256 * (32 + 256 * (33 + 256 * (34 + 256 * (35 + 256 * (36 + 256 * 37)))));
+
 fn blocks_row(head: Head) -> Row
     ensures { λ r. ⌜ r ≡ blocksRow (head .more) ⌝ }
 {
     Row {
-        group: 0x41_41_21_21_B6_A5_71,
+        group: BLOCK,
         more: head.more,
         tail: 0,
     }

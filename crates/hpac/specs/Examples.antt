@@ -4,6 +4,7 @@ use mathlib.Core.List.{List, [], _∷_}
 use Rattle.bits.specs.Bits.{bitsOf, toBits, number}
 use Rattle.layout.specs.Layout.{done, judge, Outcome, accepted, readL}
 use Rattle.layout.specs.Parts.{absent, present}
+use Rattle.fields.specs.Fields.{table, find, lineOf, sf}
 use Rattle.codes.specs.declared.Constellation.the-variants.{Qzss}
 use Rattle.codes.specs.Tables.{maskSizes, maskSize}
 use Rattle.codes.specs.Fields.{numbered}
@@ -42,5 +43,5 @@ qzss-area : readL (hpac Qzss done) (toBits (2 ∷ 152 ∷ 1 ∷ 32 ∷ 168 ∷ 1
     })
     (5 ∷ 3 ∷ 0 ∷ 0 ∷ 9 ∷ 2 ∷ 2 ∷ 2 ∷ 1 ∷ 0 ∷ 127 ∷ 0 ∷ 63 ∷ 1 ∷ 2 ∷ 0 ∷ 63 ∷ 31 ∷ 0 ∷ 0 ∷ 128 ∷ 3 ∷ 0 ∷ 2047 ∷ 1 ∷ 127 ∷ 63 ∷ [])
     135
-unfolding readL judge toBits bitsOf number numbered maskSize maskSizes
+unfolding sf lineOf find table readL judge toBits bitsOf number numbered maskSize maskSizes
 qzss-area = refl

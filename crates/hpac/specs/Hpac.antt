@@ -4,9 +4,10 @@ use Prim.Native.Nat.{ℕ, zero, suc}
 use lib.Dec.{eqb, leb}
 use Rattle.layout.specs.declared.Field.{Field}
 use Rattle.layout.specs.Layout.{Layout, field, pick}
-use Rattle.layout.specs.Parts.{free, upTo, Part, optional, times, each}
+use Rattle.layout.specs.Parts.{Part, optional, times, each}
+use Rattle.fields.specs.Fields.{sf}
 use Rattle.codes.specs.declared.Constellation.{Constellation}
-use Rattle.codes.specs.Fields.{steps, orInvalid, satelliteMask}
+use Rattle.codes.specs.Fields.{satelliteMask}
 
 -- T01 and T10, or C01 and C10
 pub record Slopes : Type 0 where
@@ -85,59 +86,59 @@ grid sizeField residual points k =
 
 -- table 6.17 with SF044 0, table 6.18 with 1
 abbrev pub troposphereConstant : ℕ → Field
-troposphereConstant size = pick (eqb size 0) (steps 45 7) (steps 48 9)
+troposphereConstant size = pick (eqb size 0) (sf 45) (sf 48)
 
 abbrev pub troposphereLinear : ℕ → Field
-troposphereLinear size = pick (eqb size 0) (steps 46 7) (steps 49 9)
+troposphereLinear size = pick (eqb size 0) (sf 46) (sf 49)
 
 abbrev pub troposphereProduct : ℕ → Field
-troposphereProduct size = pick (eqb size 0) (steps 47 9) (steps 50 11)
+troposphereProduct size = pick (eqb size 0) (sf 47) (sf 50)
 
 -- by SF051
 abbrev pub troposphereResidual : ℕ → Field
-troposphereResidual size = pick (eqb size 0) (orInvalid 52 6) (orInvalid 53 8)
+troposphereResidual size = pick (eqb size 0) (sf 52) (sf 53)
 
 -- table 6.16: the grid with SF040 at 2
 abbrev pub troposphere : {A : Type 0} → (indicator points : ℕ) → (Troposphere → Layout A) → Layout A
 troposphere indicator points k =
-    field (upTo 41 3 2) (λ equation.
-    field (free 42 3) (λ quality.
-    field (steps 43 8) (λ delay.
-    field (free 44 1) (λ size.
+    field (sf 41) (λ equation.
+    field (sf 42) (λ quality.
+    field (sf 43) (λ delay.
+    field (sf 44) (λ size.
     polynomial (troposphereConstant size) (troposphereLinear size) (troposphereProduct size) equation (λ polynomial.
-    optional (leb 2 indicator) (grid (free 51 1) troposphereResidual points) (λ grid.
+    optional (leb 2 indicator) (grid (sf 51) troposphereResidual points) (λ grid.
     k (record { equation = equation; quality = quality; delay = delay; coefficientSize = size; polynomial = polynomial; grid = grid })))))))
 
 -- ---- ionosphere
 
 -- table 6.21 with SF056 0, table 6.22 with 1
 abbrev pub ionosphereConstant : ℕ → Field
-ionosphereConstant size = pick (eqb size 0) (steps 57 12) (steps 60 14)
+ionosphereConstant size = pick (eqb size 0) (sf 57) (sf 60)
 
 abbrev pub ionosphereLinear : ℕ → Field
-ionosphereLinear size = pick (eqb size 0) (steps 58 12) (steps 61 14)
+ionosphereLinear size = pick (eqb size 0) (sf 58) (sf 61)
 
 abbrev pub ionosphereProduct : ℕ → Field
-ionosphereProduct size = pick (eqb size 0) (steps 59 13) (steps 62 15)
+ionosphereProduct size = pick (eqb size 0) (sf 59) (sf 62)
 
 -- by SF063
 abbrev pub ionosphereResidual : ℕ → Field
 ionosphereResidual size =
-    pick (eqb size 0) (orInvalid 64 4) (pick (eqb size 1) (orInvalid 65 7) (pick (eqb size 2) (orInvalid 66 10) (orInvalid 67 14)))
+    pick (eqb size 0) (sf 64) (pick (eqb size 1) (sf 65) (pick (eqb size 2) (sf 66) (sf 67)))
 
 -- table 6.20: the grid with SF040 at 2
 abbrev pub slant : {A : Type 0} → (indicator points equation number : ℕ) → (Slant → Layout A) → Layout A
 slant indicator points equation number k =
-    field (free 55 4) (λ quality.
-    field (free 56 1) (λ size.
+    field (sf 55) (λ quality.
+    field (sf 56) (λ size.
     polynomial (ionosphereConstant size) (ionosphereLinear size) (ionosphereProduct size) equation (λ polynomial.
-    optional (leb 2 indicator) (grid (free 63 2) ionosphereResidual points) (λ grid.
+    optional (leb 2 indicator) (grid (sf 63) ionosphereResidual points) (λ grid.
     k (record { number = number; quality = quality; coefficientSize = size; polynomial = polynomial; grid = grid })))))
 
 -- table 6.19
 abbrev pub ionosphere : {A : Type 0} → Constellation → (indicator points : ℕ) → (Ionosphere → Layout A) → Layout A
 ionosphere constellation indicator points k =
-    field (upTo 54 3 2) (λ equation.
+    field (sf 54) (λ equation.
     satelliteMask constellation (λ numbers.
     each numbers (slant indicator points equation) (λ satellites.
     k (record { equation = equation; satellites = satellites }))))
@@ -147,10 +148,10 @@ ionosphere constellation indicator points k =
 -- tables 6.14 and 6.15: the blocks with their SF040 at 1 or 2
 abbrev pub area : {A : Type 0} → Constellation → (Area → Layout A) → Layout A
 area constellation k =
-    field (free 31 8) (λ id.
-    field (free 39 7) (λ points.
-    field (upTo 40 2 2) (λ troposphereBlocks.
-    field (upTo 40 2 2) (λ ionosphereBlocks.
+    field (sf 31) (λ id.
+    field (sf 39) (λ points.
+    field (sf 40) (λ troposphereBlocks.
+    field (sf 40) (λ ionosphereBlocks.
     optional (leb 1 troposphereBlocks) (troposphere troposphereBlocks points) (λ troposphere.
     optional (leb 1 ionosphereBlocks) (ionosphere constellation ionosphereBlocks points) (λ ionosphere.
     k (record {
@@ -165,9 +166,9 @@ area constellation k =
 -- table 6.13; SF030 means code plus one
 abbrev pub hpac : {A : Type 0} → Constellation → (Hpac → Layout A) → Layout A
 hpac constellation k =
-    field (free 5 9) (λ siou.
-    field (free 68 4) (λ aiou.
-    field (free 69 1) (λ reserved.
-    field (free 30 5) (λ count.
+    field (sf 5) (λ siou.
+    field (sf 68) (λ aiou.
+    field (sf 69) (λ reserved.
+    field (sf 30) (λ count.
     times (suc count) (area constellation) (λ areas.
     k (record { siou = siou; aiou = aiou; areas = areas }))))))

@@ -6,60 +6,57 @@ use Prim.Native.Nat.{ℕ, zero, suc, _-_}
 use lib.Dec.{eqb, leb}
 use lib.ListN.{length}
 use Rattle.layout.specs.declared.Field.{Field}
-use Rattle.layout.specs.Layout.{pick}
-use Rattle.layout.specs.Parts.{upTo, free}
+use Rattle.layout.specs.Layout.{field, pick}
+use Rattle.layout.specs.Parts.{upTo}
 use Rattle.layout.specs.Walks.{Fine, fine, fine-pick, goes, Leads, leads-optional, leads-times, leads-each}
 use Rattle.layout.specs.Tests.{one-less}
+use Rattle.fields.specs.Fields.{table, find, lineOf, sf}
 use Rattle.codes.specs.declared.Constellation.{Constellation}
-use Rattle.codes.specs.declared.Constellation.the-variants.{Gps, Glonass, Galileo, BeiDou, Qzss}
 use Rattle.hpac.specs.declared.Head.{Head}
 use Rattle.hpac.specs.declared.Area.{Area}
 use Rattle.hpac.specs.declared.Walk.{Walk}
 use Rattle.hpac.specs.declared.State.{State}
 use Rattle.hpac.specs.declared.State.the-variants.{Siou, Aiou, Reserved, Count, Id, Points, TroposphereBlocks, IonosphereBlocks, TroposphereEquation, TroposphereQuality, Delay, TroposphereSize, T00, T01, T10, T11, TroposphereResidualSize, TroposphereResidual, IonosphereEquation, MaskSize, Mask, Quality, Size, C00, C01, C10, C11, ResidualSize, Residual, Done}
 use Rattle.codes.specs.Tables.{maskSf, maskSize}
-use Rattle.codes.specs.Sizes.{fine-mask}
-use Rattle.codes.specs.Fields.{steps, orInvalid, maskField, satellitesOf}
+use Rattle.codes.specs.Sizes.{fine-mask-size, fine-mask}
+use Rattle.codes.specs.Fields.{maskField, satellitesOf}
 use Rattle.hpac.specs.Hpac.{slopes, polynomial, grid, troposphereConstant, troposphereLinear, troposphereProduct, troposphereResidual, troposphere, ionosphereConstant, ionosphereLinear, ionosphereProduct, ionosphereResidual, slant, ionosphere, area, hpac}
 
 -- ---- the field at hand
 
--- with SF063 over 0, and over 1
-abbrev pub widerResidual : ℕ → Field
-widerResidual size = pick (eqb size 2) (orInvalid 66 10) (orInvalid 67 14)
-
-abbrev pub wideResidual : ℕ → Field
-wideResidual size = pick (eqb size 1) (orInvalid 65 7) (widerResidual size)
+-- the number of a residual's field, by SF063
+abbrev pub residualNumber : ℕ → ℕ
+residualNumber size = pick (eqb size 0) 64 (pick (eqb size 1) 65 (pick (eqb size 2) 66 67))
 
 abbrev pub hpacField : State → Field
-hpacField (Siou c) = free 5 9
-hpacField (Aiou c siou) = free 68 4
-hpacField (Reserved c siou aiou) = free 69 1
-hpacField (Count c siou aiou) = free 30 5
-hpacField (Id head) = free 31 8
-hpacField (Points head id) = free 39 7
-hpacField (TroposphereBlocks head id points) = upTo 40 2 2
-hpacField (IonosphereBlocks head id points troposphere) = upTo 40 2 2
-hpacField (TroposphereEquation area) = upTo 41 3 2
-hpacField (TroposphereQuality area equation) = free 42 3
-hpacField (Delay area equation) = steps 43 8
-hpacField (TroposphereSize area equation) = free 44 1
+hpacField (Siou c) = sf 5
+hpacField (Aiou c siou) = sf 68
+hpacField (Reserved c siou aiou) = sf 69
+hpacField (Count c siou aiou) = sf 30
+hpacField (Id head) = sf 31
+hpacField (Points head id) = sf 39
+hpacField (TroposphereBlocks head id points) = sf 40
+hpacField (IonosphereBlocks head id points troposphere) = sf 40
+hpacField (TroposphereEquation area) = sf 41
+hpacField (TroposphereQuality area equation) = sf 42
+hpacField (Delay area equation) = sf 43
+hpacField (TroposphereSize area equation) = sf 44
 hpacField (T00 area equation size) = troposphereConstant size
 hpacField (T01 area equation size) = troposphereLinear size
 hpacField (T10 area equation size) = troposphereLinear size
 hpacField (T11 area equation size) = troposphereProduct size
-hpacField (TroposphereResidualSize area) = free 51 1
+hpacField (TroposphereResidualSize area) = sf 51
 hpacField (TroposphereResidual area size more) = troposphereResidual size
-hpacField (IonosphereEquation area) = upTo 54 3 2
-hpacField (MaskSize area equation) = free (maskSf (area .constellation)) 2
+hpacField (IonosphereEquation area) = sf 54
+hpacField (MaskSize area equation) = sf (maskSf (area .constellation))
 hpacField (Mask area equation size) = maskField (maskSf (area .constellation)) (maskSize (area .constellation) size)
-hpacField (Quality area walk) = free 55 4
-hpacField (Size area walk) = free 56 1
+hpacField (Quality area walk) = sf 55
+hpacField (Size area walk) = sf 56
 hpacField (C00 area walk size) = ionosphereConstant size
 hpacField (C01 area walk size) = ionosphereLinear size
 hpacField (C10 area walk size) = ionosphereLinear size
 hpacField (C11 area walk size) = ionosphereProduct size
-hpacField (ResidualSize area walk) = free 63 2
+hpacField (ResidualSize area walk) = sf 63
 hpacField (Residual area walk size more) = ionosphereResidual size
 hpacField Done = upTo 0 0 0
 
@@ -163,6 +160,23 @@ hpacStep Done code = Done
 
 -- ---- a test of the code's helpers, and what an inner call gave them
 
+sf-pick : (b : Bool) (m n : ℕ) → sf (pick b m n) ≡ pick b (sf m) (sf n)
+sf-pick true m n = refl
+sf-pick false m n = refl
+
+-- a field by a size code, by its number
+pub sized : (size small large : ℕ) {n : ℕ} {r : Field} → n ≡ pick (eqb size 0) small large → r ≡ sf n → r ≡ pick (eqb size 0) (sf small) (sf large)
+sized size small large e h = h ∙ ap sf e ∙ sf-pick (eqb size 0) small large
+
+pub residual-sized : (size : ℕ) {n : ℕ} {r : Field} → n ≡ residualNumber size → r ≡ sf n → r ≡ ionosphereResidual size
+residual-sized size e h = h ∙ ap sf e ∙ go (eqb size 0) (eqb size 1) (eqb size 2)
+  where
+    go : (a b c : Bool) → sf (pick a 64 (pick b 65 (pick c 66 67))) ≡ pick a (sf 64) (pick b (sf 65) (pick c (sf 66) (sf 67)))
+    go true b c = refl
+    go false true c = refl
+    go false false true = refl
+    go false false false = refl
+
 pub areas-more : (c : Constellation) (siou aiou n : ℕ) → (n ≡ 0 → ⊥)
     → Id (record { constellation = c; siou = siou; aiou = aiou; more = n - 1 }) ≡ areasFrom c siou aiou n
 areas-more c siou aiou n h = one-less (areasFrom c siou aiou) n h
@@ -193,22 +207,37 @@ t-residuals-more area size n h = one-less (tResidualsFrom area size) n h
 -- ---- the machine walks the layouts
 
 fine-residual : (size : ℕ) → Fine (ionosphereResidual size)
+unfolding sf lineOf find table
 fine-residual size = fine-pick (eqb size 0) (fine tt) (fine-pick (eqb size 1) (fine tt) (fine-pick (eqb size 2) (fine tt) (fine tt)))
 
 module _ {A : Type 0} where
+  -- a polynomial of the troposphere or the ionosphere, by the states of its four coefficients
+  leads-polynomial : (equation : ℕ) {constant linear product : Field} {c00 c01 c10 c11 end : State}
+      → Leads {A = A} hpacField hpacStep c00 (field constant) (pick (leb 1 equation) c01 (pick (leb 2 equation) c11 end))
+      → Leads {A = A} hpacField hpacStep c01 (field linear) c10
+      → Leads {A = A} hpacField hpacStep c10 (field linear) (pick (leb 2 equation) c11 end)
+      → Leads {A = A} hpacField hpacStep c11 (field product) end
+      → Leads {A = A} hpacField hpacStep c00 (polynomial constant linear product equation) end
+  leads-polynomial equation p00 p01 p10 p11 k rest =
+      p00 _ (λ constant.
+      leads-optional hpacField hpacStep (leb 1 equation) (λ k rest. p01 _ (λ latitude. p10 _ (λ longitude. rest _))) _ (λ slopes.
+      leads-optional hpacField hpacStep (leb 2 equation) p11 _ (λ product.
+      rest (record { constant = constant; slopes = slopes; product = product }))))
+
   leads-t-polynomial : (area : Area) (equation size : ℕ)
       → Leads {A = A} hpacField hpacStep (T00 area equation size)
       (polynomial (troposphereConstant size) (troposphereLinear size) (troposphereProduct size) equation) (tGridFrom area)
-  leads-t-polynomial area equation size k rest =
-      let small : (f g : Field) → Fine f → Fine g → Fine (pick (eqb size 0) f g) = λ f g. fine-pick (eqb size 0) in
-      goes refl (small _ _ (fine tt) (fine tt)) (λ constant _.
-      leads-optional hpacField hpacStep (leb 1 equation)
-      (λ k rest. goes refl (small _ _ (fine tt) (fine tt)) (λ _ _. goes refl (small _ _ (fine tt) (fine tt)) (λ _ _. rest _))) _ (λ slopes.
-      leads-optional hpacField hpacStep (leb 2 equation) (λ k rest. goes refl (small _ _ (fine tt) (fine tt)) (λ x _. rest x)) _ (λ product.
-      rest (record { constant = constant; slopes = slopes; product = product }))))
+  unfolding sf lineOf find table
+  leads-t-polynomial area equation size =
+      leads-polynomial equation {c01 = T01 area equation size} {c10 = T10 area equation size} {c11 = T11 area equation size}
+      (λ k rest. goes refl (fine-pick (eqb size 0) (fine tt) (fine tt)) (λ x _. rest x))
+      (λ k rest. goes refl (fine-pick (eqb size 0) (fine tt) (fine tt)) (λ x _. rest x))
+      (λ k rest. goes refl (fine-pick (eqb size 0) (fine tt) (fine tt)) (λ x _. rest x))
+      (λ k rest. goes refl (fine-pick (eqb size 0) (fine tt) (fine tt)) (λ x _. rest x))
 
   leads-troposphere : (area : Area)
       → Leads {A = A} hpacField hpacStep (TroposphereEquation area) (troposphere (area .troposphere) (area .points)) (ionosphereFrom area)
+  unfolding sf lineOf find table
   leads-troposphere area k rest =
       goes refl (fine tt) (λ equation _. goes refl (fine tt) (λ quality _. goes refl (fine tt) (λ delay _. goes refl (fine tt) (λ size _.
       leads-t-polynomial area equation size _ (λ polynomial.
@@ -219,24 +248,23 @@ module _ {A : Type 0} where
       rest (record { size = size; residuals = residuals })))) _ (λ grid.
       rest (record { equation = equation; quality = quality; delay = delay; coefficientSize = size; polynomial = polynomial; grid = grid })))))))
 
-  leads-polynomial : (area : Area) (walk : Walk) (size : ℕ)
+  leads-i-polynomial : (area : Area) (walk : Walk) (size : ℕ)
       → Leads {A = A} hpacField hpacStep (C00 area walk size)
       (polynomial (ionosphereConstant size) (ionosphereLinear size) (ionosphereProduct size) (walk .equation)) (gridFrom area walk)
-  leads-polynomial area walk size k rest =
-      let small : (f g : Field) → Fine f → Fine g → Fine (pick (eqb size 0) f g) = λ f g. fine-pick (eqb size 0) in
-      goes refl (small _ _ (fine tt) (fine tt)) (λ constant _.
-      leads-optional hpacField hpacStep (leb 1 (walk .equation))
-      (λ k rest. goes refl (small _ _ (fine tt) (fine tt)) (λ _ _. goes refl (small _ _ (fine tt) (fine tt)) (λ _ _. rest _))) _ (λ slopes.
-      leads-optional hpacField hpacStep (leb 2 (walk .equation)) (λ k rest. goes refl (small _ _ (fine tt) (fine tt)) (λ x _. rest x)) _ (λ product.
-      rest (record { constant = constant; slopes = slopes; product = product }))))
+  unfolding sf lineOf find table
+  leads-i-polynomial area walk size =
+      leads-polynomial (walk .equation) {c01 = C01 area walk size} {c10 = C10 area walk size} {c11 = C11 area walk size}
+      (λ k rest. goes refl (fine-pick (eqb size 0) (fine tt) (fine tt)) (λ x _. rest x))
+      (λ k rest. goes refl (fine-pick (eqb size 0) (fine tt) (fine tt)) (λ x _. rest x))
+      (λ k rest. goes refl (fine-pick (eqb size 0) (fine tt) (fine tt)) (λ x _. rest x))
+      (λ k rest. goes refl (fine-pick (eqb size 0) (fine tt) (fine tt)) (λ x _. rest x))
 
-  leads-slant : (area : Area) (equation size mask n number : ℕ)
-      → Leads {A = A} hpacField hpacStep (slantsFrom area equation size mask (suc n)) (slant (area .ionosphere) (area .points) equation number)
-      (slantsFrom area equation size mask n)
-  leads-slant area equation size mask n number k rest =
-      let walk : Walk = record { equation = equation; size = size; mask = mask; more = n } in
+  leads-slant : (area : Area) (walk : Walk) (number : ℕ)
+      → Leads {A = A} hpacField hpacStep (Quality area walk) (slant (area .ionosphere) (area .points) (walk .equation) number) (slantEnd area walk)
+  unfolding sf lineOf find table
+  leads-slant area walk number k rest =
       goes refl (fine tt) (λ quality _. goes refl (fine tt) (λ coefficients _.
-      leads-polynomial area walk coefficients _ (λ polynomial.
+      leads-i-polynomial area walk coefficients _ (λ polynomial.
       leads-optional hpacField hpacStep (leb 2 (area .ionosphere))
       (λ k rest. goes refl (fine tt) (λ size _.
       leads-times hpacField hpacStep (residualsFrom area walk size)
@@ -246,13 +274,16 @@ module _ {A : Type 0} where
 
   leads-ionosphere : (area : Area)
       → Leads {A = A} hpacField hpacStep (IonosphereEquation area) (ionosphere (area .constellation) (area .ionosphere) (area .points)) (areaEnd area)
+  unfolding sf lineOf find table
   leads-ionosphere area k rest =
       let c : Constellation = area .constellation in
-      goes refl (fine tt) (λ equation _. goes refl (fine tt) (λ size _. goes refl (fine-mask (maskSf c) c size) (λ mask _.
-      leads-each hpacField hpacStep (slantsFrom area equation size mask) (leads-slant area equation size mask) (satellitesOf c size mask) _ (λ satellites.
+      goes refl (fine tt) (λ equation _. goes refl (fine-mask-size c) (λ size _. goes refl (fine-mask (maskSf c) c size) (λ mask _.
+      leads-each hpacField hpacStep (slantsFrom area equation size mask)
+      (λ n. leads-slant area (record { equation = equation; size = size; mask = mask; more = n })) (satellitesOf c size mask) _ (λ satellites.
       rest (record { equation = equation; satellites = satellites })))))
 
   leads-area : (c : Constellation) (siou aiou n : ℕ) → Leads {A = A} hpacField hpacStep (areasFrom c siou aiou (suc n)) (area c) (areasFrom c siou aiou n)
+  unfolding sf lineOf find table
   leads-area c siou aiou n k rest =
       goes refl (fine tt) (λ id _. goes refl (fine tt) (λ points _. goes refl (fine tt) (λ t _. goes refl (fine tt) (λ i _.
       let here : Area = areaOf (record { constellation = c; siou = siou; aiou = aiou; more = n }) id points t i in
@@ -261,6 +292,7 @@ module _ {A : Type 0} where
       rest (record { id = id; points = points; troposphereBlocks = t; ionosphereBlocks = i; troposphere = troposphere; ionosphere = ionosphere })))))))
 
   pub leads-hpac : (c : Constellation) → Leads {A = A} hpacField hpacStep (Siou c) (hpac c) Done
+  unfolding sf lineOf find table
   leads-hpac c k rest =
       goes refl (fine tt) (λ siou _. goes refl (fine tt) (λ aiou _. goes refl (fine tt) (λ _ _. goes refl (fine tt) (λ count _.
       leads-times hpacField hpacStep (areasFrom c siou aiou) (leads-area c siou aiou) (suc count) _ (λ areas.

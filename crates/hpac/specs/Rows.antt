@@ -1,37 +1,36 @@
 -- Mirror: the rows of row.rt, and that the machine goes along them. A row ends where a code decides, or where codes are kept.
-use mathlib.Core.Path.{_≡_, refl, ap, ap₂, sym, _∙_, subst}
+use mathlib.Core.Path.{_≡_, refl, ap, sym, _∙_, subst}
 use mathlib.Core.Bool.{Bool, true, false}
 use mathlib.Core.List.{List, [], _∷_, _++_}
-use Prim.Native.Nat.{ℕ, zero, suc, _-_, _≤_, _<_}
+use Prim.Native.Nat.{ℕ, zero, suc, _-_, _%_, _^_, _≤_, _<_}
 use native.Mathlib.Omega.{arith}
 use borrow.Author.Tests.{le-leb, lt-leb, leb-true}
 use lib.Dec.{eqb, leb}
-use Rattle.layout.specs.declared.Field.{Field}
 use Rattle.layout.specs.Layout.{pick}
 use Rattle.layout.specs.Tests.{one-less}
 use Rattle.rows.specs.declared.Row.{Row}
-use Rattle.rows.specs.Rows.{cells, cellsIn, again, cellsOf, oneRow, noRow}
-use Rattle.rows.specs.Along.{In, is, in-pick, Along, stays, decides, passes, along-either, along-optional}
+use Rattle.rows.specs.Rows.{fieldIn, wordOf, cells, cellsIn, cellsOf, oneRow, noRow}
+use Rattle.rows.specs.Along.{is, in-pick, Along, stays, decides, passes, along-either, along-optional, Passes, along-again, alone-pick}
+use Rattle.fields.specs.Fields.{table, find, lineOf, sf}
 use Rattle.codes.specs.declared.Constellation.{Constellation}
 use Rattle.hpac.specs.declared.Head.{Head}
 use Rattle.hpac.specs.declared.Area.{Area}
 use Rattle.hpac.specs.declared.Walk.{Walk}
 use Rattle.hpac.specs.declared.State.{State}
 use Rattle.hpac.specs.declared.State.the-variants.{Siou, Aiou, Reserved, Count, Id, Points, TroposphereBlocks, IonosphereBlocks, TroposphereEquation, TroposphereQuality, Delay, TroposphereSize, T00, T01, T10, T11, TroposphereResidualSize, TroposphereResidual, IonosphereEquation, MaskSize, Mask, Quality, Size, C00, C01, C10, C11, ResidualSize, Residual, Done}
-use Rattle.hpac.specs.Hpac.{troposphereConstant, troposphereLinear, troposphereProduct, troposphereResidual, ionosphereConstant, ionosphereLinear, ionosphereProduct, ionosphereResidual}
-use Rattle.hpac.specs.Machine.{hpacField, hpacStep, areasFrom, areaEnd, slantsFrom, slantEnd, gridFrom, residualsFrom, ionosphereFrom, tGridFrom, tResidualsFrom}
+use Rattle.hpac.specs.Machine.{hpacField, hpacStep, residualNumber, areasFrom, areaEnd, slantsFrom, gridFrom, residualsFrom, ionosphereFrom, tGridFrom, tResidualsFrom}
 
 -- ---- how a row ends: its last cells, and the state of the last one
 
 -- the next area's SF031
 abbrev pub areaTail : ℕ → ℕ
 areaTail zero = 0
-areaTail (suc more) = 0x71
+areaTail (suc more) = 31
 
 -- the next satellite's SF055 and SF056
 abbrev pub slantTail : Area → ℕ → ℕ
 slantTail area zero = areaTail (area .more)
-slantTail area (suc more) = 0x0131
+slantTail area (suc more) = wordOf (55 ∷ 56 ∷ [])
 
 abbrev pub slantLast : Area → (equation size mask more : ℕ) → State
 slantLast area equation size mask zero = areaEnd area
@@ -42,118 +41,64 @@ slantEndLast area walk = slantLast area (walk .equation) (walk .size) (walk .mas
 
 -- SF063
 abbrev pub gridTail : Area → Walk → ℕ
-gridTail area walk = pick (leb 2 (area .ionosphere)) 0x11 (slantTail area (walk .more))
+gridTail area walk = pick (leb 2 (area .ionosphere)) 63 (slantTail area (walk .more))
 
 abbrev pub gridLast : Area → Walk → State
 gridLast area walk = pick (leb 2 (area .ionosphere)) (ResidualSize area walk) (slantEndLast area walk)
 
 -- SF054
 abbrev pub ionosphereTail : Area → ℕ
-ionosphereTail area = pick (leb 1 (area .ionosphere)) 0x24 (areaTail (area .more))
+ionosphereTail area = pick (leb 1 (area .ionosphere)) 54 (areaTail (area .more))
 
 -- SF051
 abbrev pub tGridTail : Area → ℕ
-tGridTail area = pick (leb 2 (area .troposphere)) 0x01 (ionosphereTail area)
+tGridTail area = pick (leb 2 (area .troposphere)) 51 (ionosphereTail area)
 
--- ---- coefficients and residuals
+-- ---- coefficients
 
-abbrev pub byEquation : (equation constant slopes product : ℕ) → ℕ
-byEquation equation constant slopes product = pick (leb 2 equation) product (pick (leb 1 equation) slopes constant)
+-- the constant, both slopes, the product
+abbrev pub coefficients : (constant linear product : ℕ) → ℕ
+coefficients constant linear product = wordOf (constant ∷ linear ∷ linear ∷ product ∷ [])
 
-abbrev pub polynomialCells : (equation size : ℕ) → ℕ
-polynomialCells equation size = pick (eqb size 0) (byEquation equation 0xB2 0xB2B2B2 0xC2B2B2B2) (byEquation equation 0xD2 0xD2D2D2 0xE2D2D2D2)
+-- all four of them, the first three or the first
+abbrev pub byEquation : (equation word : ℕ) → ℕ
+byEquation equation word = pick (leb 2 equation) word (pick (leb 1 equation) (word % 256 ^ 3) (word % 256))
 
-abbrev pub tPolynomialCells : (equation size : ℕ) → ℕ
-tPolynomialCells equation size = pick (eqb size 0) (byEquation equation 0x62 0x626262 0x82626262) (byEquation equation 0x82 0x828282 0xA2828282)
+-- with the size code at 0, and at 1
+abbrev pub polynomialCells : (equation size small large : ℕ) → ℕ
+polynomialCells equation size small large = byEquation equation (pick (eqb size 0) small large)
 
-abbrev pub residualCell : ℕ → ℕ
-residualCell size = pick (eqb size 0) 0x31 (pick (eqb size 1) 0x61 (pick (eqb size 2) 0x91 0xD1))
+abbrev pub t00Row : Area → (equation size : ℕ) → Row
+t00Row area equation size = record { group = polynomialCells equation size (coefficients 45 46 47) (coefficients 48 49 50); more = 0; tail = tGridTail area }
 
-abbrev pub tResidualCell : ℕ → ℕ
-tResidualCell size = pick (eqb size 0) 0x51 0x71
+abbrev pub c00Row : Area → Walk → (size : ℕ) → Row
+c00Row area walk size =
+    record { group = polynomialCells (walk .equation) size (coefficients 57 58 59) (coefficients 60 61 62); more = 0; tail = gridTail area walk }
 
--- ---- the row from a state on, and the state of its last field
+-- ---- residuals
 
-abbrev pub hpacRow : State → Row
-hpacRow (Siou c) = noRow
-hpacRow (Aiou c siou) = noRow
-hpacRow (Reserved c siou aiou) = noRow
-hpacRow (Count c siou aiou) = noRow
-hpacRow (Id head) = noRow
-hpacRow (Points head id) = noRow
-hpacRow (TroposphereBlocks head id points) = noRow
-hpacRow (IonosphereBlocks head id points troposphere) = noRow
-hpacRow (TroposphereEquation area) = noRow
-hpacRow (TroposphereQuality area equation) = oneRow 0x017221
-hpacRow (Delay area equation) = noRow
-hpacRow (TroposphereSize area equation) = noRow
-hpacRow (T00 area equation size) = record { group = tPolynomialCells equation size; more = 0; tail = tGridTail area }
-hpacRow (T01 area equation size) = noRow
-hpacRow (T10 area equation size) = noRow
-hpacRow (T11 area equation size) = noRow
-hpacRow (TroposphereResidualSize area) = noRow
-hpacRow (TroposphereResidual area size more) = record { group = tResidualCell size; more = more; tail = ionosphereTail area }
-hpacRow (IonosphereEquation area) = noRow
-hpacRow (MaskSize area equation) = noRow
-hpacRow (Mask area equation size) = noRow
-hpacRow (Quality area walk) = oneRow 0x0131
-hpacRow (Size area walk) = noRow
-hpacRow (C00 area walk size) = record { group = polynomialCells (walk .equation) size; more = 0; tail = gridTail area walk }
-hpacRow (C01 area walk size) = noRow
-hpacRow (C10 area walk size) = noRow
-hpacRow (C11 area walk size) = noRow
-hpacRow (ResidualSize area walk) = noRow
-hpacRow (Residual area walk size more) = record { group = residualCell size; more = more; tail = slantTail area (walk .more) }
-hpacRow Done = noRow
+abbrev pub tResidualRow : Area → (size more : ℕ) → Row
+tResidualRow area size more = record { group = pick (eqb size 0) 52 53; more = more; tail = ionosphereTail area }
 
-abbrev pub hpacLast : State → State
-hpacLast (Siou c) = Done
-hpacLast (Aiou c siou) = Done
-hpacLast (Reserved c siou aiou) = Done
-hpacLast (Count c siou aiou) = Done
-hpacLast (Id head) = Done
-hpacLast (Points head id) = Done
-hpacLast (TroposphereBlocks head id points) = Done
-hpacLast (IonosphereBlocks head id points troposphere) = Done
-hpacLast (TroposphereEquation area) = Done
-hpacLast (TroposphereQuality area equation) = TroposphereSize area equation
-hpacLast (Delay area equation) = Done
-hpacLast (TroposphereSize area equation) = Done
-hpacLast (T00 area equation size) = tGridFrom area
-hpacLast (T01 area equation size) = Done
-hpacLast (T10 area equation size) = Done
-hpacLast (T11 area equation size) = Done
-hpacLast (TroposphereResidualSize area) = Done
-hpacLast (TroposphereResidual area size more) = ionosphereFrom area
-hpacLast (IonosphereEquation area) = Done
-hpacLast (MaskSize area equation) = Done
-hpacLast (Mask area equation size) = Done
-hpacLast (Quality area walk) = Size area walk
-hpacLast (Size area walk) = Done
-hpacLast (C00 area walk size) = gridLast area walk
-hpacLast (C01 area walk size) = Done
-hpacLast (C10 area walk size) = Done
-hpacLast (C11 area walk size) = Done
-hpacLast (ResidualSize area walk) = Done
-hpacLast (Residual area walk size more) = slantEndLast area walk
-hpacLast Done = Done
+abbrev pub residualRow : Area → Walk → (size more : ℕ) → Row
+residualRow area walk size more = record { group = residualNumber size; more = more; tail = slantTail area (walk .more) }
 
--- ---- a test of the code's helpers, and a row whose words they gave
+-- ---- a test of the code's helpers
 
-pub row-made : (more : ℕ) {group group' tail tail' : ℕ} → group ≡ group' → tail ≡ tail'
-    → _≡_ {A = Row} (record { group = group; more = more; tail = tail }) (record { group = group'; more = more; tail = tail' })
-row-made more p q = ap₂ (λ (g t : ℕ). record { group = g; more = more; tail = t }) p q
+pub polynomial-of : (equation size small large : ℕ) {word r : ℕ} → word ≡ pick (eqb size 0) small large → r ≡ byEquation equation word
+    → r ≡ polynomialCells equation size small large
+polynomial-of equation size small large e h = h ∙ ap (byEquation equation) e
 
 pub area-none : (n : ℕ) → n ≡ 0 → 0 ≡ areaTail n
 area-none n e = ap areaTail (sym e)
 
-pub area-some : (n : ℕ) → (n ≡ 0 → ⊥) → 0x71 ≡ areaTail n
+pub area-some : (n : ℕ) → (n ≡ 0 → ⊥) → 31 ≡ areaTail n
 area-some n h = one-less areaTail n h
 
 pub slant-none : (area : Area) (n : ℕ) {r : ℕ} → n ≡ 0 → r ≡ areaTail (area .more) → r ≡ slantTail area n
 slant-none area n e h = h ∙ ap (slantTail area) (sym e)
 
-pub slant-some : (area : Area) (n : ℕ) → (n ≡ 0 → ⊥) → 0x0131 ≡ slantTail area n
+pub slant-some : (area : Area) (n : ℕ) → (n ≡ 0 → ⊥) → wordOf (55 ∷ 56 ∷ []) ≡ slantTail area n
 slant-some area n h = one-less (slantTail area) n h
 
 pub area-over : (c : Constellation) (siou aiou n code : ℕ) → n ≡ 0 → Done ≡ hpacStep (areasFrom c siou aiou n) code
@@ -181,7 +126,7 @@ step-below a b x y c e h = rw (lt-leb a b e) h
 
 area-along : (c : Constellation) (siou aiou more : ℕ)
     → Along hpacField hpacStep (areasFrom c siou aiou more) (cellsIn (areaTail more)) (hpacStep (areasFrom c siou aiou more))
-unfolding cells cellsIn
+unfolding cells cellsIn fieldIn sf lineOf find table
 area-along c siou aiou zero = stays (λ _. refl)
 area-along c siou aiou (suc more) = decides (is refl) (λ _. refl)
 
@@ -190,165 +135,153 @@ area-end-along area = area-along (area .constellation) (area .siou) (area .aiou)
 
 slant-along : (area : Area) (equation size mask more : ℕ)
     → Along hpacField hpacStep (slantsFrom area equation size mask more) (cellsIn (slantTail area more)) (hpacStep (slantLast area equation size mask more))
-unfolding cells cellsIn
+unfolding cells cellsIn fieldIn sf lineOf find table
 slant-along area equation size mask zero = area-end-along area
 slant-along area equation size mask (suc more) = passes (is refl) (λ _. decides (is refl) (λ _. refl))
 
 grid-along : (area : Area) (walk : Walk) → Along hpacField hpacStep (gridFrom area walk) (cellsIn (gridTail area walk)) (hpacStep (gridLast area walk))
-unfolding cells cellsIn
+unfolding cells cellsIn fieldIn sf lineOf find table
 grid-along area walk =
-    along-either hpacField hpacStep (leb 2 (area .ionosphere)) 0x11 (slantTail area (walk .more)) (decides (is refl) (λ _. refl))
+    along-either hpacField hpacStep (leb 2 (area .ionosphere)) 63 (slantTail area (walk .more)) (decides (is refl) (λ _. refl))
     (slant-along area (walk .equation) (walk .size) (walk .mask) (walk .more))
 
 ionosphere-along : (area : Area) → Along hpacField hpacStep (ionosphereFrom area) (cellsIn (ionosphereTail area)) (hpacStep (ionosphereFrom area))
-unfolding cells cellsIn
-ionosphere-along area = along-either hpacField hpacStep (leb 1 (area .ionosphere)) 0x24 (areaTail (area .more)) (decides (is refl) (λ _. refl)) (area-end-along area)
+unfolding cells cellsIn fieldIn sf lineOf find table
+ionosphere-along area = along-either hpacField hpacStep (leb 1 (area .ionosphere)) 54 (areaTail (area .more)) (decides (is refl) (λ _. refl)) (area-end-along area)
 
 t-grid-along : (area : Area) → Along hpacField hpacStep (tGridFrom area) (cellsIn (tGridTail area)) (hpacStep (tGridFrom area))
-unfolding cells cellsIn
-t-grid-along area = along-either hpacField hpacStep (leb 2 (area .troposphere)) 0x01 (ionosphereTail area) (decides (is refl) (λ _. refl)) (ionosphere-along area)
+unfolding cells cellsIn fieldIn sf lineOf find table
+t-grid-along area = along-either hpacField hpacStep (leb 2 (area .troposphere)) 51 (ionosphereTail area) (decides (is refl) (λ _. refl)) (ionosphere-along area)
 
--- a polynomial's word has a coefficient, two slopes if there are any, and a product if there is one
-two-so-one : (equation : ℕ) → leb 2 equation ≡ true → leb 1 equation ≡ true
-two-so-one equation e = let h = leb-true 2 equation e in le-leb 1 equation (omega arith)
+-- a word of the four coefficients: its cells with each equation
+data Coefficients (word constant linear product : ℕ) : Type 0 where
+  are : cellsIn word ≡ constant ∷ linear ∷ linear ∷ product ∷ [] → cellsIn (word % 256 ^ 3) ≡ constant ∷ linear ∷ linear ∷ []
+      → cellsIn (word % 256) ≡ constant ∷ [] → Coefficients word constant linear product
 
-polynomial-cells : (equation size : ℕ) (tail : List ℕ) → cellsIn (polynomialCells equation size) ++ tail
-    ≡ pick (eqb size 0) 0xB2 0xD2 ∷ (pick (leb 1 equation) (pick (eqb size 0) 0xB2 0xD2 ∷ pick (eqb size 0) 0xB2 0xD2 ∷ []) []
-    ++ (pick (leb 2 equation) (pick (eqb size 0) 0xC2 0xE2 ∷ []) [] ++ tail))
-unfolding cells cellsIn
-polynomial-cells equation size tail = go (eqb size 0) (leb 1 equation) (leb 2 equation) (two-so-one equation)
+coefficients-pick : (b : Bool) {w w' x x' y y' z z' : ℕ} → Coefficients w x y z → Coefficients w' x' y' z'
+    → Coefficients (pick b w w') (pick b x x') (pick b y y') (pick b z z')
+coefficients-pick true p q = p
+coefficients-pick false p q = q
+
+-- the constant, the slopes if there are any, the product if there is one
+polynomial-cells : (equation : ℕ) {word x y z : ℕ} (tail : List ℕ) → Coefficients word x y z
+    → cellsIn (byEquation equation word) ++ tail ≡ x ∷ (pick (leb 1 equation) (y ∷ y ∷ []) [] ++ (pick (leb 2 equation) (z ∷ []) [] ++ tail))
+polynomial-cells equation {word} {x} {y} {z} tail (are p q r) =
+    go (leb 1 equation) (leb 2 equation) (λ e. let h = leb-true 2 equation e in le-leb 1 equation (omega arith))
   where
-    go : (z a b : Bool) → (b ≡ true → a ≡ true)
-        → cellsIn (pick z (pick b 0xC2B2B2B2 (pick a 0xB2B2B2 0xB2)) (pick b 0xE2D2D2D2 (pick a 0xD2D2D2 0xD2))) ++ tail
-        ≡ pick z 0xB2 0xD2 ∷ (pick a (pick z 0xB2 0xD2 ∷ pick z 0xB2 0xD2 ∷ []) [] ++ (pick b (pick z 0xC2 0xE2 ∷ []) [] ++ tail))
-    go true true true h = refl
-    go true true false h = refl
-    go true false false h = refl
-    go false true true h = refl
-    go false true false h = refl
-    go false false false h = refl
-    go z false true h = let q : _≡_ {A = Bool} false true = h refl in let y : _≡_ {A = ℕ} 0 1 = cc in absurd (omega arith)
+    go : (a b : Bool) → (b ≡ true → a ≡ true)
+        → cellsIn (pick b word (pick a (word % 256 ^ 3) (word % 256))) ++ tail ≡ x ∷ (pick a (y ∷ y ∷ []) [] ++ (pick b (z ∷ []) [] ++ tail))
+    go true true h = ap (λ cs. cs ++ tail) p
+    go true false h = ap (λ cs. cs ++ tail) q
+    go false false h = ap (λ cs. cs ++ tail) r
+    go false true h = let e : _≡_ {A = Bool} false true = h refl in let n : _≡_ {A = ℕ} 0 1 = cc in absurd (omega arith)
 
-t-polynomial-cells : (equation size : ℕ) (tail : List ℕ) → cellsIn (tPolynomialCells equation size) ++ tail
-    ≡ pick (eqb size 0) 0x62 0x82 ∷ (pick (leb 1 equation) (pick (eqb size 0) 0x62 0x82 ∷ pick (eqb size 0) 0x62 0x82 ∷ []) []
-    ++ (pick (leb 2 equation) (pick (eqb size 0) 0x82 0xA2 ∷ []) [] ++ tail))
-unfolding cells cellsIn
-t-polynomial-cells equation size tail = go (eqb size 0) (leb 1 equation) (leb 2 equation) (two-so-one equation)
-  where
-    go : (z a b : Bool) → (b ≡ true → a ≡ true)
-        → cellsIn (pick z (pick b 0x82626262 (pick a 0x626262 0x62)) (pick b 0xA2828282 (pick a 0x828282 0x82))) ++ tail
-        ≡ pick z 0x62 0x82 ∷ (pick a (pick z 0x62 0x82 ∷ pick z 0x62 0x82 ∷ []) [] ++ (pick b (pick z 0x82 0xA2 ∷ []) [] ++ tail))
-    go true true true h = refl
-    go true true false h = refl
-    go true false false h = refl
-    go false true true h = refl
-    go false true false h = refl
-    go false false false h = refl
-    go z false true h = let q : _≡_ {A = Bool} false true = h refl in let y : _≡_ {A = ℕ} 0 1 = cc in absurd (omega arith)
+-- a polynomial of the troposphere or the ionosphere, by the states of its four coefficients
+polynomial-along : (equation : ℕ) {word x y z : ℕ} {c00 c01 c10 c11 end : State} {tail : List ℕ} {after : ℕ → State} → Coefficients word x y z
+    → Passes hpacField hpacStep c00 x (pick (leb 1 equation) c01 (pick (leb 2 equation) c11 end))
+    → Passes hpacField hpacStep c01 y c10 → Passes hpacField hpacStep c10 y (pick (leb 2 equation) c11 end) → Passes hpacField hpacStep c11 z end
+    → Along hpacField hpacStep end tail after → Along hpacField hpacStep c00 (cellsIn (byEquation equation word) ++ tail) after
+polynomial-along equation {y} {z} {c00} {tail} {after} cs p00 p01 p10 p11 rest =
+    subst (λ cs. Along hpacField hpacStep c00 cs after) (sym (polynomial-cells equation tail cs))
+    (p00 _ _ (along-optional hpacField hpacStep (leb 1 equation) (y ∷ y ∷ []) (λ rest. p01 _ _ (p10 _ _ rest))
+    (along-optional hpacField hpacStep (leb 2 equation) (z ∷ []) (λ rest. p11 _ _ rest) rest)))
 
-c00-along : (area : Area) (walk : Walk) (size : ℕ) → Along hpacField hpacStep (C00 area walk size) (cellsOf (hpacRow (C00 area walk size))) (hpacStep (gridLast area walk))
+pub c00-along : (area : Area) (walk : Walk) (size : ℕ) → Along hpacField hpacStep (C00 area walk size) (cellsOf (c00Row area walk size)) (hpacStep (gridLast area walk))
+unfolding cells cellsIn fieldIn sf lineOf find table
 c00-along area walk size =
-    let small : (f g : Field) (x y : ℕ) → In f x → In g y → In (pick (eqb size 0) f g) (pick (eqb size 0) x y) = λ f g x y. in-pick (eqb size 0) in
-    subst (λ cs. Along hpacField hpacStep (C00 area walk size) cs (hpacStep (gridLast area walk)))
-    (sym (polynomial-cells (walk .equation) size (cellsIn (gridTail area walk))))
-    (passes (small _ _ _ _ (is refl) (is refl)) (λ _.
-    along-optional hpacField hpacStep (leb 1 (walk .equation)) (pick (eqb size 0) 0xB2 0xD2 ∷ pick (eqb size 0) 0xB2 0xD2 ∷ [])
-    (λ rest. passes (small _ _ _ _ (is refl) (is refl)) (λ _. passes (small _ _ _ _ (is refl) (is refl)) (λ _. rest)))
-    (along-optional hpacField hpacStep (leb 2 (walk .equation)) (pick (eqb size 0) 0xC2 0xE2 ∷ [])
-    (λ rest. passes (small _ _ _ _ (is refl) (is refl)) (λ _. rest))
-    (grid-along area walk))))
+    polynomial-along (walk .equation) {c01 = C01 area walk size} {c10 = C10 area walk size} {c11 = C11 area walk size}
+    (coefficients-pick (eqb size 0) {x = 57} {x' = 60} {y = 58} {y' = 61} {z = 59} {z' = 62} (are refl refl refl) (are refl refl refl))
+    (λ _ _ rest. passes (in-pick (eqb size 0) (is refl) (is refl)) (λ _. rest)) (λ _ _ rest. passes (in-pick (eqb size 0) (is refl) (is refl)) (λ _. rest))
+    (λ _ _ rest. passes (in-pick (eqb size 0) (is refl) (is refl)) (λ _. rest)) (λ _ _ rest. passes (in-pick (eqb size 0) (is refl) (is refl)) (λ _. rest))
+    (grid-along area walk)
 
-t00-along : (area : Area) (equation size : ℕ) → Along hpacField hpacStep (T00 area equation size) (cellsOf (hpacRow (T00 area equation size))) (hpacStep (tGridFrom area))
+pub t00-along : (area : Area) (equation size : ℕ) → Along hpacField hpacStep (T00 area equation size) (cellsOf (t00Row area equation size)) (hpacStep (tGridFrom area))
+unfolding cells cellsIn fieldIn sf lineOf find table
 t00-along area equation size =
-    let small : (f g : Field) (x y : ℕ) → In f x → In g y → In (pick (eqb size 0) f g) (pick (eqb size 0) x y) = λ f g x y. in-pick (eqb size 0) in
-    subst (λ cs. Along hpacField hpacStep (T00 area equation size) cs (hpacStep (tGridFrom area)))
-    (sym (t-polynomial-cells equation size (cellsIn (tGridTail area))))
-    (passes (small _ _ _ _ (is refl) (is refl)) (λ _.
-    along-optional hpacField hpacStep (leb 1 equation) (pick (eqb size 0) 0x62 0x82 ∷ pick (eqb size 0) 0x62 0x82 ∷ [])
-    (λ rest. passes (small _ _ _ _ (is refl) (is refl)) (λ _. passes (small _ _ _ _ (is refl) (is refl)) (λ _. rest)))
-    (along-optional hpacField hpacStep (leb 2 equation) (pick (eqb size 0) 0x82 0xA2 ∷ [])
-    (λ rest. passes (small _ _ _ _ (is refl) (is refl)) (λ _. rest))
-    (t-grid-along area))))
+    polynomial-along equation {c01 = T01 area equation size} {c10 = T10 area equation size} {c11 = T11 area equation size}
+    (coefficients-pick (eqb size 0) {x = 45} {x' = 48} {y = 46} {y' = 49} {z = 47} {z' = 50} (are refl refl refl) (are refl refl refl))
+    (λ _ _ rest. passes (in-pick (eqb size 0) (is refl) (is refl)) (λ _. rest)) (λ _ _ rest. passes (in-pick (eqb size 0) (is refl) (is refl)) (λ _. rest))
+    (λ _ _ rest. passes (in-pick (eqb size 0) (is refl) (is refl)) (λ _. rest)) (λ _ _ rest. passes (in-pick (eqb size 0) (is refl) (is refl)) (λ _. rest))
+    (t-grid-along area)
 
-residual-in : (size : ℕ) → In (ionosphereResidual size) (residualCell size)
-residual-in size =
-    in-pick (eqb size 0) (is refl) (in-pick (eqb size 1) (is refl) (in-pick (eqb size 2) (is refl) (is refl)))
+pub residuals-along : (area : Area) (walk : Walk) (size more : ℕ)
+    → Along hpacField hpacStep (Residual area walk size more) (cellsOf (residualRow area walk size more)) (hpacStep (slantEndLast area walk))
+unfolding cells cellsIn fieldIn sf lineOf find table
+residuals-along area walk size more =
+    along-again hpacField hpacStep (residualsFrom area walk size) (residualNumber size)
+    (alone-pick (eqb size 0) refl (alone-pick (eqb size 1) refl (alone-pick (eqb size 2) refl refl)))
+    (λ n _ _ rest. passes (in-pick (eqb size 0) (is refl) (in-pick (eqb size 1) (is refl) (in-pick (eqb size 2) (is refl) (is refl)))) (λ _. rest))
+    (slant-along area (walk .equation) (walk .size) (walk .mask) (walk .more)) (suc more)
 
-residual-cell : (size : ℕ) → cellsIn (residualCell size) ≡ residualCell size ∷ []
-unfolding cells cellsIn
-residual-cell size = go (eqb size 0) (eqb size 1) (eqb size 2)
-  where
-    go : (a b c : Bool) → cellsIn (pick a 0x31 (pick b 0x61 (pick c 0x91 0xD1))) ≡ pick a 0x31 (pick b 0x61 (pick c 0x91 0xD1)) ∷ []
-    go true b c = refl
-    go false true c = refl
-    go false false true = refl
-    go false false false = refl
-
-residuals-along : (area : Area) (walk : Walk) (size more : ℕ) → Along hpacField hpacStep (Residual area walk size more)
-    (again (suc more) (residualCell size ∷ []) (cellsIn (slantTail area (walk .more)))) (hpacStep (slantEndLast area walk))
-residuals-along area walk size zero = passes (residual-in size) (λ _. slant-along area (walk .equation) (walk .size) (walk .mask) (walk .more))
-residuals-along area walk size (suc more) = passes (residual-in size) (λ _. residuals-along area walk size more)
-
-t-residual-in : (size : ℕ) → In (troposphereResidual size) (tResidualCell size)
-t-residual-in size = in-pick (eqb size 0) (is refl) (is refl)
-
-t-residual-cell : (size : ℕ) → cellsIn (tResidualCell size) ≡ tResidualCell size ∷ []
-unfolding cells cellsIn
-t-residual-cell size = go (eqb size 0)
-  where
-    go : (a : Bool) → cellsIn (pick a 0x51 0x71) ≡ pick a 0x51 0x71 ∷ []
-    go true = refl
-    go false = refl
-
-t-residuals-along : (area : Area) (size more : ℕ) → Along hpacField hpacStep (TroposphereResidual area size more)
-    (again (suc more) (tResidualCell size ∷ []) (cellsIn (ionosphereTail area))) (hpacStep (ionosphereFrom area))
-t-residuals-along area size zero = passes (t-residual-in size) (λ _. ionosphere-along area)
-t-residuals-along area size (suc more) = passes (t-residual-in size) (λ _. t-residuals-along area size more)
+pub t-residuals-along : (area : Area) (size more : ℕ)
+    → Along hpacField hpacStep (TroposphereResidual area size more) (cellsOf (tResidualRow area size more)) (hpacStep (ionosphereFrom area))
+unfolding cells cellsIn fieldIn sf lineOf find table
+t-residuals-along area size more =
+    along-again hpacField hpacStep (tResidualsFrom area size) (pick (eqb size 0) 52 53) (alone-pick (eqb size 0) refl refl)
+    (λ n _ _ rest. passes (in-pick (eqb size 0) (is refl) (is refl)) (λ _. rest)) (ionosphere-along area) (suc more)
 
 -- SF042, SF043 and SF044
-t-quality-along : (area : Area) (equation : ℕ)
-    → Along hpacField hpacStep (TroposphereQuality area equation) (cellsOf (oneRow 0x017221)) (hpacStep (TroposphereSize area equation))
-unfolding cells cellsIn
-t-quality-along area equation = passes (is refl) (λ _. passes (is refl) (λ _. decides (is refl) (λ _. refl)))
+pub t-quality-along : (area : Area) (equation : ℕ)
+    → Along hpacField hpacStep (TroposphereQuality area equation) (cellsOf (oneRow (wordOf (42 ∷ 43 ∷ 44 ∷ [])))) (hpacStep (TroposphereSize area equation))
+unfolding cells cellsIn fieldIn sf lineOf find table
+t-quality-along area equation = go
+  where
+    go : Along hpacField hpacStep (TroposphereQuality area equation) (42 ∷ 43 ∷ 44 ∷ []) (hpacStep (TroposphereSize area equation))
+    go = passes (is refl) (λ _. passes (is refl) (λ _. decides (is refl) (λ _. refl)))
 
 -- SF055 and SF056
-quality-along : (area : Area) (walk : Walk) → Along hpacField hpacStep (Quality area walk) (cellsOf (oneRow 0x0131)) (hpacStep (Size area walk))
-unfolding cells cellsIn
+pub quality-along : (area : Area) (walk : Walk) → Along hpacField hpacStep (Quality area walk) (cellsOf (oneRow (wordOf (55 ∷ 56 ∷ [])))) (hpacStep (Size area walk))
+unfolding cells cellsIn fieldIn sf lineOf find table
 quality-along area walk = passes (is refl) (λ _. decides (is refl) (λ _. refl))
 
--- From each state that has a row the machine goes along it, to the step from its last field.
+-- ---- the row from a state on
+
+-- with the state of its last field, and that the machine goes along the row to the step from there
+pub record Stretch (s : State) : Type 0 where
+  pub row : Row
+  pub last : State
+  pub along : (row .group ≡ 0 → ⊥) → Along hpacField hpacStep s (cellsOf row) (hpacStep last)
+
+abbrev none : {s : State} → Stretch s
+none = record { row = noRow; last = Done; along = λ h. absurd (h refl) }
+
+abbrev pub stretch : (s : State) → Stretch s
+stretch (Siou c) = none
+stretch (Aiou c siou) = none
+stretch (Reserved c siou aiou) = none
+stretch (Count c siou aiou) = none
+stretch (Id head) = none
+stretch (Points head id) = none
+stretch (TroposphereBlocks head id points) = none
+stretch (IonosphereBlocks head id points troposphere) = none
+stretch (TroposphereEquation area) = none
+stretch (TroposphereQuality area equation) = record { row = oneRow (wordOf (42 ∷ 43 ∷ 44 ∷ [])); last = TroposphereSize area equation; along = λ _. t-quality-along area equation }
+stretch (Delay area equation) = none
+stretch (TroposphereSize area equation) = none
+stretch (T00 area equation size) = record { row = t00Row area equation size; last = tGridFrom area; along = λ _. t00-along area equation size }
+stretch (T01 area equation size) = none
+stretch (T10 area equation size) = none
+stretch (T11 area equation size) = none
+stretch (TroposphereResidualSize area) = none
+stretch (TroposphereResidual area size more) = record { row = tResidualRow area size more; last = ionosphereFrom area; along = λ _. t-residuals-along area size more }
+stretch (IonosphereEquation area) = none
+stretch (MaskSize area equation) = none
+stretch (Mask area equation size) = none
+stretch (Quality area walk) = record { row = oneRow (wordOf (55 ∷ 56 ∷ [])); last = Size area walk; along = λ _. quality-along area walk }
+stretch (Size area walk) = none
+stretch (C00 area walk size) = record { row = c00Row area walk size; last = gridLast area walk; along = λ _. c00-along area walk size }
+stretch (C01 area walk size) = none
+stretch (C10 area walk size) = none
+stretch (C11 area walk size) = none
+stretch (ResidualSize area walk) = none
+stretch (Residual area walk size more) = record { row = residualRow area walk size more; last = slantEndLast area walk; along = λ _. residuals-along area walk size more }
+stretch Done = none
+
+abbrev pub hpacRow : State → Row
+hpacRow s = stretch s .row
+
+abbrev pub hpacLast : State → State
+hpacLast s = stretch s .last
+
 pub rowed : (s : State) → (hpacRow s .group ≡ 0 → ⊥) → Along hpacField hpacStep s (cellsOf (hpacRow s)) (hpacStep (hpacLast s))
-rowed (Siou c) h = absurd (h refl)
-rowed (Aiou c siou) h = absurd (h refl)
-rowed (Reserved c siou aiou) h = absurd (h refl)
-rowed (Count c siou aiou) h = absurd (h refl)
-rowed (Id head) h = absurd (h refl)
-rowed (Points head id) h = absurd (h refl)
-rowed (TroposphereBlocks head id points) h = absurd (h refl)
-rowed (IonosphereBlocks head id points troposphere) h = absurd (h refl)
-rowed (TroposphereEquation area) h = absurd (h refl)
-rowed (TroposphereQuality area equation) h = t-quality-along area equation
-rowed (Delay area equation) h = absurd (h refl)
-rowed (TroposphereSize area equation) h = absurd (h refl)
-rowed (T00 area equation size) h = t00-along area equation size
-rowed (T01 area equation size) h = absurd (h refl)
-rowed (T10 area equation size) h = absurd (h refl)
-rowed (T11 area equation size) h = absurd (h refl)
-rowed (TroposphereResidualSize area) h = absurd (h refl)
-rowed (TroposphereResidual area size more) h =
-    subst (λ group. Along hpacField hpacStep (TroposphereResidual area size more) (again (suc more) group (cellsIn (ionosphereTail area))) (hpacStep (ionosphereFrom area)))
-    (sym (t-residual-cell size)) (t-residuals-along area size more)
-rowed (IonosphereEquation area) h = absurd (h refl)
-rowed (MaskSize area equation) h = absurd (h refl)
-rowed (Mask area equation size) h = absurd (h refl)
-rowed (Quality area walk) h = quality-along area walk
-rowed (Size area walk) h = absurd (h refl)
-rowed (C00 area walk size) h = c00-along area walk size
-rowed (C01 area walk size) h = absurd (h refl)
-rowed (C10 area walk size) h = absurd (h refl)
-rowed (C11 area walk size) h = absurd (h refl)
-rowed (ResidualSize area walk) h = absurd (h refl)
-rowed (Residual area walk size more) h =
-    subst (λ group. Along hpacField hpacStep (Residual area walk size more) (again (suc more) group (cellsIn (slantTail area (walk .more)))) (hpacStep (slantEndLast area walk)))
-    (sym (residual-cell size)) (residuals-along area walk size more)
-rowed Done h = absurd (h refl)
+rowed s = stretch s .along

@@ -1,6 +1,6 @@
 // The state after a row, by the code of its last field.
 ghost use mathlib.Core.Path.{_≡_};
-ghost use Rattle.layout.specs.Tests.{Matched};
+ghost use Rattle.answer.specs.Matched.{Matched};
 ghost use Rattle.hpac.specs.Machine.{hpacStep, areaEnd, ionosphereFrom, tGridFrom};
 ghost use Rattle.hpac.specs.Rows.{slantEndLast, gridLast, hpacLast};
 use crate::Area;

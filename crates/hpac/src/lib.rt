@@ -1,27 +1,22 @@
 // HPAC, 1-0 to 1-4: tables 6.13 to 6.22. A state carries the area's head and where its mask walk stands, so that what is told of a code can be
 // a function of state and code.
 ghost use mathlib.Core.Path.{_≡_};
-ghost use Rattle.layout.specs.Tests.{Matched};
+ghost use Rattle.answer.specs.Matched.{Matched};
 ghost use Rattle.hpac.specs.Machine.{hpacField, hpacStep, areasFrom, areaEnd, troposphereFrom, tSlopesFrom, tProductFrom, tGridFrom, tResidualsFrom, ionosphereFrom, slantsFrom, slantEnd, slopesFrom, productFrom, gridFrom, residualsFrom};
 
 pub mod after;
-mod fields;
 pub mod row;
+mod sized;
 
 use codes::Constellation;
 use codes::satellites::satellite_count;
 use codes::tables::mask_field;
 use codes::tables::mask_size_field;
-use fields::c00_field;
-use fields::c01_field;
-use fields::c11_field;
-use fields::residual_field;
-use fields::t00_field;
-use fields::t01_field;
-use fields::t11_field;
-use fields::troposphere_residual_field;
+use fields::sf;
 use layout::Field;
 use layout::up_to;
+use sized::residual_field;
+use sized::sized_field;
 
 // What is known where an area begins: both issues of update, and the areas after it.
 pub struct Head {
@@ -98,25 +93,25 @@ fn field_by_state(s: State) -> Field
     ensures { λ r. ⌜ Matched hpacField s r ⌝ }
 {
     match s {
-        State::Siou(_) => up_to(5, 9, 511),
-        State::Aiou(_, _) => up_to(68, 4, 15),
-        State::Reserved(_, _, _) => up_to(69, 1, 1),
-        State::Count(_, _, _) => up_to(30, 5, 31),
-        State::Id(_) => up_to(31, 8, 255),
-        State::Points(_, _) => up_to(39, 7, 127),
-        State::TroposphereBlocks(_, _, _) => up_to(40, 2, 2),
-        State::IonosphereBlocks(_, _, _, _) => up_to(40, 2, 2),
-        State::TroposphereEquation(_) => up_to(41, 3, 2),
-        State::TroposphereQuality(_, _) => up_to(42, 3, 7),
-        State::Delay(_, _) => up_to(43, 8, 254),
-        State::TroposphereSize(_, _) => up_to(44, 1, 1),
-        State::T00(_, _, size) => t00_field(size),
-        State::T01(_, _, size) => t01_field(size),
-        State::T10(_, _, size) => t01_field(size),
-        State::T11(_, _, size) => t11_field(size),
-        State::TroposphereResidualSize(_) => up_to(51, 1, 1),
-        State::TroposphereResidual(_, size, _) => troposphere_residual_field(size),
-        State::IonosphereEquation(_) => up_to(54, 3, 2),
+        State::Siou(_) => sf(5),
+        State::Aiou(_, _) => sf(68),
+        State::Reserved(_, _, _) => sf(69),
+        State::Count(_, _, _) => sf(30),
+        State::Id(_) => sf(31),
+        State::Points(_, _) => sf(39),
+        State::TroposphereBlocks(_, _, _) => sf(40),
+        State::IonosphereBlocks(_, _, _, _) => sf(40),
+        State::TroposphereEquation(_) => sf(41),
+        State::TroposphereQuality(_, _) => sf(42),
+        State::Delay(_, _) => sf(43),
+        State::TroposphereSize(_, _) => sf(44),
+        State::T00(_, _, size) => sized_field(size, 45, 48),
+        State::T01(_, _, size) => sized_field(size, 46, 49),
+        State::T10(_, _, size) => sized_field(size, 46, 49),
+        State::T11(_, _, size) => sized_field(size, 47, 50),
+        State::TroposphereResidualSize(_) => sf(51),
+        State::TroposphereResidual(_, size, _) => sized_field(size, 52, 53),
+        State::IonosphereEquation(_) => sf(54),
         State::MaskSize(area, _) => {
             let constellation = area.constellation;
             mask_size_field(constellation)
@@ -125,13 +120,13 @@ fn field_by_state(s: State) -> Field
             let constellation = area.constellation;
             mask_field(constellation, size)
         }
-        State::Quality(_, _) => up_to(55, 4, 15),
-        State::Size(_, _) => up_to(56, 1, 1),
-        State::C00(_, _, size) => c00_field(size),
-        State::C01(_, _, size) => c01_field(size),
-        State::C10(_, _, size) => c01_field(size),
-        State::C11(_, _, size) => c11_field(size),
-        State::ResidualSize(_, _) => up_to(63, 2, 3),
+        State::Quality(_, _) => sf(55),
+        State::Size(_, _) => sf(56),
+        State::C00(_, _, size) => sized_field(size, 57, 60),
+        State::C01(_, _, size) => sized_field(size, 58, 61),
+        State::C10(_, _, size) => sized_field(size, 58, 61),
+        State::C11(_, _, size) => sized_field(size, 59, 62),
+        State::ResidualSize(_, _) => sf(63),
         State::Residual(_, _, size, _) => residual_field(size),
         State::Done => up_to(0, 0, 0),
     }

@@ -1,6 +1,6 @@
 // The twelve payloads of document 01 as one machine: which field is next, and where a code leads.
 ghost use mathlib.Core.Path.{_≡_};
-ghost use Rattle.layout.specs.Tests.{Matched};
+ghost use Rattle.answer.specs.Matched.{Matched};
 ghost use Rattle.message.specs.Messages.{constellationFor};
 ghost use Rattle.message.specs.Machine.{fieldOf, stepOf, startOf, ocbStart, hpacStart, gadStart, bpacStart};
 

@@ -1,6 +1,6 @@
 // The row from a state on and the state after it (crate `rows`), over all twelve payloads.
 ghost use mathlib.Core.Path.{_≡_};
-ghost use Rattle.layout.specs.Tests.{Matched};
+ghost use Rattle.answer.specs.Matched.{Matched};
 ghost use Rattle.message.specs.Machine.{stepOf};
 ghost use Rattle.message.specs.Rows.{rowOf, lastOf};
 use crate::State;

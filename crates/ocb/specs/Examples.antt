@@ -5,6 +5,7 @@ use lib.Count.{ones, onesIn}
 use Rattle.answer.specs.declared.Refusal.the-variants as refusal
 use Rattle.bits.specs.Bits.{bitsOf, toBits, number}
 use Rattle.layout.specs.Layout.{done, judge, Outcome, accepted, refused, readL}
+use Rattle.fields.specs.Fields.{table, find, lineOf, sf}
 use Rattle.layout.specs.Parts.{absent, present}
 use Rattle.codes.specs.declared.Constellation.the-variants.{Gps, Glonass, BeiDou}
 use Rattle.codes.specs.Tables.{maskSizes, maskSize, biasMaskSizes, biasSize}
@@ -17,7 +18,7 @@ gps-unused : readL (ocb Gps done) (toBits (2 ∷ 192 ∷ 4 ∷ 0 ∷ 0 ∷ 0 ∷
     (record { siou = 5; endOfSet = 1; datum = 0; ephemeris = 0; satellites = record { number = 5; state = outOfUse } ∷ [] })
     (5 ∷ 1 ∷ 0 ∷ 0 ∷ 0 ∷ 0 ∷ 0 ∷ 134217728 ∷ 1 ∷ [])
     50
-unfolding readL judge toBits bitsOf number numbered maskSize maskSizes
+unfolding readL judge table find lineOf sf toBits bitsOf number numbered maskSize maskSizes
 gps-unused = refl
 
 -- case 5: BeiDou likewise
@@ -26,12 +27,12 @@ beidou-unused : readL (ocb BeiDou done) (toBits (2 ∷ 192 ∷ 1 ∷ 0 ∷ 0 ∷
     (record { siou = 5; endOfSet = 1; datum = 0; ephemeris = 0; satellites = record { number = 5; state = outOfUse } ∷ [] })
     (5 ∷ 1 ∷ 0 ∷ 0 ∷ 0 ∷ 0 ∷ 0 ∷ 4294967296 ∷ 1 ∷ [])
     57
-unfolding readL judge toBits bitsOf number numbered maskSize maskSizes
+unfolding readL judge table find lineOf sf toBits bitsOf number numbered maskSize maskSizes
 beidou-unused = refl
 
 -- a mask without a satellite
 no-satellite : readL (ocb Gps done) (toBits (2 ∷ 192 ∷ 0 ∷ 0 ∷ 0 ∷ 0 ∷ 64 ∷ [])) ≡ refused refusal.MaskEmpty
-unfolding readL judge toBits bitsOf number numbered maskSize maskSizes
+unfolding readL judge table find lineOf sf toBits bitsOf number numbered maskSize maskSizes
 no-satellite = refl
 
 -- GLONASS satellite 1 with every block, its yaw invalid, and satellite 24 out of use
@@ -60,5 +61,5 @@ glonass-blocks : readL (ocb Glonass done)
     })
     (5 ∷ 1 ∷ 0 ∷ 1 ∷ 0 ∷ 0 ∷ 0 ∷ 8388609 ∷ 0 ∷ 7 ∷ 2 ∷ 99 ∷ 8191 ∷ 0 ∷ 16382 ∷ 63 ∷ 1 ∷ 8200 ∷ 4 ∷ 0 ∷ 16 ∷ 1 ∷ 6 ∷ 8000 ∷ 0 ∷ 8 ∷ 1023 ∷ 1 ∷ [])
     165
-unfolding readL judge toBits bitsOf number numbered maskSize maskSizes biasSize biasMaskSizes ones onesIn
+unfolding readL judge table find lineOf sf toBits bitsOf number numbered maskSize maskSizes biasSize biasMaskSizes ones onesIn
 glonass-blocks = refl

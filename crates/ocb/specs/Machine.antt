@@ -11,47 +11,48 @@ use Rattle.layout.specs.Layout.{pick}
 use Rattle.layout.specs.Parts.{upTo, free}
 use Rattle.layout.specs.Walks.{Fine, fine, Walks, goes, Leads, leads-optional, leads-times, leads-each}
 use Rattle.layout.specs.Tests.{one-less}
+use Rattle.fields.specs.Fields.{table, find, lineOf, sf}
 use Rattle.codes.specs.declared.Constellation.{Constellation}
 use Rattle.codes.specs.declared.Constellation.the-variants.{Gps, Glonass, Galileo, BeiDou, Qzss}
 use Rattle.ocb.specs.declared.Head.{Head}
 use Rattle.ocb.specs.declared.State.{State}
 use Rattle.ocb.specs.declared.State.the-variants.{Siou, EndOfSet, Reserved, YawPresent, Datum, Ephemeris, MaskSize, Mask, DoNotUse, Present, Continuity, Iode, Radial, Along, Cross, Yaw, IodeContinuity, ClockCorrection, RangeError, PhaseMaskSize, PhaseMask, Fix, PhaseContinuity, PhaseCorrection, CodeMaskSize, CodeMask, CodeCorrection, Done}
 use Rattle.codes.specs.Tables.{maskSf, maskSize, biasSize}
-use Rattle.ocb.specs.Tables.{ephemerisSf, ephemerisWidth, iodeSf, iodeWidth, phaseSf, codeSf}
-use Rattle.codes.specs.Sizes.{fine-mask, fine-bias}
-use Rattle.codes.specs.Fields.{steps, yawField, maskField, satellitesOf}
+use Rattle.ocb.specs.Tables.{ephemerisSf, iodeSf, phaseSf, codeSf}
+use Rattle.codes.specs.Sizes.{fine-mask-size, fine-mask, fine-bias}
+use Rattle.codes.specs.Fields.{maskField, satellitesOf}
 use Rattle.ocb.specs.Ocb.{Satellite, outOfUse, inUse, orbit, clock, phaseBias, bias, blocks, satellite, ocb}
 
 -- ---- the field at hand
 
 abbrev pub ocbField : State → Field
-ocbField (Siou c) = free 5 9
-ocbField (EndOfSet c) = free 10 1
-ocbField (Reserved c) = free 69 1
-ocbField (YawPresent c) = free 8 1
-ocbField (Datum c yaw) = free 9 1
-ocbField (Ephemeris c yaw) = free (ephemerisSf c) (ephemerisWidth c)
-ocbField (MaskSize c yaw) = free (maskSf c) 2
+ocbField (Siou c) = sf 5
+ocbField (EndOfSet c) = sf 10
+ocbField (Reserved c) = sf 69
+ocbField (YawPresent c) = sf 8
+ocbField (Datum c yaw) = sf 9
+ocbField (Ephemeris c yaw) = sf (ephemerisSf c)
+ocbField (MaskSize c yaw) = sf (maskSf c)
 ocbField (Mask c yaw size) = maskField (maskSf c) (maskSize c size)
-ocbField (DoNotUse head) = free 13 1
-ocbField (Present head) = free 14 3
-ocbField (Continuity head present) = free 15 3
-ocbField (Iode head present) = free (iodeSf (head .constellation)) (iodeWidth (head .constellation))
-ocbField (Radial head present) = steps 20 14
-ocbField (Along head present) = steps 20 14
-ocbField (Cross head present) = steps 20 14
-ocbField (Yaw head present) = yawField
-ocbField (IodeContinuity head present) = free 22 3
-ocbField (ClockCorrection head present) = steps 20 14
-ocbField (RangeError head present) = free 24 3
-ocbField (PhaseMaskSize head) = free (phaseSf (head .constellation)) 1
+ocbField (DoNotUse head) = sf 13
+ocbField (Present head) = sf 14
+ocbField (Continuity head present) = sf 15
+ocbField (Iode head present) = sf (iodeSf (head .constellation))
+ocbField (Radial head present) = sf 20
+ocbField (Along head present) = sf 20
+ocbField (Cross head present) = sf 20
+ocbField (Yaw head present) = sf 21
+ocbField (IodeContinuity head present) = sf 22
+ocbField (ClockCorrection head present) = sf 20
+ocbField (RangeError head present) = sf 24
+ocbField (PhaseMaskSize head) = sf (phaseSf (head .constellation))
 ocbField (PhaseMask head size) = free (phaseSf (head .constellation)) (biasSize (head .constellation) size)
-ocbField (Fix head more) = free 23 1
-ocbField (PhaseContinuity head more) = free 15 3
-ocbField (PhaseCorrection head more) = steps 20 14
-ocbField (CodeMaskSize head) = free (codeSf (head .constellation)) 1
+ocbField (Fix head more) = sf 23
+ocbField (PhaseContinuity head more) = sf 15
+ocbField (PhaseCorrection head more) = sf 20
+ocbField (CodeMaskSize head) = sf (codeSf (head .constellation))
 ocbField (CodeMask head size) = free (codeSf (head .constellation)) (biasSize (head .constellation) size)
-ocbField (CodeCorrection head more) = steps 29 11
+ocbField (CodeCorrection head more) = sf 29
 ocbField Done = upTo 0 0 0
 
 -- ---- the next state
@@ -143,30 +144,43 @@ codes-more head n h = one-less (codesFrom head) n h
 
 -- ---- the machine walks the layouts
 
-fine-ephemeris : (c : Constellation) → Fine (free (ephemerisSf c) (ephemerisWidth c))
-fine-ephemeris Gps = fine tt
-fine-ephemeris Glonass = fine tt
-fine-ephemeris Galileo = fine tt
-fine-ephemeris BeiDou = fine tt
-fine-ephemeris Qzss = fine tt
+-- a field's number that goes by the constellation
+pub by-constellation : (P : ℕ → Type 0) (number : Constellation → ℕ) → P (number Gps) → P (number Glonass) → P (number Galileo) → P (number BeiDou)
+    → P (number Qzss) → (c : Constellation) → P (number c)
+by-constellation P number gps glonass galileo beiDou qzss Gps = gps
+by-constellation P number gps glonass galileo beiDou qzss Glonass = glonass
+by-constellation P number gps glonass galileo beiDou qzss Galileo = galileo
+by-constellation P number gps glonass galileo beiDou qzss BeiDou = beiDou
+by-constellation P number gps glonass galileo beiDou qzss Qzss = qzss
 
-fine-iode : (c : Constellation) → Fine (free (iodeSf c) (iodeWidth c))
-fine-iode Gps = fine tt
-fine-iode Glonass = fine tt
-fine-iode Galileo = fine tt
-fine-iode BeiDou = fine tt
-fine-iode Qzss = fine tt
+fine-ephemeris : (c : Constellation) → Fine (sf (ephemerisSf c))
+unfolding sf lineOf find table
+fine-ephemeris = by-constellation (λ n. Fine (sf n)) ephemerisSf (fine tt) (fine tt) (fine tt) (fine tt) (fine tt)
+
+fine-iode : (c : Constellation) → Fine (sf (iodeSf c))
+unfolding sf lineOf find table
+fine-iode = by-constellation (λ n. Fine (sf n)) iodeSf (fine tt) (fine tt) (fine tt) (fine tt) (fine tt)
+
+fine-phase : (c : Constellation) → Fine (sf (phaseSf c))
+unfolding sf lineOf find table
+fine-phase = by-constellation (λ n. Fine (sf n)) phaseSf (fine tt) (fine tt) (fine tt) (fine tt) (fine tt)
+
+fine-code : (c : Constellation) → Fine (sf (codeSf c))
+unfolding sf lineOf find table
+fine-code = by-constellation (λ n. Fine (sf n)) codeSf (fine tt) (fine tt) (fine tt) (fine tt) (fine tt)
 
 module _ {A : Type 0} where
   leads-phase : (head : Head) (n : ℕ) → Leads {A = A} ocbField ocbStep (phasesFrom head (suc n)) phaseBias (phasesFrom head n)
+  unfolding sf lineOf find table
   leads-phase head n k rest = goes refl (fine tt) (λ _ _. goes refl (fine tt) (λ _ _. goes refl (fine tt) (λ _ _. rest _)))
 
   leads-bias : (head : Head) → Leads {A = A} ocbField ocbStep (PhaseMaskSize head) (bias (head .constellation)) (satelliteEnd head)
+  unfolding sf lineOf find table
   leads-bias head k rest =
       let c : Constellation = head .constellation in
-      goes refl (fine tt) (λ phaseSize _. goes refl (fine-bias (phaseSf c) c _) (λ phaseMask _.
+      goes refl (fine-phase c) (λ phaseSize _. goes refl (fine-bias (phaseSf c) c _) (λ phaseMask _.
       leads-times ocbField ocbStep (phasesFrom head) (leads-phase head) (ones phaseMask) _ (λ phases.
-      goes refl (fine tt) (λ codeSize _. goes refl (fine-bias (codeSf c) c _) (λ codeMask _.
+      goes refl (fine-code c) (λ codeSize _. goes refl (fine-bias (codeSf c) c _) (λ codeMask _.
       leads-times ocbField ocbStep (codesFrom head) (λ n k rest. goes refl (fine tt) (λ x _. rest x)) (ones codeMask) _ (λ codes.
       rest (record {
         phaseMask = record { size = phaseSize; bits = phaseMask };
@@ -176,15 +190,18 @@ module _ {A : Type 0} where
       })))))))
 
   leads-clock : (head : Head) (present : ℕ) → Leads {A = A} ocbField ocbStep (IodeContinuity head present) clock (biasFrom head present)
+  unfolding sf lineOf find table
   leads-clock head present k rest = goes refl (fine tt) (λ _ _. goes refl (fine tt) (λ _ _. goes refl (fine tt) (λ _ _. rest _)))
 
   leads-orbit : (head : Head) (present : ℕ) → Leads {A = A} ocbField ocbStep (Iode head present) (orbit (head .constellation) (head .yaw)) (clockFrom head present)
+  unfolding sf lineOf find table
   leads-orbit head present k rest =
       goes refl (fine-iode (head .constellation)) (λ iode _. goes refl (fine tt) (λ radial _. goes refl (fine tt) (λ along _. goes refl (fine tt) (λ cross _.
       leads-optional ocbField ocbStep (eqb (head .yaw) 1) (λ k rest. goes refl (fine tt) (λ x _. rest x)) _ (λ yaw.
       rest (record { iode = iode; radial = radial; along = along; cross = cross; yaw = yaw }))))))
 
   leads-blocks : (head : Head) → Leads {A = A} ocbField ocbStep (Present head) (blocks (head .constellation) (head .yaw)) (satelliteEnd head)
+  unfolding sf lineOf find table
   leads-blocks head k rest =
       goes refl (fine tt) (λ present _. goes refl (fine tt) (λ continuity _.
       leads-optional ocbField ocbStep (eqb (present / 4 % 2) 1) (leads-orbit head present) _ (λ orbit.
@@ -194,6 +211,7 @@ module _ {A : Type 0} where
 
   leads-satellite : (c : Constellation) (yaw n number : ℕ)
       → Leads {A = A} ocbField ocbStep (satellitesFrom c yaw (suc n)) (satellite c yaw number) (satellitesFrom c yaw n)
+  unfolding sf lineOf find table
   leads-satellite c yaw n number k rest = goes refl (fine tt) (λ doNotUse _. go (eqb doNotUse 1))
     where
       go : (b : Bool)
@@ -203,8 +221,9 @@ module _ {A : Type 0} where
       go false = leads-blocks (record { constellation = c; yaw = yaw; more = n }) _ (λ x. rest (record { number = number; state = inUse x }))
 
   pub leads-ocb : (c : Constellation) → Leads {A = A} ocbField ocbStep (Siou c) (ocb c) Done
+  unfolding sf lineOf find table
   leads-ocb c k rest =
       goes refl (fine tt) (λ siou _. goes refl (fine tt) (λ endOfSet _. goes refl (fine tt) (λ _ _. goes refl (fine tt) (λ yaw _. goes refl (fine tt) (λ datum _.
-      goes refl (fine-ephemeris c) (λ ephemeris _. goes refl (fine tt) (λ size _. goes refl (fine-mask (maskSf c) c size) (λ mask _.
+      goes refl (fine-ephemeris c) (λ ephemeris _. goes refl (fine-mask-size c) (λ size _. goes refl (fine-mask (maskSf c) c size) (λ mask _.
       leads-each ocbField ocbStep (satellitesFrom c yaw) (leads-satellite c yaw) (satellitesOf c size mask) _ (λ satellites.
       rest (record { siou = siou; endOfSet = endOfSet; datum = datum; ephemeris = ephemeris; satellites = satellites }))))))))))

@@ -1,158 +1,72 @@
 -- Mirror: the rows of row.rt, and that the machine goes along them. A row ends where a code decides.
 use mathlib.Core.Path.{_≡_, refl, ap, ap₂, sym, _∙_, subst}
-use mathlib.Core.Bool.{Bool, true, false}
-use mathlib.Core.List.{List, [], _∷_, _++_}
-use Prim.Native.Nat.{ℕ, zero, suc, _-_, _*_, _/_, _%_, _≤_, _<_}
+use mathlib.Core.Bool.{Bool, true, false, _&&_}
+use mathlib.Core.List.{List, [], _∷_, _++_, append-nil}
+use Prim.Native.Nat.{ℕ, zero, suc, _+_, _-_, _*_, _/_, _%_, _<_}
 use native.Mathlib.Omega.{arith}
-use borrow.Author.Tests.{eq-eqb, ne-eqb}
-use lib.Dec.{eqb}
+use borrow.Author.Tests.{eq-eqb, ne-eqb, ltb-true}
+use lib.Dec.{T, eqb, ltb}
 use Rattle.layout.specs.Layout.{pick}
-use Rattle.layout.specs.Parts.{free}
 use Rattle.layout.specs.Tests.{one-less}
+use Rattle.fields.specs.Fields.{table, find, lineOf, sf}
 use Rattle.rows.specs.declared.Row.{Row}
-use Rattle.rows.specs.Rows.{cells, cellsIn, again, cellsOf, oneRow, noRow}
+use Rattle.rows.specs.Rows.{fieldIn, wordOf, cells, cellsIn, again, cellsOf, oneRow, noRow}
+use Rattle.rows.specs.Cells.{cells-more}
 use Rattle.rows.specs.Along.{In, is, Along, stays, decides, passes, along-either, along-optional}
 use Rattle.codes.specs.declared.Constellation.{Constellation}
-use Rattle.codes.specs.declared.Constellation.the-variants.{Gps, Glonass, Galileo, BeiDou, Qzss}
-use Rattle.codes.specs.Tables.{biasMaskSizes, biasSize}
-use Rattle.codes.specs.Sizes.{bias-word}
-use Rattle.ocb.specs.Tables.{iodeSf, iodeWidth, phaseSf, codeSf}
+use Rattle.ocb.specs.Tables.{iodeSf, phaseSf, codeSf}
 use Rattle.ocb.specs.declared.Head.{Head}
 use Rattle.ocb.specs.declared.State.{State}
 use Rattle.ocb.specs.declared.State.the-variants as ocb
 use Rattle.ocb.specs.declared.State.the-variants.{Siou, EndOfSet, Reserved, YawPresent, Datum, Ephemeris, MaskSize, Mask, DoNotUse, Present, Continuity, Iode, Radial, Cross, Yaw, IodeContinuity, ClockCorrection, RangeError, PhaseMaskSize, PhaseMask, Fix, PhaseContinuity, PhaseCorrection, CodeMaskSize, CodeMask, CodeCorrection, Done}
-use Rattle.ocb.specs.Machine.{ocbField, ocbStep, satellitesFrom, satelliteEnd, biasFrom, clockFrom, phasesFrom, codesFrom}
+use Rattle.ocb.specs.Machine.{ocbField, ocbStep, satellitesFrom, satelliteEnd, biasFrom, clockFrom, by-constellation}
 
--- ---- how a row ends
+-- ---- how a row ends; a cell that is 0 is none
 
 -- the next satellite's SF013
-abbrev pub nextTail : ℕ → ℕ
-nextTail zero = 0
-nextTail (suc more) = 0x01
+abbrev pub nextCell : ℕ → ℕ
+nextCell zero = 0
+nextCell (suc more) = 13
 
 -- the size of the phase bias mask
-abbrev pub biasTail : Head → (present : ℕ) → ℕ
-biasTail head present = pick (eqb (present % 2) 1) 0x01 (nextTail (head .more))
+abbrev pub biasCell : Head → (present : ℕ) → ℕ
+biasCell head present = pick (eqb (present % 2) 1) (phaseSf (head .constellation)) (nextCell (head .more))
 
 -- the clock block before it
-abbrev pub clockNext : ℕ → ℕ
-clockNext zero = 0x21D221
-clockNext (suc more) = 0x0121D221
-
-abbrev pub clockTail : Head → (present : ℕ) → ℕ
-clockTail head present = pick (eqb (present % 2) 1) 0x0121D221 (clockNext (head .more))
-
 abbrev pub blocksTail : Head → (present : ℕ) → ℕ
-blocksTail head present = pick (eqb (present / 2 % 2) 1) (clockTail head present) (biasTail head present)
+blocksTail head present = pick (eqb (present / 2 % 2) 1) (wordOf (22 ∷ 20 ∷ 24 ∷ biasCell head present ∷ [])) (biasCell head present)
 
 -- ---- SF015, and the orbit block if there is one
 
-abbrev pub orbitCells : Constellation → ℕ
-orbitCells Gps = 0xD2D2D27121
-orbitCells Glonass = 0xD2D2D26121
-orbitCells Galileo = 0xD2D2D29121
-orbitCells BeiDou = 0xD2D2D27121
-orbitCells Qzss = 0xD2D2D27121
+abbrev pub yawCell : ℕ → ℕ
+yawCell yaw = pick (eqb yaw 1) 21 0
 
-abbrev pub yawCells : Constellation → ℕ
-yawCells Gps = 0x53D2D2D27121
-yawCells Glonass = 0x53D2D2D26121
-yawCells Galileo = 0x53D2D2D29121
-yawCells BeiDou = 0x53D2D2D27121
-yawCells Qzss = 0x53D2D2D27121
-
-abbrev pub withOrbit : (yaw : ℕ) → Constellation → ℕ
-withOrbit yaw c = pick (eqb yaw 1) (yawCells c) (orbitCells c)
+abbrev pub orbitGroup : (yaw : ℕ) → Constellation → ℕ
+orbitGroup yaw c = wordOf (15 ∷ iodeSf c ∷ 20 ∷ 20 ∷ 20 ∷ yawCell yaw ∷ [])
 
 abbrev pub blocksGroup : Head → (present : ℕ) → ℕ
-blocksGroup head present = pick (eqb (present / 4 % 2) 1) (withOrbit (head .yaw) (head .constellation)) 0x21
+blocksGroup head present = pick (eqb (present / 4 % 2) 1) (orbitGroup (head .yaw) (head .constellation)) 15
 
--- a bias mask
-abbrev pub maskCell : Constellation → ℕ → ℕ
-maskCell c size = biasSize c size * 16 - 15
+-- ---- a test of the code's helpers, and what the inner calls gave them
 
--- ---- the row from a state on, and the state of its last field
+pub next-none : (n : ℕ) → n ≡ 0 → 0 ≡ nextCell n
+next-none n e = ap nextCell (sym e)
 
-abbrev pub ocbRow : State → Row
-ocbRow (Siou c) = oneRow 0x01010181
-ocbRow (EndOfSet c) = noRow
-ocbRow (Reserved c) = noRow
-ocbRow (YawPresent c) = noRow
-ocbRow (Datum c yaw) = noRow
-ocbRow (Ephemeris c yaw) = noRow
-ocbRow (MaskSize c yaw) = noRow
-ocbRow (Mask c yaw size) = noRow
-ocbRow (DoNotUse head) = oneRow 0x01
-ocbRow (Present head) = oneRow 0x21
-ocbRow (Continuity head present) = record { group = blocksGroup head present; more = 0; tail = blocksTail head present }
-ocbRow (Iode head present) = noRow
-ocbRow (Radial head present) = noRow
-ocbRow (ocb.Along head present) = noRow
-ocbRow (Cross head present) = noRow
-ocbRow (Yaw head present) = noRow
-ocbRow (IodeContinuity head present) = noRow
-ocbRow (ClockCorrection head present) = noRow
-ocbRow (RangeError head present) = noRow
-ocbRow (PhaseMaskSize head) = noRow
-ocbRow (PhaseMask head size) = oneRow (maskCell (head .constellation) size)
-ocbRow (Fix head more) = record { group = 0xD22101; more = more; tail = 0x01 }
-ocbRow (PhaseContinuity head more) = noRow
-ocbRow (PhaseCorrection head more) = noRow
-ocbRow (CodeMaskSize head) = oneRow 0x01
-ocbRow (CodeMask head size) = oneRow (maskCell (head .constellation) size)
-ocbRow (CodeCorrection head more) = record { group = 0xA2; more = more; tail = nextTail (head .more) }
-ocbRow Done = noRow
+pub next-some : (n : ℕ) → (n ≡ 0 → ⊥) → 13 ≡ nextCell n
+next-some n h = one-less nextCell n h
 
-abbrev pub ocbLast : State → State
-ocbLast (Siou c) = YawPresent c
-ocbLast (EndOfSet c) = Done
-ocbLast (Reserved c) = Done
-ocbLast (YawPresent c) = Done
-ocbLast (Datum c yaw) = Done
-ocbLast (Ephemeris c yaw) = Done
-ocbLast (MaskSize c yaw) = Done
-ocbLast (Mask c yaw size) = Done
-ocbLast (DoNotUse head) = DoNotUse head
-ocbLast (Present head) = Present head
-ocbLast (Continuity head present) = biasFrom head present
-ocbLast (Iode head present) = Done
-ocbLast (Radial head present) = Done
-ocbLast (ocb.Along head present) = Done
-ocbLast (Cross head present) = Done
-ocbLast (Yaw head present) = Done
-ocbLast (IodeContinuity head present) = Done
-ocbLast (ClockCorrection head present) = Done
-ocbLast (RangeError head present) = Done
-ocbLast (PhaseMaskSize head) = Done
-ocbLast (PhaseMask head size) = PhaseMask head size
-ocbLast (Fix head more) = CodeMaskSize head
-ocbLast (PhaseContinuity head more) = Done
-ocbLast (PhaseCorrection head more) = Done
-ocbLast (CodeMaskSize head) = CodeMaskSize head
-ocbLast (CodeMask head size) = CodeMask head size
-ocbLast (CodeCorrection head more) = satelliteEnd head
-ocbLast Done = Done
+pub clock-word : (a b bias : ℕ) {last : ℕ} → a ≡ b → last ≡ bias
+    → wordOf (22 ∷ 20 ∷ 24 ∷ []) + 16777216 * last ≡ pick (eqb a b) (wordOf (22 ∷ 20 ∷ 24 ∷ bias ∷ [])) bias
+clock-word a b bias {last} e q =
+    let made : 1578006 + 16777216 * last ≡ wordOf (22 ∷ 20 ∷ 24 ∷ bias ∷ []) = omega arith in
+    rw (eq-eqb a b e) made
 
--- ---- a test of the code's helpers, and a row whose words they gave
-
-pub row-made : (more : ℕ) {group group' tail tail' : ℕ} → group ≡ group' → tail ≡ tail'
-    → _≡_ {A = Row} (record { group = group; more = more; tail = tail }) (record { group = group'; more = more; tail = tail' })
-row-made more p q = ap₂ (λ (g t : ℕ). record { group = g; more = more; tail = t }) p q
-
-pub mask-made : (c : Constellation) (size width : ℕ) {r : Row} → width ≡ biasSize c size → r ≡ oneRow (width * 16 - 15) → r ≡ oneRow (maskCell c size)
-mask-made c size width e h = h ∙ ap (λ (w : ℕ). oneRow (w * 16 - 15)) e
-
-pub next-none : (n : ℕ) → n ≡ 0 → 0 ≡ nextTail n
-next-none n e = ap nextTail (sym e)
-
-pub next-some : (n : ℕ) → (n ≡ 0 → ⊥) → 0x01 ≡ nextTail n
-next-some n h = one-less nextTail n h
-
-pub clock-none : (n : ℕ) → n ≡ 0 → 0x21D221 ≡ clockNext n
-clock-none n e = ap clockNext (sym e)
-
-pub clock-some : (n : ℕ) → (n ≡ 0 → ⊥) → 0x0121D221 ≡ clockNext n
-clock-some n h = one-less clockNext n h
+pub orbit-word : (yaw : ℕ) (c : Constellation) {iode last : ℕ} → iode ≡ iodeSf c → last ≡ yawCell yaw
+    → wordOf (15 ∷ 0 ∷ 20 ∷ 20 ∷ 20 ∷ []) + 256 * iode + 1099511627776 * last ≡ orbitGroup yaw c
+orbit-word yaw c {iode} {last} p q = go iode last ∙ ap₂ (λ (i l : ℕ). wordOf (15 ∷ i ∷ 20 ∷ 20 ∷ 20 ∷ l ∷ [])) p q
+  where
+    go : (i l : ℕ) → wordOf (15 ∷ 0 ∷ 20 ∷ 20 ∷ 20 ∷ []) + 256 * i + 1099511627776 * l ≡ wordOf (15 ∷ i ∷ 20 ∷ 20 ∷ 20 ∷ l ∷ [])
+    go i l = omega arith
 
 pub next-over : (c : Constellation) (yaw n code : ℕ) → n ≡ 0 → Done ≡ ocbStep (satellitesFrom c yaw n) code
 next-over c yaw n code e = ap (λ (x : ℕ). ocbStep (satellitesFrom c yaw x) code) (sym e)
@@ -167,171 +81,193 @@ step-same a b x y c e h = rw (eq-eqb a b e) h
 pub step-other : (a b : ℕ) (x y : State) {r : State} (c : ℕ) → (a ≡ b → ⊥) → r ≡ ocbStep y c → r ≡ ocbStep (pick (eqb a b) x y) c
 step-other a b x y c e h = rw (ne-eqb a b e) h
 
-pub mask-some : (c : Constellation) (size width : ℕ) → width ≡ biasSize c size → 15 ≤ width * 16
-mask-some c size width e = omega (arith, bias-word c size .some)
+-- ---- the cells of a word
+
+abbrev areCells : List ℕ → Bool
+areCells [] = true
+areCells (cell ∷ cs) = ltb 0 cell && (ltb cell 256 && areCells cs)
+
+-- what its last cell is need not be known
+cells-word : (cs : List ℕ) (last : ℕ) → T (areCells cs) → cellsIn (wordOf (cs ++ (last ∷ []))) ≡ cs ++ cellsIn last
+cells-word [] last t = let e : last + 256 * 0 ≡ last = omega arith in ap cellsIn e
+cells-word (cell ∷ cs) last t = go (wordOf (cs ++ (last ∷ []))) (λ u. cells-word cs last u) (ltb 0 cell) (ltb cell 256) refl refl t
+  where
+    go : (word : ℕ) → (T (areCells cs) → cellsIn word ≡ cs ++ cellsIn last) → (a b : Bool) → ltb 0 cell ≡ a → ltb cell 256 ≡ b
+        → T (a && (b && areCells cs)) → cellsIn (cell + 256 * word) ≡ cell ∷ (cs ++ cellsIn last)
+    go word rest true true p q t =
+        let some : 0 < cell = ltb-true 0 cell p in
+        let small : cell < 256 = ltb-true cell 256 q in
+        let first : (cell + 256 * word) % 256 ≡ cell = omega arith in
+        let others : (cell + 256 * word) / 256 ≡ word = omega arith in
+        cells-more (cell + 256 * word) (λ z. omega arith) ∙ ap₂ (λ (c : ℕ) (l : List ℕ). c ∷ l) first (ap cellsIn others ∙ rest t)
+    go word rest true false p q t = absurd t
+    go word rest false b p q t = absurd t
+
+-- a field's number that is a word of one cell
+data Cell (n : ℕ) : Type 0 where
+  cell : In (sf n) n → cellsIn n ≡ n ∷ [] → Cell n
+
+phase-cell : (c : Constellation) → Cell (phaseSf c)
+unfolding cells cellsIn fieldIn sf lineOf find table
+phase-cell = by-constellation Cell phaseSf (cell (is refl) refl) (cell (is refl) refl) (cell (is refl) refl) (cell (is refl) refl) (cell (is refl) refl)
+
+code-cell : (c : Constellation) → Cell (codeSf c)
+unfolding cells cellsIn fieldIn sf lineOf find table
+code-cell = by-constellation Cell codeSf (cell (is refl) refl) (cell (is refl) refl) (cell (is refl) refl) (cell (is refl) refl) (cell (is refl) refl)
+
+cell-decides : {n : ℕ} {s : State} → Cell n → ocbField s ≡ sf n → Along ocbField ocbStep s (cellsIn n) (ocbStep s)
+cell-decides {n} {s} (cell i e) p =
+    subst (λ cs. Along ocbField ocbStep s cs (ocbStep s)) (sym e) (decides (subst (λ f. In f n) (sym p) i) (λ _. refl))
 
 -- ---- the machine goes along them
 
 next-along : (c : Constellation) (yaw n : ℕ)
-    → Along ocbField ocbStep (satellitesFrom c yaw n) (cellsIn (nextTail n)) (ocbStep (satellitesFrom c yaw n))
-unfolding cells cellsIn
+    → Along ocbField ocbStep (satellitesFrom c yaw n) (cellsIn (nextCell n)) (ocbStep (satellitesFrom c yaw n))
+unfolding cells cellsIn fieldIn sf lineOf find table
 next-along c yaw zero = stays (λ _. refl)
 next-along c yaw (suc more) = decides (is refl) (λ _. refl)
 
-bias-along : (head : Head) (present : ℕ) → Along ocbField ocbStep (biasFrom head present) (cellsIn (biasTail head present)) (ocbStep (biasFrom head present))
-unfolding cells cellsIn
+bias-along : (head : Head) (present : ℕ) → Along ocbField ocbStep (biasFrom head present) (cellsIn (biasCell head present)) (ocbStep (biasFrom head present))
 bias-along head present =
-    along-either ocbField ocbStep (eqb (present % 2) 1) 0x01 (nextTail (head .more)) (decides (is refl) (λ _. refl))
-    (next-along (head .constellation) (head .yaw) (head .more))
-
-clock-cells : (head : Head) (present : ℕ) → cellsIn (clockTail head present) ≡ 0x21 ∷ 0xD2 ∷ 0x21 ∷ cellsIn (biasTail head present)
-unfolding cells cellsIn
-clock-cells head present = go (eqb (present % 2) 1) (head .more)
-  where
-    go : (b : Bool) (n : ℕ) → cellsIn (pick b 0x0121D221 (clockNext n)) ≡ 0x21 ∷ 0xD2 ∷ 0x21 ∷ cellsIn (pick b 0x01 (nextTail n))
-    go true n = refl
-    go false zero = refl
-    go false (suc n) = refl
+    along-either ocbField ocbStep (eqb (present % 2) 1) (phaseSf (head .constellation)) (nextCell (head .more))
+    (cell-decides (phase-cell (head .constellation)) refl) (next-along (head .constellation) (head .yaw) (head .more))
 
 blocks-along : (head : Head) (present : ℕ) → Along ocbField ocbStep (clockFrom head present) (cellsIn (blocksTail head present)) (ocbStep (biasFrom head present))
-blocks-along head present =
-    go (eqb (present / 2 % 2) 1) (clockTail head present) (biasTail head present)
-    (subst (λ cs. Along ocbField ocbStep (IodeContinuity head present) cs (ocbStep (biasFrom head present))) (sym (clock-cells head present))
-    (passes (is refl) (λ _. passes (is refl) (λ _. passes (is refl) (λ _. bias-along head present)))))
-    (bias-along head present)
+unfolding fieldIn sf lineOf find table
+blocks-along head present = go (eqb (present / 2 % 2) 1)
   where
-    go : (b : Bool) (m n : ℕ) {s t : State} {k : ℕ → State} → Along ocbField ocbStep s (cellsIn m) k → Along ocbField ocbStep t (cellsIn n) k
-        → Along ocbField ocbStep (pick b s t) (cellsIn (pick b m n)) k
-    go true m n p q = p
-    go false m n p q = q
+    go : (b : Bool) → Along ocbField ocbStep (pick b (IodeContinuity head present) (biasFrom head present))
+        (cellsIn (pick b (wordOf (22 ∷ 20 ∷ 24 ∷ biasCell head present ∷ [])) (biasCell head present))) (ocbStep (biasFrom head present))
+    go true =
+        subst (λ cs. Along ocbField ocbStep (IodeContinuity head present) cs (ocbStep (biasFrom head present)))
+        (sym (cells-word (22 ∷ 20 ∷ 24 ∷ []) (biasCell head present) tt))
+        (passes (is refl) (λ _. passes (is refl) (λ _. passes (is refl) (λ _. bias-along head present))))
+    go false = bias-along head present
 
-abbrev iodeCell : Constellation → ℕ
-iodeCell Gps = 0x71
-iodeCell Glonass = 0x61
-iodeCell Galileo = 0x91
-iodeCell BeiDou = 0x71
-iodeCell Qzss = 0x71
+iode-in : (c : Constellation) → In (sf (iodeSf c)) (iodeSf c)
+unfolding fieldIn sf lineOf find table
+iode-in = by-constellation (λ n. In (sf n) n) iodeSf (is refl) (is refl) (is refl) (is refl) (is refl)
 
-iode-in : (c : Constellation) → In (free (iodeSf c) (iodeWidth c)) (iodeCell c)
-iode-in Gps = is refl
-iode-in Glonass = is refl
-iode-in Galileo = is refl
-iode-in BeiDou = is refl
-iode-in Qzss = is refl
-
-orbit-cells : (head : Head) (present : ℕ) (tail : List ℕ) → cellsIn (blocksGroup head present) ++ tail
-    ≡ 0x21 ∷ (pick (eqb (present / 4 % 2) 1) (iodeCell (head .constellation) ∷ 0xD2 ∷ 0xD2 ∷ 0xD2 ∷ pick (eqb (head .yaw) 1) (0x53 ∷ []) []) [] ++ tail)
+orbit-cells : (orbit yaw : Bool) (c : Constellation) → cellsIn (pick orbit (wordOf (15 ∷ iodeSf c ∷ 20 ∷ 20 ∷ 20 ∷ pick yaw 21 0 ∷ [])) 15)
+    ≡ 15 ∷ pick orbit (iodeSf c ∷ 20 ∷ 20 ∷ 20 ∷ pick yaw (21 ∷ []) []) []
 unfolding cells cellsIn
-orbit-cells head present tail = go (eqb (present / 4 % 2) 1) (eqb (head .yaw) 1) (head .constellation)
+orbit-cells true yaw c =
+    cells-word (15 ∷ iodeSf c ∷ 20 ∷ 20 ∷ 20 ∷ []) (pick yaw 21 0) (by-constellation (λ n. T (areCells (15 ∷ n ∷ 20 ∷ 20 ∷ 20 ∷ []))) iodeSf tt tt tt tt tt c)
+    ∙ ap (λ l. 15 ∷ iodeSf c ∷ 20 ∷ 20 ∷ 20 ∷ l) (go yaw)
   where
-    go : (o y : Bool) (c : Constellation) → cellsIn (pick o (pick y (yawCells c) (orbitCells c)) 0x21) ++ tail
-        ≡ 0x21 ∷ (pick o (iodeCell c ∷ 0xD2 ∷ 0xD2 ∷ 0xD2 ∷ pick y (0x53 ∷ []) []) [] ++ tail)
-    go false y c = refl
-    go true true Gps = refl
-    go true true Glonass = refl
-    go true true Galileo = refl
-    go true true BeiDou = refl
-    go true true Qzss = refl
-    go true false Gps = refl
-    go true false Glonass = refl
-    go true false Galileo = refl
-    go true false BeiDou = refl
-    go true false Qzss = refl
+    go : (y : Bool) → cellsIn (pick y 21 0) ≡ pick y (21 ∷ []) []
+    go true = refl
+    go false = refl
+orbit-cells false yaw c = refl
 
-continuity-along : (head : Head) (present : ℕ)
-    → Along ocbField ocbStep (Continuity head present) (cellsOf (ocbRow (Continuity head present))) (ocbStep (biasFrom head present))
+pub continuity-along : (head : Head) (present : ℕ)
+    → Along ocbField ocbStep (Continuity head present) (cellsIn (blocksGroup head present) ++ cellsIn (blocksTail head present)) (ocbStep (biasFrom head present))
+unfolding fieldIn sf lineOf find table
 continuity-along head present =
-    subst (λ cs. Along ocbField ocbStep (Continuity head present) cs (ocbStep (biasFrom head present)))
-    (sym (orbit-cells head present (cellsIn (blocksTail head present))))
+    subst (λ cs. Along ocbField ocbStep (Continuity head present) (cs ++ cellsIn (blocksTail head present)) (ocbStep (biasFrom head present)))
+    (sym (orbit-cells (eqb (present / 4 % 2) 1) (eqb (head .yaw) 1) (head .constellation)))
     (passes (is refl) (λ _.
     along-optional ocbField ocbStep (eqb (present / 4 % 2) 1)
-    (iodeCell (head .constellation) ∷ 0xD2 ∷ 0xD2 ∷ 0xD2 ∷ pick (eqb (head .yaw) 1) (0x53 ∷ []) [])
+    (iodeSf (head .constellation) ∷ 20 ∷ 20 ∷ 20 ∷ pick (eqb (head .yaw) 1) (21 ∷ []) [])
     (λ rest. passes (iode-in (head .constellation)) (λ _. passes (is refl) (λ _. passes (is refl) (λ _. passes (is refl) (λ _.
-    along-optional ocbField ocbStep (eqb (head .yaw) 1) (0x53 ∷ []) (λ rest. passes (is refl) (λ _. rest)) rest)))))
+    along-optional ocbField ocbStep (eqb (head .yaw) 1) (21 ∷ []) (λ rest. passes (is refl) (λ _. rest)) rest)))))
     (blocks-along head present)))
 
-mask-in : (sf : ℕ) (c : Constellation) (size : ℕ) → In (free sf (biasSize c size)) (maskCell c size)
-unfolding biasSize biasMaskSizes
-mask-in sf Gps zero = is refl
-mask-in sf Gps (suc zero) = is refl
-mask-in sf Gps (suc (suc n)) = is refl
-mask-in sf Glonass zero = is refl
-mask-in sf Glonass (suc zero) = is refl
-mask-in sf Glonass (suc (suc n)) = is refl
-mask-in sf Galileo zero = is refl
-mask-in sf Galileo (suc zero) = is refl
-mask-in sf Galileo (suc (suc n)) = is refl
-mask-in sf BeiDou zero = is refl
-mask-in sf BeiDou (suc zero) = is refl
-mask-in sf BeiDou (suc (suc n)) = is refl
-mask-in sf Qzss zero = is refl
-mask-in sf Qzss (suc zero) = is refl
-mask-in sf Qzss (suc (suc n)) = is refl
+siou-fields : (c : Constellation) → Along ocbField ocbStep (Siou c) (5 ∷ 10 ∷ 69 ∷ 8 ∷ []) (ocbStep (YawPresent c))
+unfolding fieldIn sf lineOf find table
+siou-fields c = passes (is refl) (λ _. passes (is refl) (λ _. passes (is refl) (λ _. decides (is refl) (λ _. refl))))
 
--- a mask's cell is one cell
-mask-cell : (c : Constellation) (size : ℕ) → cellsIn (maskCell c size) ≡ maskCell c size ∷ []
-unfolding cells cellsIn biasSize biasMaskSizes
-mask-cell Gps zero = refl
-mask-cell Gps (suc zero) = refl
-mask-cell Gps (suc (suc n)) = refl
-mask-cell Glonass zero = refl
-mask-cell Glonass (suc zero) = refl
-mask-cell Glonass (suc (suc n)) = refl
-mask-cell Galileo zero = refl
-mask-cell Galileo (suc zero) = refl
-mask-cell Galileo (suc (suc n)) = refl
-mask-cell BeiDou zero = refl
-mask-cell BeiDou (suc zero) = refl
-mask-cell BeiDou (suc (suc n)) = refl
-mask-cell Qzss zero = refl
-mask-cell Qzss (suc zero) = refl
-mask-cell Qzss (suc (suc n)) = refl
+pub siou-along : (c : Constellation) → Along ocbField ocbStep (Siou c) (cellsOf (oneRow (wordOf (5 ∷ 10 ∷ 69 ∷ 8 ∷ [])))) (ocbStep (YawPresent c))
+unfolding cells cellsIn
+siou-along c = siou-fields c
 
-siou-along : (c : Constellation) → Along ocbField ocbStep (Siou c) (0x81 ∷ 0x01 ∷ 0x01 ∷ 0x01 ∷ []) (ocbStep (YawPresent c))
-siou-along c = passes (is refl) (λ _. passes (is refl) (λ _. passes (is refl) (λ _. decides (is refl) (λ _. refl))))
+pub use-along : (head : Head) → Along ocbField ocbStep (DoNotUse head) (cellsOf (oneRow 13)) (ocbStep (DoNotUse head))
+unfolding cells cellsIn fieldIn sf lineOf find table
+use-along head = decides (is refl) (λ _. refl)
 
-phases-along : (head : Head) (more : ℕ)
-    → Along ocbField ocbStep (Fix head more) (again (suc more) (0x01 ∷ 0x21 ∷ 0xD2 ∷ []) (0x01 ∷ [])) (ocbStep (CodeMaskSize head))
-phases-along head zero = passes (is refl) (λ _. passes (is refl) (λ _. passes (is refl) (λ _. decides (is refl) (λ _. refl))))
-phases-along head (suc more) = passes (is refl) (λ _. passes (is refl) (λ _. passes (is refl) (λ _. phases-along head more)))
+pub present-along : (head : Head) → Along ocbField ocbStep (Present head) (cellsOf (oneRow 14)) (ocbStep (Present head))
+unfolding cells cellsIn fieldIn sf lineOf find table
+present-along head = decides (is refl) (λ _. refl)
 
-codes-along : (head : Head) (more : ℕ)
-    → Along ocbField ocbStep (CodeCorrection head more) (again (suc more) (0xA2 ∷ []) (cellsIn (nextTail (head .more)))) (ocbStep (satelliteEnd head))
+phases-fields : (head : Head) (more : ℕ)
+    → Along ocbField ocbStep (Fix head more) (again (suc more) (23 ∷ 15 ∷ 20 ∷ []) (cellsIn (codeSf (head .constellation)))) (ocbStep (CodeMaskSize head))
+unfolding fieldIn sf lineOf find table
+phases-fields head zero = passes (is refl) (λ _. passes (is refl) (λ _. passes (is refl) (λ _. cell-decides (code-cell (head .constellation)) refl)))
+phases-fields head (suc more) = passes (is refl) (λ _. passes (is refl) (λ _. passes (is refl) (λ _. phases-fields head more)))
+
+pub phases-along : (head : Head) (more : ℕ)
+    → Along ocbField ocbStep (Fix head more) (cellsOf (record { group = wordOf (23 ∷ 15 ∷ 20 ∷ []); more = more; tail = codeSf (head .constellation) }))
+    (ocbStep (CodeMaskSize head))
+unfolding cells cellsIn
+phases-along head more = phases-fields head more
+
+pub size-along : (head : Head) → Along ocbField ocbStep (CodeMaskSize head) (cellsOf (oneRow (codeSf (head .constellation)))) (ocbStep (CodeMaskSize head))
+unfolding cells cellsIn
+size-along head = subst (λ cs. Along ocbField ocbStep (CodeMaskSize head) cs (ocbStep (CodeMaskSize head))) (sym (append-nil (cellsIn (codeSf (head .constellation)))))
+    (cell-decides (code-cell (head .constellation)) refl)
+
+pub codes-along : (head : Head) (more : ℕ)
+    → Along ocbField ocbStep (CodeCorrection head more) (cellsOf (record { group = 29; more = more; tail = nextCell (head .more) })) (ocbStep (satelliteEnd head))
+unfolding cells cellsIn fieldIn sf lineOf find table
 codes-along head zero = passes (is refl) (λ _. next-along (head .constellation) (head .yaw) (head .more))
 codes-along head (suc more) = passes (is refl) (λ _. codes-along head more)
 
+-- ---- the row from a state on, the state of its last field, and that the machine goes along it; the other states go on field by field
+
+pub data From (s : State) : Type 0 where
+  row : (here : Row) (last : State) → Along ocbField ocbStep s (cellsOf here) (ocbStep last) → From s
+  byField : From s
+
+abbrev pub from : (s : State) → From s
+from (Siou c) = row (oneRow (wordOf (5 ∷ 10 ∷ 69 ∷ 8 ∷ []))) (YawPresent c) (siou-along c)
+from (EndOfSet c) = byField
+from (Reserved c) = byField
+from (YawPresent c) = byField
+from (Datum c yaw) = byField
+from (Ephemeris c yaw) = byField
+from (MaskSize c yaw) = byField
+from (Mask c yaw size) = byField
+from (DoNotUse head) = row (oneRow 13) (DoNotUse head) (use-along head)
+from (Present head) = row (oneRow 14) (Present head) (present-along head)
+from (Continuity head present) =
+    row (record { group = blocksGroup head present; more = 0; tail = blocksTail head present }) (biasFrom head present) (continuity-along head present)
+from (Iode head present) = byField
+from (Radial head present) = byField
+from (ocb.Along head present) = byField
+from (Cross head present) = byField
+from (Yaw head present) = byField
+from (IodeContinuity head present) = byField
+from (ClockCorrection head present) = byField
+from (RangeError head present) = byField
+from (PhaseMaskSize head) = byField
+from (PhaseMask head size) = byField
+from (Fix head more) =
+    row (record { group = wordOf (23 ∷ 15 ∷ 20 ∷ []); more = more; tail = codeSf (head .constellation) }) (CodeMaskSize head) (phases-along head more)
+from (PhaseContinuity head more) = byField
+from (PhaseCorrection head more) = byField
+from (CodeMaskSize head) = row (oneRow (codeSf (head .constellation))) (CodeMaskSize head) (size-along head)
+from (CodeMask head size) = byField
+from (CodeCorrection head more) = row (record { group = 29; more = more; tail = nextCell (head .more) }) (satelliteEnd head) (codes-along head more)
+from Done = byField
+
+abbrev pub rowIn : {s : State} → From s → Row
+rowIn (row here last p) = here
+rowIn byField = noRow
+
+abbrev pub lastIn : {s : State} → From s → State
+lastIn (row here last p) = last
+lastIn byField = Done
+
+abbrev pub ocbRow : State → Row
+ocbRow s = rowIn (from s)
+
+abbrev pub ocbLast : State → State
+ocbLast s = lastIn (from s)
+
 -- From each state that has a row the machine goes along it, to the step from its last field.
 pub rowed : (s : State) → (ocbRow s .group ≡ 0 → ⊥) → Along ocbField ocbStep s (cellsOf (ocbRow s)) (ocbStep (ocbLast s))
-unfolding cells cellsIn
-rowed (Siou c) h = siou-along c
-rowed (EndOfSet c) h = absurd (h refl)
-rowed (Reserved c) h = absurd (h refl)
-rowed (YawPresent c) h = absurd (h refl)
-rowed (Datum c yaw) h = absurd (h refl)
-rowed (Ephemeris c yaw) h = absurd (h refl)
-rowed (MaskSize c yaw) h = absurd (h refl)
-rowed (Mask c yaw size) h = absurd (h refl)
-rowed (DoNotUse head) h = decides (is refl) (λ _. refl)
-rowed (Present head) h = decides (is refl) (λ _. refl)
-rowed (Continuity head present) h = continuity-along head present
-rowed (Iode head present) h = absurd (h refl)
-rowed (Radial head present) h = absurd (h refl)
-rowed (ocb.Along head present) h = absurd (h refl)
-rowed (Cross head present) h = absurd (h refl)
-rowed (Yaw head present) h = absurd (h refl)
-rowed (IodeContinuity head present) h = absurd (h refl)
-rowed (ClockCorrection head present) h = absurd (h refl)
-rowed (RangeError head present) h = absurd (h refl)
-rowed (PhaseMaskSize head) h = absurd (h refl)
-rowed (PhaseMask head size) h =
-    subst (λ cs. Along ocbField ocbStep (PhaseMask head size) (cs ++ []) (ocbStep (PhaseMask head size))) (sym (mask-cell (head .constellation) size))
-    (decides (mask-in (phaseSf (head .constellation)) (head .constellation) size) (λ _. refl))
-rowed (Fix head more) h = phases-along head more
-rowed (PhaseContinuity head more) h = absurd (h refl)
-rowed (PhaseCorrection head more) h = absurd (h refl)
-rowed (CodeMaskSize head) h = decides (is refl) (λ _. refl)
-rowed (CodeMask head size) h =
-    subst (λ cs. Along ocbField ocbStep (CodeMask head size) (cs ++ []) (ocbStep (CodeMask head size))) (sym (mask-cell (head .constellation) size))
-    (decides (mask-in (codeSf (head .constellation)) (head .constellation) size) (λ _. refl))
-rowed (CodeCorrection head more) h = codes-along head more
-rowed Done h = absurd (h refl)
+rowed s h = go (from s) h
+  where
+    go : (f : From s) → (rowIn f .group ≡ 0 → ⊥) → Along ocbField ocbStep s (cellsOf (rowIn f)) (ocbStep (lastIn f))
+    go (row here last p) h = p
+    go byField h = absurd (h refl)

@@ -1,4 +1,4 @@
--- Definitions to believe: field numbers and widths that go by the constellation (document 01, "Payloads"; document 000, table 6.2).
+-- Definitions to believe: field numbers that go by the constellation (document 01, "Payloads"; document 000, table 6.2).
 use Prim.Native.Nat.{ℕ}
 use Rattle.codes.specs.declared.Constellation.{Constellation}
 use Rattle.codes.specs.declared.Constellation.the-variants.{Gps, Glonass, Galileo, BeiDou, Qzss}
@@ -11,13 +11,6 @@ ephemerisSf Galileo = 96
 ephemerisSf BeiDou = 97
 ephemerisSf Qzss = 98
 
-abbrev pub ephemerisWidth : Constellation → ℕ
-ephemerisWidth Gps = 2
-ephemerisWidth Glonass = 2
-ephemerisWidth Galileo = 3
-ephemerisWidth BeiDou = 4
-ephemerisWidth Qzss = 3
-
 -- the issue of data of the ephemeris
 abbrev pub iodeSf : Constellation → ℕ
 iodeSf Gps = 18
@@ -25,13 +18,6 @@ iodeSf Glonass = 19
 iodeSf Galileo = 99
 iodeSf BeiDou = 100
 iodeSf Qzss = 101
-
-abbrev pub iodeWidth : Constellation → ℕ
-iodeWidth Gps = 8
-iodeWidth Glonass = 7
-iodeWidth Galileo = 10
-iodeWidth BeiDou = 8
-iodeWidth Qzss = 8
 
 -- the phase bias mask
 abbrev pub phaseSf : Constellation → ℕ

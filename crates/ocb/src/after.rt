@@ -1,12 +1,10 @@
 // The state after a row, by the code of its last field.
 ghost use mathlib.Core.Path.{_≡_};
-ghost use Rattle.layout.specs.Tests.{Matched};
+ghost use Rattle.answer.specs.Matched.{Matched};
 ghost use Rattle.ocb.specs.Machine.{ocbStep, satelliteEnd, biasFrom};
 ghost use Rattle.ocb.specs.Rows.{ocbLast};
 use crate::Head;
 use crate::State;
-use crate::code_mask_read;
-use crate::phase_mask_read;
 use crate::use_read;
 
 fn next_after(head: Head, code: u64) -> State
@@ -66,12 +64,12 @@ fn after_by_state(s: State, code: u64) -> State
         State::ClockCorrection(_, _) => State::Done,
         State::RangeError(_, _) => State::Done,
         State::PhaseMaskSize(_) => State::Done,
-        State::PhaseMask(head, _) => phase_mask_read(head, code),
+        State::PhaseMask(_, _) => State::Done,
         State::Fix(head, _) => State::CodeMask(head, code),
         State::PhaseContinuity(_, _) => State::Done,
         State::PhaseCorrection(_, _) => State::Done,
         State::CodeMaskSize(head) => State::CodeMask(head, code),
-        State::CodeMask(head, _) => code_mask_read(head, code),
+        State::CodeMask(_, _) => State::Done,
         State::CodeCorrection(head, _) => next_after(head, code),
         State::Done => State::Done,
     }

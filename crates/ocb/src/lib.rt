@@ -1,15 +1,13 @@
 // OCB, 0-0 to 0-4: tables 6.3 to 6.12. A satellite's flags, SF014, stay with the state until its last block.
 ghost use mathlib.Core.Path.{_≡_};
-ghost use Rattle.layout.specs.Tests.{Matched};
+ghost use Rattle.answer.specs.Matched.{Matched};
 ghost use Prim.Native.Nat.{_/_, _%_};
-ghost use Rattle.codes.specs.Fields.{steps, yawField};
 ghost use Rattle.ocb.specs.Machine.{ocbField, ocbStep, satellitesFrom, satelliteEnd, orbitFrom, yawFrom, clockFrom, biasFrom, phasesFrom, codesFrom};
 
 pub mod after;
 pub mod row;
 mod tables;
 
-use answer::Refusal;
 use codes::Constellation;
 use codes::satellites::satellite_count;
 use codes::satellites::set_bits;
@@ -64,26 +62,6 @@ pub enum State {
     Done,
 }
 
-fn yaw_field() -> Field
-    ensures { λ r. ⌜ r ≡ yawField ⌝ }
-{
-    Field {
-        sf: 21,
-        width: 6,
-        least: 0,
-        most: 59,
-        extra: 63,
-        under: Refusal::Field,
-    }
-}
-
-// SF020, 0 to 16382.
-fn correction_field() -> Field
-    ensures { λ r. ⌜ r ≡ steps 20 14 ⌝ }
-{
-    up_to(20, 14, 16382)
-}
-
 pub fn field_of(s: State) -> Field
     ensures { λ r. ⌜ r ≡ ocbField s ⌝ }
 {
@@ -94,28 +72,28 @@ fn field_by_state(s: State) -> Field
     ensures { λ r. ⌜ Matched ocbField s r ⌝ }
 {
     match s {
-        State::Siou(_) => up_to(5, 9, 511),
-        State::EndOfSet(_) => up_to(10, 1, 1),
-        State::Reserved(_) => up_to(69, 1, 1),
-        State::YawPresent(_) => up_to(8, 1, 1),
-        State::Datum(_, _) => up_to(9, 1, 1),
+        State::Siou(_) => fields::sf(5),
+        State::EndOfSet(_) => fields::sf(10),
+        State::Reserved(_) => fields::sf(69),
+        State::YawPresent(_) => fields::sf(8),
+        State::Datum(_, _) => fields::sf(9),
         State::Ephemeris(constellation, _) => ephemeris_field(constellation),
         State::MaskSize(constellation, _) => mask_size_field(constellation),
         State::Mask(constellation, _, size) => mask_field(constellation, size),
-        State::DoNotUse(_) => up_to(13, 1, 1),
-        State::Present(_) => up_to(14, 3, 7),
-        State::Continuity(_, _) => up_to(15, 3, 7),
+        State::DoNotUse(_) => fields::sf(13),
+        State::Present(_) => fields::sf(14),
+        State::Continuity(_, _) => fields::sf(15),
         State::Iode(head, _) => {
             let constellation = head.constellation;
             iode_field(constellation)
         }
-        State::Radial(_, _) => correction_field(),
-        State::Along(_, _) => correction_field(),
-        State::Cross(_, _) => correction_field(),
-        State::Yaw(_, _) => yaw_field(),
-        State::IodeContinuity(_, _) => up_to(22, 3, 7),
-        State::ClockCorrection(_, _) => correction_field(),
-        State::RangeError(_, _) => up_to(24, 3, 7),
+        State::Radial(_, _) => fields::sf(20),
+        State::Along(_, _) => fields::sf(20),
+        State::Cross(_, _) => fields::sf(20),
+        State::Yaw(_, _) => fields::sf(21),
+        State::IodeContinuity(_, _) => fields::sf(22),
+        State::ClockCorrection(_, _) => fields::sf(20),
+        State::RangeError(_, _) => fields::sf(24),
         State::PhaseMaskSize(head) => {
             let constellation = head.constellation;
             phase_size_field(constellation)
@@ -124,9 +102,9 @@ fn field_by_state(s: State) -> Field
             let constellation = head.constellation;
             phase_field(constellation, size)
         }
-        State::Fix(_, _) => up_to(23, 1, 1),
-        State::PhaseContinuity(_, _) => up_to(15, 3, 7),
-        State::PhaseCorrection(_, _) => correction_field(),
+        State::Fix(_, _) => fields::sf(23),
+        State::PhaseContinuity(_, _) => fields::sf(15),
+        State::PhaseCorrection(_, _) => fields::sf(20),
         State::CodeMaskSize(head) => {
             let constellation = head.constellation;
             code_size_field(constellation)
@@ -135,7 +113,7 @@ fn field_by_state(s: State) -> Field
             let constellation = head.constellation;
             code_field(constellation, size)
         }
-        State::CodeCorrection(_, _) => up_to(29, 11, 2046),
+        State::CodeCorrection(_, _) => fields::sf(29),
         State::Done => up_to(0, 0, 0),
     }
 }

@@ -1,95 +1,79 @@
-// The row from a state on (crate `rows`): a satellite's blocks up to its bias mask, the biases of a mask, and what follows them up to the next code that decides.
-// A state without a row goes on field by field.
+// The row from a state on (crate `rows`): a satellite's blocks up to the size of its bias mask, the biases of a mask, and what follows them up to the next
+// code that decides. A cell is a field's number, the first one lowest. A state without a row goes on field by field.
 ghost use mathlib.Core.Path.{_≡_};
-ghost use Rattle.layout.specs.Tests.{Matched};
-ghost use Rattle.rows.specs.Rows.{oneRow};
-ghost use Rattle.ocb.specs.Rows.{nextTail, biasTail, clockTail, blocksTail, orbitCells, yawCells, withOrbit, blocksGroup, maskCell, ocbRow};
+ghost use Prim.Native.Nat.{_<_};
+ghost use Rattle.answer.specs.Matched.{Matched};
+ghost use Rattle.ocb.specs.Rows.{nextCell, biasCell, blocksTail, yawCell, orbitGroup, blocksGroup, ocbRow};
 use crate::Head;
 use crate::State;
+use crate::tables::code_sf;
+use crate::tables::iode_sf;
+use crate::tables::phase_sf;
 use codes::Constellation;
-use codes::tables::bias_size;
 use rows::Row;
 use rows::none;
 use rows::one;
 
+// SF005, SF010, SF069, SF008.
+const HEAD: u64 = 5 + 256 * (10 + 256 * (69 + 256 * 8));
+
+// SF015, the place of the IODE, three SF020.
+const ORBIT: u64 = 15 + 65536 * (20 + 256 * (20 + 256 * 20));
+
+// SF022, SF020, SF024.
+const CLOCK: u64 = 22 + 256 * (20 + 256 * 24);
+
+// SF023, SF015, SF020.
+const PHASE: u64 = 23 + 256 * (15 + 256 * 20);
+
 // SF013 of the next satellite, if there is one.
-fn next_tail(head: Head) -> u64
-    ensures { λ r. ⌜ r ≡ nextTail (head .more) ⌝ }
+fn next_cell(head: Head) -> u64
+    ensures { λ r. ⌜ (r ≡ nextCell (head .more)) × (r < 256) ⌝ }
 {
     if head.more == 0 {
         return 0;
     }
-    0x01
+    13
 }
 
 // The size of the phase bias mask, if there is one.
-fn bias_tail(head: Head, present: u64) -> u64
-    ensures { λ r. ⌜ r ≡ biasTail head present ⌝ }
+fn bias_cell(head: Head, present: u64) -> u64
+    ensures { λ r. ⌜ (r ≡ biasCell head present) × (r < 256) ⌝ }
 {
     let bias = present % 2;
     if bias == 1 {
-        return 0x01;
+        let constellation = head.constellation;
+        return phase_sf(constellation);
     }
-    next_tail(head)
+    next_cell(head)
 }
 
-// The same behind a clock block.
-fn clock_tail(head: Head, present: u64) -> u64
-    ensures { λ r. ⌜ r ≡ clockTail head present ⌝ }
-{
-    let bias = present % 2;
-    if bias == 1 {
-        return 0x01_21_D2_21;
-    }
-    if head.more == 0 {
-        return 0x21_D2_21;
-    }
-    0x01_21_D2_21
-}
-
+// The clock block before it, three cells.
 fn blocks_tail(head: Head, present: u64) -> u64
     ensures { λ r. ⌜ r ≡ blocksTail head present ⌝ }
 {
+    let last = bias_cell(head, present);
     let clock = present / 2 % 2;
     if clock == 1 {
-        return clock_tail(head, present);
+        return CLOCK + 16777216 * last;
     }
-    bias_tail(head, present)
+    last
 }
 
-// SF015, IODE and three SF020.
-fn orbit_cells(constellation: Constellation) -> u64
-    ensures { λ r. ⌜ r ≡ orbitCells constellation ⌝ }
-{
-    match constellation {
-        Constellation::Gps => 0xD2_D2_D2_71_21,
-        Constellation::Glonass => 0xD2_D2_D2_61_21,
-        Constellation::Galileo => 0xD2_D2_D2_91_21,
-        Constellation::BeiDou => 0xD2_D2_D2_71_21,
-        Constellation::Qzss => 0xD2_D2_D2_71_21,
-    }
-}
-
-// SF021 behind them.
-fn yaw_cells(constellation: Constellation) -> u64
-    ensures { λ r. ⌜ r ≡ yawCells constellation ⌝ }
-{
-    match constellation {
-        Constellation::Gps => 0x53_D2_D2_D2_71_21,
-        Constellation::Glonass => 0x53_D2_D2_D2_61_21,
-        Constellation::Galileo => 0x53_D2_D2_D2_91_21,
-        Constellation::BeiDou => 0x53_D2_D2_D2_71_21,
-        Constellation::Qzss => 0x53_D2_D2_D2_71_21,
-    }
-}
-
-fn with_orbit(yaw: u64, constellation: Constellation) -> u64
-    ensures { λ r. ⌜ r ≡ withOrbit yaw constellation ⌝ }
+fn yaw_cell(yaw: u64) -> u64
+    ensures { λ r. ⌜ (r ≡ yawCell yaw) × (r < 256) ⌝ }
 {
     if yaw == 1 {
-        return yaw_cells(constellation);
+        return 21;
     }
-    orbit_cells(constellation)
+    0
+}
+
+// The IODE is the second cell, the yaw the sixth.
+fn orbit_group(yaw: u64, constellation: Constellation) -> u64
+    ensures { λ r. ⌜ r ≡ orbitGroup yaw constellation ⌝ }
+{
+    ORBIT + 256 * iode_sf(constellation) + 1099511627776 * yaw_cell(yaw)
 }
 
 fn blocks_group(head: Head, present: u64) -> u64
@@ -98,9 +82,9 @@ fn blocks_group(head: Head, present: u64) -> u64
     let orbit = present / 4 % 2;
     if orbit == 1 {
         let constellation = head.constellation;
-        return with_orbit(head.yaw, constellation);
+        return orbit_group(head.yaw, constellation);
     }
-    0x21
+    15
 }
 
 fn blocks_row(head: Head, present: u64) -> Row
@@ -113,22 +97,31 @@ fn blocks_row(head: Head, present: u64) -> Row
     }
 }
 
-// A bias mask takes its full width.
-fn mask_row(head: Head, size: u64) -> Row
-    ensures { λ r. ⌜ r ≡ oneRow (maskCell (head .constellation) size) ⌝ }
+fn phases_row(head: Head, more: u64) -> Row
+    ensures { λ r. ⌜ r ≡ ocbRow (State.Fix head more) ⌝ }
 {
     let constellation = head.constellation;
-    let width = bias_size(constellation, size) as u64;
-    one(width * 16 - 15)
+    Row {
+        group: PHASE,
+        more: more,
+        tail: code_sf(constellation),
+    }
+}
+
+fn size_row(head: Head) -> Row
+    ensures { λ r. ⌜ r ≡ ocbRow (State.CodeMaskSize head) ⌝ }
+{
+    let constellation = head.constellation;
+    one(code_sf(constellation))
 }
 
 fn codes_row(head: Head, more: u64) -> Row
     ensures { λ r. ⌜ r ≡ ocbRow (State.CodeCorrection head more) ⌝ }
 {
     Row {
-        group: 0xA2,
+        group: 29,
         more: more,
-        tail: next_tail(head),
+        tail: next_cell(head),
     }
 }
 
@@ -142,7 +135,7 @@ fn row_by_state(s: State) -> Row
     ensures { λ r. ⌜ Matched ocbRow s r ⌝ }
 {
     match s {
-        State::Siou(_) => one(0x01_01_01_81),
+        State::Siou(_) => one(HEAD),
         State::EndOfSet(_) => none(),
         State::Reserved(_) => none(),
         State::YawPresent(_) => none(),
@@ -150,8 +143,8 @@ fn row_by_state(s: State) -> Row
         State::Ephemeris(_, _) => none(),
         State::MaskSize(_, _) => none(),
         State::Mask(_, _, _) => none(),
-        State::DoNotUse(_) => one(0x01),
-        State::Present(_) => one(0x21),
+        State::DoNotUse(_) => one(13),
+        State::Present(_) => one(14),
         State::Continuity(head, present) => blocks_row(head, present),
         State::Iode(_, _) => none(),
         State::Radial(_, _) => none(),
@@ -162,16 +155,12 @@ fn row_by_state(s: State) -> Row
         State::ClockCorrection(_, _) => none(),
         State::RangeError(_, _) => none(),
         State::PhaseMaskSize(_) => none(),
-        State::PhaseMask(head, size) => mask_row(head, size),
-        State::Fix(_, more) => Row {
-            group: 0xD2_21_01,
-            more: more,
-            tail: 0x01,
-        },
+        State::PhaseMask(_, _) => none(),
+        State::Fix(head, more) => phases_row(head, more),
         State::PhaseContinuity(_, _) => none(),
         State::PhaseCorrection(_, _) => none(),
-        State::CodeMaskSize(_) => one(0x01),
-        State::CodeMask(head, size) => mask_row(head, size),
+        State::CodeMaskSize(head) => size_row(head),
+        State::CodeMask(_, _) => none(),
         State::CodeCorrection(head, more) => codes_row(head, more),
         State::Done => none(),
     }

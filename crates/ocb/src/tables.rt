@@ -1,39 +1,52 @@
-// The fields of OCB that go by the constellation, as specs/Tables.antt has them.
+// The fields of OCB that go by the constellation, as specs/Tables.antt has their numbers.
 ghost use mathlib.Core.Path.{_≡_};
+ghost use Prim.Native.Nat.{_<_};
 ghost use Rattle.codes.specs.Tables.{biasSize};
+ghost use Rattle.fields.specs.Fields.{sf};
 ghost use Rattle.layout.specs.Parts.{free};
-ghost use Rattle.ocb.specs.Tables.{ephemerisSf, ephemerisWidth, iodeSf, iodeWidth, phaseSf, codeSf};
+ghost use Rattle.ocb.specs.Tables.{ephemerisSf, iodeSf, phaseSf, codeSf};
 use codes::Constellation;
 use codes::tables::bias_field;
 use layout::Field;
-use layout::up_to;
 
-pub fn ephemeris_field(constellation: Constellation) -> Field
-    ensures { λ r. ⌜ r ≡ free (ephemerisSf constellation) (ephemerisWidth constellation) ⌝ }
+fn ephemeris_sf(constellation: Constellation) -> u64
+    ensures { λ r. ⌜ r ≡ ephemerisSf constellation ⌝ }
 {
     match constellation {
-        Constellation::Gps => up_to(16, 2, 3),
-        Constellation::Glonass => up_to(17, 2, 3),
-        Constellation::Galileo => up_to(96, 3, 7),
-        Constellation::BeiDou => up_to(97, 4, 15),
-        Constellation::Qzss => up_to(98, 3, 7),
+        Constellation::Gps => 16,
+        Constellation::Glonass => 17,
+        Constellation::Galileo => 96,
+        Constellation::BeiDou => 97,
+        Constellation::Qzss => 98,
+    }
+}
+
+pub fn ephemeris_field(constellation: Constellation) -> Field
+    ensures { λ r. ⌜ r ≡ sf (ephemerisSf constellation) ⌝ }
+{
+    fields::sf(ephemeris_sf(constellation))
+}
+
+pub fn iode_sf(constellation: Constellation) -> u64
+    ensures { λ r. ⌜ (r ≡ iodeSf constellation) × (r < 256) ⌝ }
+{
+    match constellation {
+        Constellation::Gps => 18,
+        Constellation::Glonass => 19,
+        Constellation::Galileo => 99,
+        Constellation::BeiDou => 100,
+        Constellation::Qzss => 101,
     }
 }
 
 pub fn iode_field(constellation: Constellation) -> Field
-    ensures { λ r. ⌜ r ≡ free (iodeSf constellation) (iodeWidth constellation) ⌝ }
+    ensures { λ r. ⌜ r ≡ sf (iodeSf constellation) ⌝ }
 {
-    match constellation {
-        Constellation::Gps => up_to(18, 8, 255),
-        Constellation::Glonass => up_to(19, 7, 127),
-        Constellation::Galileo => up_to(99, 10, 1023),
-        Constellation::BeiDou => up_to(100, 8, 255),
-        Constellation::Qzss => up_to(101, 8, 255),
-    }
+    fields::sf(iode_sf(constellation))
 }
 
-fn phase_sf(constellation: Constellation) -> u64
-    ensures { λ r. ⌜ r ≡ phaseSf constellation ⌝ }
+pub fn phase_sf(constellation: Constellation) -> u64
+    ensures { λ r. ⌜ (r ≡ phaseSf constellation) × (r < 256) ⌝ }
 {
     match constellation {
         Constellation::Gps => 25,
@@ -44,7 +57,7 @@ fn phase_sf(constellation: Constellation) -> u64
     }
 }
 
-fn code_sf(constellation: Constellation) -> u64
+pub fn code_sf(constellation: Constellation) -> u64
     ensures { λ r. ⌜ r ≡ codeSf constellation ⌝ }
 {
     match constellation {
@@ -58,9 +71,9 @@ fn code_sf(constellation: Constellation) -> u64
 
 // A phase bias mask: its size, its bits.
 pub fn phase_size_field(constellation: Constellation) -> Field
-    ensures { λ r. ⌜ r ≡ free (phaseSf constellation) 1 ⌝ }
+    ensures { λ r. ⌜ r ≡ sf (phaseSf constellation) ⌝ }
 {
-    up_to(phase_sf(constellation), 1, 1)
+    fields::sf(phase_sf(constellation))
 }
 
 pub fn phase_field(constellation: Constellation, size: u64) -> Field
@@ -71,9 +84,9 @@ pub fn phase_field(constellation: Constellation, size: u64) -> Field
 
 // A code bias mask: its size, its bits.
 pub fn code_size_field(constellation: Constellation) -> Field
-    ensures { λ r. ⌜ r ≡ free (codeSf constellation) 1 ⌝ }
+    ensures { λ r. ⌜ r ≡ sf (codeSf constellation) ⌝ }
 {
-    up_to(code_sf(constellation), 1, 1)
+    fields::sf(code_sf(constellation))
 }
 
 pub fn code_field(constellation: Constellation, size: u64) -> Field

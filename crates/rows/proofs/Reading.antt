@@ -3,11 +3,7 @@ use mathlib.Core.Path.{_≡_, refl, ap, sym, _∙_}
 use mathlib.Core.List.{List, [], _++_}
 use Prim.Native.Nat.{ℕ, zero, suc, _+_, _-_, _*_, _/_, _%_, _^_, _≤_, _<_}
 use native.Mathlib.Omega.{arith}
-use native.Mathlib.Nat.{mod-eq-of-lt, one-mul}
 use lib.ListN.{length, take, drop, set, length-drop, length-set}
-use lib.Dec.{leb}
-use lib.Pow.{pow-lt, pow-mono}
-use borrow.Author.Tests.{le-leb}
 use Rattle.answer.specs.declared.Refusal.{Refusal}
 use Rattle.answer.specs.declared.Refusal.the-variants as refusal
 use Rattle.bits.specs.Bits.{toBits, number, field, got}
@@ -15,23 +11,13 @@ use Rattle.bits.specs.Laws.{got-there, length-toBits}
 use Rattle.layout.specs.declared.Field.{Field}
 use Rattle.layout.specs.declared.Verdict.{Verdict}
 use Rattle.layout.specs.declared.Verdict.the-variants as verdict
-use Rattle.layout.specs.Layout.{pick, judge}
+use Rattle.layout.specs.Layout.{judge}
 use Rattle.layout.specs.Tests.{one-less}
-use Rattle.rows.specs.Rows.{widthIn, endOf, mostIn, fieldIn, cellsIn, again}
+use Rattle.rows.specs.Rows.{widthIn, fieldIn, cellsIn, again}
+use Rattle.rows.specs.Cells.{cell-bits}
 use Rattle.rows.specs.Runs.{runs, then, wentBy, Within, inside, nowhere, CellsRead, runs-none, runs-short, runs-fault, runs-more, runs-append}
 use Rattle.rows.specs.declared.Ran.{Ran}
 use Rattle.rows.specs.declared.Ran.the-variants.{To, Stopped}
-
--- ---- a cell's field
-
-shifted : (width : ℕ) → width ≤ 16 → 1 * 2 ^ width % 2 ^ 64 ≡ 2 ^ width
-shifted width h = ap (λ (x : ℕ). x % 2 ^ 64) (one-mul (2 ^ width)) ∙ mod-eq-of-lt (pow-lt {i = width} {j = 64} (omega arith))
-
-pub top-some : (width range : ℕ) → 0 < width → width ≤ 16 → range ≤ 2 → range ≤ 1 * 2 ^ width % 2 ^ 64
-top-some width range h k r = rw (shifted width k) (omega (arith, pow-mono {i = 1} {j = width} h))
-
-pub top-is : (width range : ℕ) → width ≤ 16 → range ≤ 2 → 1 * 2 ^ width % 2 ^ 64 - range ≡ mostIn width range
-top-is width range k r = rw (shifted width k, le-leb range 2 r)
 
 -- ---- the cells of a word
 
@@ -90,6 +76,7 @@ module _ {payload sheet₀ : List ℕ} {word₀ pos₀ at₀ last₀ total : ℕ
       unfolding field
       code-is =
           let d : f .width ≡ widthIn (word % 256) = width-is in
+          let z : widthIn (word % 256) ≤ 16 = cell-bits (word % 256) .1 in
           g ∙ got-there payload pos (f .width) (omega arith) (omega (arith, t .whole, t .inside)) ∙ ap (λ (w : ℕ). number (take w (drop pos (toBits payload)))) d
 
       verdict-is : judge (fieldIn (word % 256)) code ≡ v
@@ -103,6 +90,7 @@ module _ {payload sheet₀ : List ℕ} {word₀ pos₀ at₀ last₀ total : ℕ
           → Turn payload sheet₀ word₀ pos₀ at₀ last₀ total sheet' (word / 256) (pos + f .width) (at + 1) code
       turn-again sheet' q stored =
           let d : f .width ≡ widthIn (word % 256) = width-is in
+          let z : 0 < widthIn (word % 256) = cell-bits (word % 256) .0 in
           record {
             whole = t .whole;
             inside = omega (arith, t .inside);

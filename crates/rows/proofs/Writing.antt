@@ -16,6 +16,7 @@ use Rattle.layout.specs.declared.Verdict.the-variants as verdict
 use Rattle.layout.specs.Layout.{judge}
 use Rattle.layout.specs.Tests.{one-less}
 use Rattle.rows.specs.Rows.{widthIn, fieldIn, cellsIn, again}
+use Rattle.rows.specs.Cells.{cell-bits}
 use Rattle.rows.specs.Runs.{Went, then}
 use Rattle.rows.specs.Runs as went
 use Rattle.rows.specs.Puts.{onward, Kept, kept-on, puts, PutBy, onTo, halted, Taken-in, inside, nowhere, CellsPut, puts-none, puts-short, puts-fault, puts-more, puts-append}
@@ -97,6 +98,7 @@ module _ {sheet out₀ : List ℕ} {word₀ pos₀ at₀ last₀ : ℕ} {out : L
           → Turn sheet out₀ word₀ pos₀ at₀ last₀ out' (word / 256) pos' (at + 1) (getD sheet at 0)
       turn-again out' pos' q kept put moved =
           let d : f .width ≡ widthIn (word % 256) = ap (λ (x : Field). x .width) e in
+          let z : widthIn (word % 256) ≤ 16 = cell-bits (word % 256) .1 in
           record {
             inside = omega arith;
             small = moved .1 (t .small);

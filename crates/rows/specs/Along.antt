@@ -1,25 +1,21 @@
 -- Laws: what it is for a machine to go along a row's cells, and how it goes along parts that may be absent or repeat.
-use mathlib.Core.Path.{_≡_, refl, ap, sym, _∙_, subst}
+use mathlib.Core.Path.{_≡_, refl, ap, ap₂, sym, _∙_, subst}
 use mathlib.Core.Bool.{Bool, true, false}
 use mathlib.Core.List.{List, [], _∷_, _++_}
-use Prim.Native.Nat.{ℕ}
+use Prim.Native.Nat.{ℕ, zero, suc}
 use Rattle.layout.specs.declared.Field.{Field}
 use Rattle.layout.specs.declared.Verdict.{Verdict}
 use Rattle.layout.specs.Layout.{pick, judge}
-use Rattle.rows.specs.Rows.{widthIn, fieldIn, cellsIn}
-
--- a field without its number in its document, which a cell does not keep
-abbrev pub plain : Field → Field
-plain f = record { sf = 0; width = f .width; least = f .least; most = f .most; extra = f .extra; under = f .under }
+use Rattle.rows.specs.declared.Row.{Row}
+use Rattle.rows.specs.Rows.{widthIn, fieldIn, cellsIn, again}
 
 pub data In : Field → ℕ → Type 0 where
-  is : {f : Field} {cell : ℕ} → plain f ≡ fieldIn cell → In f cell
+  is : {f : Field} {cell : ℕ} → f ≡ fieldIn cell → In f cell
 
 pub width-is : {f : Field} {cell : ℕ} → In f cell → f .width ≡ widthIn cell
 width-is (is e) = ap (λ (x : Field). x .width) e
 
 pub judge-is : {f : Field} {cell : ℕ} (c : ℕ) → In f cell → judge f c ≡ judge (fieldIn cell) c
-unfolding judge
 judge-is c (is e) = ap (λ (x : Field). judge x c) e
 
 pub in-pick : (b : Bool) {f g : Field} {x y : ℕ} → In f x → In g y → In (pick b f g) (pick b x y)
@@ -45,6 +41,27 @@ module _ {S : Type 0} (fieldOf : S → Field) (stepOf : S → ℕ → S) where
       → Along fieldOf stepOf t ds k → Along fieldOf stepOf (pick b s t) (pick b cs [] ++ ds) k
   along-optional true cs h rest = h rest
   along-optional false cs h rest = rest
+
+  -- one cell, from s to t
+  abbrev pub Passes : (s : S) (cell : ℕ) (t : S) → Type 0
+  Passes s cell t = (cs : List ℕ) (after : ℕ → S) → Along fieldOf stepOf t cs after → Along fieldOf stepOf s (cell ∷ cs) after
+
+  -- the same cell n times; state n is where n of them are still to come
+  pub along-again : (state : ℕ → S) (cell : ℕ) {tail : List ℕ} {after : ℕ → S} → cellsIn cell ≡ cell ∷ [] → ((n : ℕ) → Passes (state (suc n)) cell (state n))
+      → Along fieldOf stepOf (state 0) tail after → (n : ℕ) → Along fieldOf stepOf (state n) (again n (cellsIn cell) tail) after
+  along-again state cell alone h rest zero = rest
+  along-again state cell {tail} {after} alone h rest (suc n) =
+      subst (λ cs. Along fieldOf stepOf (state (suc n)) (cs ++ again n (cellsIn cell) tail) after) (sym alone) (h n _ _ (along-again state cell alone h rest n))
+
+-- a word of one cell, by its number
+pub alone-pick : (b : Bool) {x y : ℕ} → cellsIn x ≡ x ∷ [] → cellsIn y ≡ y ∷ [] → cellsIn (pick b x y) ≡ pick b x y ∷ []
+alone-pick true p q = p
+alone-pick false p q = q
+
+-- a row whose words inner calls gave
+pub row-made : (more : ℕ) {group group' tail tail' : ℕ} → group ≡ group' → tail ≡ tail'
+    → _≡_ {A = Row} (record { group = group; more = more; tail = tail }) (record { group = group'; more = more; tail = tail' })
+row-made more p q = ap₂ (λ (g t : ℕ). record { group = g; more = more; tail = t }) p q
 
 -- A machine within a machine goes along what the inner one goes along.
 pub along-within : {S U : Type 0} {fieldS : S → Field} {stepS : S → ℕ → S} {fieldU : U → Field} {stepU : U → ℕ → U} (inside : S → U)

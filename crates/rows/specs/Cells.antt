@@ -1,12 +1,35 @@
--- Laws: a word of cells taken apart.
-use mathlib.Core.Path.{_≡_, refl, ap}
+-- Laws: the bits of a cell, and a word of cells taken apart.
+use mathlib.Core.Path.{_≡_, refl, ap, sym, _∙_}
 use mathlib.Core.Bool.{Bool, true, false}
 use mathlib.Core.List.{List, [], _∷_}
-use Prim.Native.Nat.{ℕ, zero, suc, _/_, _%_, _≤_}
+use Prim.Native.Nat.{ℕ, zero, suc, _/_, _%_, _≤_, _<_}
 use native.Mathlib.Omega.{arith}
 use borrow.Author.Tests.{eq-eqb, ne-eqb, eqb-false}
 use lib.Dec.{eqb}
-use Rattle.rows.specs.Rows.{cellsBy, cells, cellsIn}
+use Rattle.layout.specs.declared.Field.{Field}
+use Rattle.layout.specs.Layout.{pick}
+use Rattle.layout.specs.Parts.{free}
+use Rattle.fields.specs.Fields.{sf}
+use Rattle.fields.specs.Columns.{width-small}
+use Rattle.rows.specs.Rows.{fieldIn, widthIn, cellsBy, cells, cellsIn}
+
+-- a cell has a bit at least, and 16 at most
+pub cell-bits : (cell : ℕ) → (0 < widthIn cell) × (widthIn cell ≤ 16)
+unfolding fieldIn
+cell-bits cell = go (eqb (sf cell .width) 0) refl
+  where
+    go : (b : Bool) → eqb (sf cell .width) 0 ≡ b → (0 < pick b (free cell 1) (sf cell) .width) × (pick b (free cell 1) (sf cell) .width ≤ 16)
+    go true e = (omega arith, omega arith)
+    go false e = let n : sf cell .width ≡ 0 → ⊥ = eqb-false (sf cell .width) 0 e in (omega arith, width-small cell)
+
+-- the two returns of the code's `field_in`
+pub cell-none : (cell : ℕ) {f r : Field} → f ≡ sf cell → f .width ≡ 0 → r ≡ free cell 1 → r ≡ fieldIn cell
+unfolding fieldIn
+cell-none cell e z q = rw (eq-eqb (sf cell .width) 0 (ap (λ (x : Field). x .width) (sym e) ∙ z)) q
+
+pub cell-some : (cell : ℕ) {f : Field} → f ≡ sf cell → (f .width ≡ 0 → ⊥) → f ≡ fieldIn cell
+unfolding fieldIn
+cell-some cell e n = rw (ne-eqb (sf cell .width) 0 (λ z. n (ap (λ (x : Field). x .width) e ∙ z))) e
 
 -- enough steps are enough
 cells-same : (f g w : ℕ) → w ≤ f → w ≤ g → cells f w ≡ cells g w

@@ -22,7 +22,7 @@ use Rattle.layout.specs.Run as ended
 use Rattle.layout.specs.Put.{putL, put-short, put-fault, put-on}
 use Rattle.layout.specs.Walks.{Walks}
 use Rattle.rows.specs.Rows.{widthIn, fieldIn, cellsIn}
-use Rattle.rows.specs.Cells.{cells-none, cells-more}
+use Rattle.rows.specs.Cells.{cell-bits, cells-none, cells-more}
 use Rattle.rows.specs.Along.{In, Along, stays, decides, passes, width-is, judge-is}
 use Rattle.rows.specs.Runs.{Went, to, stopped, judgedW, then, then-pick}
 use Rattle.rows.specs.declared.Ran.{Ran}
@@ -171,14 +171,17 @@ module _ {S : Type 0} (A : Type 0) (fieldOf : S → Field) (stepOf : S → ℕ �
           → FollowsPut (putL l (drop at sheet) place at bits) after (pick b (judgedW v rest) (stopped refusal.Short))
       go false v p q =
           let d : fieldOf s .width ≡ widthIn cell = width-is e in
+          let z : 0 < widthIn cell = cell-bits cell .0 in
           let k = ltb-false at (length sheet) p in
           halts (put-short sheet place at bits walks (omega arith) (omega arith))
       go true (Fault why) p q =
           let d : fieldOf s .width ≡ widthIn cell = width-is e in
+          let z : 0 < widthIn cell = cell-bits cell .0 in
           let k = ltb-true at (length sheet) p in
           halts (put-fault sheet place at bits (getD sheet at 0) why walks (omega arith) k refl (judge-is (getD sheet at 0) e ∙ q))
       go true Taken p q =
           let d : fieldOf s .width ≡ widthIn cell = width-is e in
+          let z : 0 < widthIn cell = cell-bits cell .0 in
           let k = ltb-true at (length sheet) p in
           let on = put-on sheet place at bits (getD sheet at 0) walks (omega arith) k refl (judge-is (getD sheet at 0) e ∙ q) in
           let same : putL l (drop at sheet) place at bits

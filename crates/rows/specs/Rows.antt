@@ -1,44 +1,28 @@
--- Mirror: a row as the code keeps it, a stretch of fields whose codes decide nothing about the fields after them, except the last one's. A field's width and
--- range stand in a cell of eight bits, up to eight cells in a word, the first one lowest.
+-- Mirror: a row as the code keeps it, a stretch of fields whose codes decide nothing about the fields after them, except the last one's. A cell is a field's
+-- number (crate fields), up to eight cells in a word, the first one lowest.
 use mathlib.Core.Bool.{Bool, true, false}
 use mathlib.Core.List.{List, [], _∷_, _++_}
-use Prim.Native.Nat.{ℕ, zero, suc, _+_, _-_, _/_, _%_, _^_}
-use lib.Dec.{eqb, leb}
-use Rattle.answer.specs.declared.Refusal.the-variants as refusal
+use Prim.Native.Nat.{ℕ, zero, suc, _+_, _*_, _/_, _%_}
+use lib.Dec.{eqb}
 use Rattle.layout.specs.declared.Field.{Field}
 use Rattle.layout.specs.Layout.{pick}
+use Rattle.layout.specs.Parts.{free}
+use Rattle.fields.specs.Fields.{sf}
 use Rattle.rows.specs.declared.Row.{Row}
 
--- ---- a cell: four bits for the width less one, four for the range
+-- the field of a cell; a number that no field has counts one bit, so that a walk over cells always moves on
+unfoldable pub fieldIn : ℕ → Field
+fieldIn cell = pick (eqb (sf cell .width) 0) (free cell 1) (sf cell)
 
 abbrev pub widthIn : ℕ → ℕ
-widthIn cell = cell / 16 + 1
-
--- ranges that end at a number of their own: SF021's, SF040's, SF032's, SF033's, SF073's, SF074's
-abbrev pub endOf : ℕ → ℕ
-endOf range = pick (eqb range 3) 59 (pick (eqb range 4) 2 (pick (eqb range 5) 1800 (pick (eqb range 6) 3600 (pick (eqb range 7) 170 360))))
-
--- 1: every code; 2: all but the top one
-abbrev pub mostIn : (width range : ℕ) → ℕ
-mostIn width range = pick (leb range 2) (2 ^ width - range) (endOf range)
-
--- SF021 takes 63 too
-abbrev pub extraIn : (range most : ℕ) → ℕ
-extraIn range most = pick (eqb range 3) 63 most
-
--- the field of a cell, but for its number in its document
-abbrev pub fieldIn : ℕ → Field
-fieldIn cell =
-    record {
-      sf = 0;
-      width = widthIn cell;
-      least = 0;
-      most = mostIn (widthIn cell) (cell % 16);
-      extra = extraIn (cell % 16) (mostIn (widthIn cell) (cell % 16));
-      under = refusal.Field;
-    }
+widthIn cell = fieldIn cell .width
 
 -- ---- a word of cells, and a row
+
+-- the word that has these cells
+abbrev pub wordOf : List ℕ → ℕ
+wordOf [] = 0
+wordOf (cell ∷ cs) = cell + 256 * wordOf cs
 
 abbrev pub cellsBy : (ended : Bool) → ℕ → (ℕ → List ℕ) → List ℕ
 cellsBy true word rest = []

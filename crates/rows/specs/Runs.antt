@@ -18,7 +18,7 @@ use Rattle.layout.specs.Run.{Ended, runL, On, run-short, run-fault, run-turn}
 use Rattle.layout.specs.Run as ended
 use Rattle.layout.specs.Walks.{Walks}
 use Rattle.rows.specs.Rows.{widthIn, fieldIn, cellsIn}
-use Rattle.rows.specs.Cells.{cells-none, cells-more}
+use Rattle.rows.specs.Cells.{cell-bits, cells-none, cells-more}
 use Rattle.rows.specs.Along.{In, Along, stays, decides, passes, width-is, judge-is}
 use Rattle.rows.specs.declared.Ran.{Ran}
 use Rattle.rows.specs.declared.Ran.the-variants.{To, Stopped}
@@ -122,15 +122,18 @@ module _ {S : Type 0} (A : Type 0) (fieldOf : S → Field) (stepOf : S → ℕ �
           → Follows (runL l (drop pos bits) pos at sheet) after (pick b (judgedW v rest) (stopped refusal.Short))
       go false v p q =
           let d : fieldOf s .width ≡ widthIn cell = width-is e in
+          let z : 0 < widthIn cell = cell-bits cell .0 in
           let k = leb-false (pos + widthIn cell) (length bits) p in
           halts (run-short (drop pos bits) pos at sheet walks (omega arith) (omega (arith, length-drop pos bits)))
       go true (Fault why) p q =
           let d : fieldOf s .width ≡ widthIn cell = width-is e in
+          let z : 0 < widthIn cell = cell-bits cell .0 in
           let k = leb-true (pos + widthIn cell) (length bits) p in
           let m : c ≡ number (take (fieldOf s .width) (drop pos bits)) = n ∙ ap (λ (x : ℕ). number (take x (drop pos bits))) (sym d) in
           halts (run-fault (drop pos bits) pos at sheet c why walks (omega arith) (omega (arith, length-drop pos bits)) m (judge-is c e ∙ q))
       go true Taken p q =
           let d : fieldOf s .width ≡ widthIn cell = width-is e in
+          let z : 0 < widthIn cell = cell-bits cell .0 in
           let k = leb-true (pos + widthIn cell) (length bits) p in
           let m : c ≡ number (take (fieldOf s .width) (drop pos bits)) = n ∙ ap (λ (x : ℕ). number (take x (drop pos bits))) (sym d) in
           let on = run-turn bits pos at sheet c walks (omega arith) (omega arith) m (judge-is c e ∙ q) in

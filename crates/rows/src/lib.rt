@@ -4,14 +4,16 @@ ghost use mathlib.Core.Path.{_≡_};
 ghost use Prim.Native.Nat.{_*_, _^_, _≤_, _<_};
 ghost use lib.ListN.{length, set};
 ghost use Rattle.sizes.specs.Sizes.{longestPayload};
-ghost use Rattle.rows.specs.Rows.{endOf, mostIn, extraIn, fieldIn, cellsIn, cellsOf, oneRow, noRow};
+ghost use Rattle.rows.specs.Rows.{fieldIn, cellsIn, cellsOf, oneRow, noRow};
 ghost use Rattle.rows.specs.Runs.{CellsRead};
 ghost use Rattle.rows.specs.Puts.{onward, CellsPut};
 use answer::Refusal;
 use layout::Field;
 use layout::Verdict;
+use layout::up_to;
 
-// The group, as often again as `more` says, and the tail. Each is a word of up to eight cells, the first one lowest; a group of 0 is no row.
+// The group, as often again as `more` says, and the tail. Each is a word of up to eight cells, the first one lowest; a cell is a
+// field's number. A group of 0 is no row.
 pub struct Row {
     pub group: u64,
     pub more: u64,
@@ -40,63 +42,15 @@ pub fn one(group: u64) -> Row
     }
 }
 
-// The upper end of a range that has one of its own.
-fn end_of(range: u64) -> u64
-    ensures { λ r. ⌜ r ≡ endOf range ⌝ }
-{
-    if range == 3 {
-        return 59;
-    }
-    if range == 4 {
-        return 2;
-    }
-    if range == 5 {
-        return 1800;
-    }
-    if range == 6 {
-        return 3600;
-    }
-    if range == 7 {
-        return 170;
-    }
-    360
-}
-
-fn most_in(width: u32, range: u64) -> u64
-    requires { ⌜ (0 < width) × (width ≤ 16) ⌝ }
-    ensures { λ r. ⌜ r ≡ mostIn width range ⌝ }
-{
-    if range <= 2 {
-        return (1 << width) - range;
-    }
-    end_of(range)
-}
-
-fn extra_in(range: u64, most: u64) -> u64
-    ensures { λ r. ⌜ r ≡ extraIn range most ⌝ }
-{
-    if range == 3 {
-        return 63;
-    }
-    most
-}
-
+// The field of a cell; a number that no field has counts one bit.
 fn field_in(cell: u64) -> Field
-    requires { ⌜ cell < 256 ⌝ }
     ensures { λ r. ⌜ r ≡ fieldIn cell ⌝ }
 {
-    let width = (cell / 16 + 1) as u32;
-    let range = cell % 16;
-    let most = most_in(width, range);
-    let extra = extra_in(range, most);
-    Field {
-        sf: 0,
-        width: width,
-        least: 0,
-        most: most,
-        extra: extra,
-        under: Refusal::Field,
+    let field = fields::sf(cell);
+    if field.width == 0 {
+        return up_to(cell, 1, 1);
     }
+    field
 }
 
 // The entry at `at` is made the code, where there is one.

@@ -11,6 +11,7 @@ use Rattle.sizes.specs.Sizes.{longestPayload, sheetRoom}
 use Rattle.answer.specs.declared.Refusal.the-variants as refusal
 use Rattle.codes.specs.declared.Constellation.{Constellation}
 use Rattle.codes.specs.declared.Constellation.the-variants.{Gps, Glonass, Galileo, BeiDou, Qzss}
+use Rattle.fields.specs.Fields.{table, find, lineOf, sf}
 use Rattle.layout.specs.declared.Field.{Field}
 use Rattle.layout.specs.declared.Verdict.{Verdict}
 use Rattle.layout.specs.declared.Verdict.the-variants.{Taken, Fault}
@@ -18,7 +19,8 @@ use Rattle.bits.specs.Bits.{toBits, number}
 use Rattle.layout.specs.Layout.{Layout, field, pick, judge, enough, judged, before, Outcome, accepted, refused, readL, Written, written, unwritten, writeL}
 use Rattle.layout.specs.Parts.{Part, absent, present}
 use Rattle.message.specs.Messages.{Message, ocbLayout, hpacLayout, constellationOf, byConstellation, layoutFor}
-use Rattle.sheet.specs.Sheet.{badLength, stop, known, judging, reading, readAnswerBy, sheetBy, readAnswer, sheetAfter}
+use Rattle.answer.specs.Stop.{stop}
+use Rattle.sheet.specs.Sheet.{badLength, known, judging, reading, readAnswerBy, sheetBy, readAnswer, sheetAfter}
 use Rattle.sheet.specs.Sheet.{bytesFor, thenLength, judgingSheet, writing, writeAnswerBy, outBy, writeAnswer, outAfter}
 use Rattle.sheet.specs.declared.ReadAnswer.the-variants as reader
 use Rattle.sheet.specs.declared.WriteAnswer.the-variants as writer
@@ -59,6 +61,7 @@ begins-pick true p q = p
 begins-pick false p q = q
 
 begins-for : (kind subtype : ℕ) → Begins (layoutFor kind subtype)
+unfolding sf lineOf find table
 begins-for kind subtype =
     begins-pick (eqb kind 0) (begins-by ocbLayout (λ c. begins (omega arith)) subtype) (
     begins-pick (eqb kind 1) (begins-by hpacLayout (λ c. begins (omega arith)) subtype) (

@@ -5,6 +5,7 @@ use Prim.Native.Nat.{ℕ, _+_, _-_, _*_, _/_}
 use lib.Dec.{eqb, ltb}
 use lib.ListN.{length, drop}
 use Rattle.sizes.specs.Sizes.{longestPayload, sheetRoom}
+use Rattle.answer.specs.Stop.{stop}
 use Rattle.answer.specs.Number.{numberOf}
 use Rattle.answer.specs.declared.Refusal.the-variants.{Length, UnknownType, Room}
 use Rattle.bits.specs.Bits.{toBits, bitsOf}
@@ -19,11 +20,6 @@ use Rattle.sheet.specs.declared.WriteAnswer.the-variants as writer
 -- LENGTH: "payload of 0 or over 1,023 bytes"
 abbrev pub badLength : ℕ → Bool
 badLength bytes = eqb bytes 0 || ltb longestPayload bytes
-
--- refuse here if the test holds, else go on
-abbrev pub stop : {A : Type 0} → Bool → A → A → A
-stop true refusal rest = refusal
-stop false refusal rest = rest
 
 -- refuse here if no payload has this type and subtype, else go on with its layout
 abbrev pub known : {A : Type 0} → Part (Layout Message) → A → (Layout Message → A) → A

@@ -4,8 +4,8 @@ use mathlib.Core.List.{[], _∷_}
 use mathlib.Core.Bool.{Bool, true, false, cond}
 use Prim.Native.Nat.{ℕ, zero, suc, _+_, _-_, _*_, _^_, _≤_, _<_}
 use native.Mathlib.Omega.{arith}
-use lib.Dec.{ltb, eqb}
-use lib.IntN.{ℤ, pos, negsuc, subℕ, _-ℤ_}
+use lib.Dec.{ltb}
+use lib.IntN.{ℤ, pos, negsuc, _-ℤ_}
 use lib.Signed.{mag}
 use lib.Ieee.{Float, binary64, div, ofInt}
 use mir.Syntax.{w16, w32}
@@ -13,13 +13,13 @@ use mir.Val.{Fits, SFits, toZ, ofZ}
 use mir.ValLaws.{toZ-pos, toZ-ofZ}
 use borrow.Author.Tests.{lt-ltb, le-ltb}
 use Rattle.answer.specs.declared.Refusal.the-variants.{Field}
-use Rattle.values.specs.Values.{Row, none, rowOf, halfDegrees, quotient, valueOf, residualBy, residualOf, yawBy, yawOf, countBy, countOf, inMetres, orbitWith, orbitFrom, orbitOf, numberOfValue}
-use Rattle.values.specs.Columns.{numbersOf, stepsIn, numberIn, meantIn, meantAt, topIn, taken, topmost, outside, none-below, none-over}
+use Rattle.values.specs.Values.{halfDegrees, quotient, valueOf, residualBy, residualOf, yawBy, yawOf, countBy, countOf, inMetres, orbitWith, orbitFrom, orbitOf, numberOfValue}
+use Rattle.values.specs.Columns.{stepsIn, numberIn, meantIn, meantAt, invalidIn}
 use Rattle.values.specs.declared.Residual.the-variants as Residual
 use Rattle.values.specs.declared.Yaw.the-variants as Yaw
 use Rattle.values.specs.declared.Value.{Value}
 use Rattle.values.specs.declared.Value.the-variants.{Metres, Degrees, Tecu, Coefficient, Count, OfResidual, OfYaw, Refused}
-use Rattle.values.specs.declared.Row as R
+use Rattle.fields.specs.declared.Numbers.{Numbers}
 use Rattle.values.specs.declared.Residual.{Residual}
 use Rattle.values.specs.declared.Yaw.{Yaw}
 use Rattle.values.specs.declared.ResidualAnswer.{ResidualAnswer}
@@ -30,7 +30,6 @@ use Rattle.values.specs.declared.CountAnswer.{CountAnswer}
 use Rattle.values.specs.declared.CountAnswer.the-variants as CountAnswer
 use Rattle.values.specs.declared.OrbitAnswer.{OrbitAnswer}
 use Rattle.values.specs.declared.OrbitAnswer.the-variants as OrbitAnswer
-use Rattle.values.specs.declared.Orbit.{Orbit}
 use Rattle.values.proofs.Value.{the-type}
 use types.Run.{OneOf, miss}
 use denote.Enum.Declared.{tagOf}
@@ -68,7 +67,7 @@ spacing-past (suc (suc zero)) a b c d = absurd (c refl)
 spacing-past (suc (suc (suc zero))) a b c d = absurd (d refl)
 spacing-past (suc (suc (suc (suc n)))) a b c d = refl
 
-module _ (r : R.Row) (code : ℕ) (x : Float) where
+module _ (r : Numbers) (code : ℕ) (x : Float) where
   pub number-about : r .steps ≡ 0 → x ≡ quotient (pos code -ℤ pos (r .middle)) (r .«per_unit») → x ≡ numberIn r code
   number-about e q = rw e q
 
@@ -90,7 +89,7 @@ module _ (r : R.Row) (code : ℕ) (x : Float) where
 
 -- ---- what it means
 
-module _ (r : R.Row) (code : ℕ) where
+module _ (r : Numbers) (code : ℕ) where
   pub meant-count : (n : ℕ) → r .meaning ≡ 5 → n ≡ code + 1 → Count n ≡ meantIn r code
   meant-count n e q = rw (e, q)
 
@@ -130,38 +129,14 @@ module _ (r : R.Row) (code : ℕ) where
         go (suc (suc (suc (suc (suc (suc (suc (suc k)))))))) a b c d e f g = refl
 
 module _ (k : ℕ) where
-  pub top-field : k < 6 → Refused Field ≡ topIn k
-  top-field h = rw (lt-ltb k 6 h)
+  pub invalid-field : k < 6 → Refused Field ≡ invalidIn k
+  invalid-field h = rw (lt-ltb k 6 h)
 
-  pub top-residual : 6 ≤ k → k < 8 → OfResidual Residual.Invalid ≡ topIn k
-  top-residual h l = rw (le-ltb k 6 h, lt-ltb k 8 l)
+  pub invalid-residual : 6 ≤ k → k < 8 → OfResidual Residual.Invalid ≡ invalidIn k
+  invalid-residual h l = rw (le-ltb k 6 h, lt-ltb k 8 l)
 
-  pub top-yaw : 6 ≤ k → 8 ≤ k → OfYaw Yaw.Invalid ≡ topIn k
-  top-yaw h l = rw (le-ltb k 6 h, le-ltb k 8 l)
-
--- ---- a field's line
-
-module _ (sf : ℕ) (r : R.Row) (is : r ≡ numbersOf none) where
-  pub no-row-below : sf < 20 → r ≡ numbersOf (rowOf sf)
-  no-row-below h = is ∙ ap numbersOf (sym (none-below sf h))
-
-  pub no-row-over : 83 < sf → r ≡ numbersOf (rowOf sf)
-  no-row-over h = is ∙ ap numbersOf (sym (none-over sf h))
-
--- ---- the value
-
-module _ (sf code : ℕ) (r : R.Row) (is : r ≡ numbersOf (rowOf sf)) where
-  pub value-taken : (v : Value) → code < r .codes → v ≡ meantIn r code → v ≡ valueOf sf code
-  unfolding valueOf
-  value-taken v h q = q ∙ taken (rowOf sf) r is code h
-
-  pub value-top : (v : Value) → r .codes ≤ code → code ≡ r .top → v ≡ topIn (r .meaning) → v ≡ valueOf sf code
-  unfolding valueOf
-  value-top v h e q = q ∙ topmost (rowOf sf) r is code h e
-
-  pub value-outside : r .codes ≤ code → (code ≡ r .top → ⊥) → Refused Field ≡ valueOf sf code
-  unfolding valueOf
-  value-outside h e = outside (rowOf sf) r is code h e
+  pub invalid-yaw : 6 ≤ k → 8 ≤ k → OfYaw Yaw.Invalid ≡ invalidIn k
+  invalid-yaw h l = rw (le-ltb k 6 h, le-ltb k 8 l)
 
 -- ---- one variant of the value, and any other
 

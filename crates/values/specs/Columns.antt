@@ -1,54 +1,20 @@
--- The table as the code holds it: six numbers a field, SF020 to SF083. These serve the proofs and are proved to say what Values.antt says.
-use mathlib.Core.Path.{_≡_, refl, sym, ap, subst, _∙_}
-use mathlib.Core.List.{List, [], _∷_}
-use mathlib.Core.Bool.{Bool, true, false, _&&_}
-use Prim.Native.Nat.{ℕ, zero, suc, _+_, _-_, _*_, _^_, _≤_, _<_}
+-- The definitions of Values.antt by the numbers of a field's line, as the code has them. These serve the proofs and are proved to say what Values.antt says.
+use mathlib.Core.Path.{_≡_, refl, ap, _∙_}
+use Prim.Native.Nat.{ℕ, zero, suc, _+_, _≤_, _<_}
 use native.Mathlib.Omega.{arith}
-use lib.Dec.{T, leb, ltb, eqb, leb→le}
-use lib.IntN.{ℤ, pos}
-use lib.ListN.{getD}
+use lib.Dec.{ltb}
+use lib.IntN.{ℤ}
 use lib.Ieee.{Float}
-use lib.Ieee.Fits.{and-l, and-r}
 use borrow.Author.Tests.{le-leb, lt-leb, ne-eqb, eq-eqb}
-use Rattle.values.specs.Values.{Meaning, metres, degrees, tecu, coefficient, count, residualMetres, residualTecu, yaw, Steps, about, oneMore, sixfold, spacings, Row, none, row, table, find, rowOf, stepCount, quotient, meant, meantByTop, pick, valueBy, valueOf}
 use Rattle.answer.specs.declared.Refusal.the-variants.{Field}
+use Rattle.fields.specs.declared.Numbers.{Numbers}
+use Rattle.fields.specs.Fields.{Meaning, metres, degrees, tecu, coefficient, count, residualMetres, residualTecu, yaw, Steps, about, oneMore, sixfold, spacings, Means, nothing, counts, lineOf}
+use Rattle.fields.specs.Columns.{meaningNumber, stepsNumber, middleOf, numbersOf}
+use Rattle.values.specs.Values.{stepCount, quotient, meant, meantByInvalid, pick, valueBy, valueOf}
 use Rattle.values.specs.declared.Residual.the-variants as Residual
 use Rattle.values.specs.declared.Yaw.the-variants as Yaw
 use Rattle.values.specs.declared.Value.{Value}
 use Rattle.values.specs.declared.Value.the-variants.{Metres, Degrees, Tecu, Coefficient, Count, OfResidual, OfYaw, Refused}
-use Rattle.values.specs.declared.Row as R
-
-abbrev pub meaningNumber : Meaning → ℕ
-meaningNumber metres = 1
-meaningNumber degrees = 2
-meaningNumber tecu = 3
-meaningNumber coefficient = 4
-meaningNumber count = 5
-meaningNumber residualMetres = 6
-meaningNumber residualTecu = 7
-meaningNumber yaw = 8
-
-abbrev pub stepsNumber : Steps → ℕ
-stepsNumber (about middle) = 0
-stepsNumber oneMore = 1
-stepsNumber sixfold = 2
-stepsNumber spacings = 3
-
-abbrev pub middleOf : Steps → ℕ
-middleOf (about middle) = middle
-middleOf oneMore = 0
-middleOf sixfold = 0
-middleOf spacings = 0
-
-abbrev pub columns : Row → List ℕ
-columns none = 0 ∷ 0 ∷ 0 ∷ 0 ∷ 0 ∷ 0 ∷ []
-columns (row sf width most steps perUnit meaning) = suc most ∷ (2 ^ width - 1) ∷ stepsNumber steps ∷ middleOf steps ∷ perUnit ∷ meaningNumber meaning ∷ []
-
-abbrev pub struct : List ℕ → R.Row
-struct l = record { codes = getD l 0 0; top = getD l 1 0; steps = getD l 2 0; middle = getD l 3 0; «per_unit» = getD l 4 0; meaning = getD l 5 0 }
-
-abbrev pub numbersOf : Row → R.Row
-numbersOf r = struct (columns r)
 
 -- the definitions of Values.antt by those numbers
 abbrev pub stepsIn : ℕ → ℕ → ℕ → ℤ
@@ -57,7 +23,7 @@ stepsIn (suc zero) middle code = stepCount oneMore code
 stepsIn (suc (suc zero)) middle code = stepCount sixfold code
 stepsIn (suc (suc (suc n))) middle code = stepCount spacings code
 
-abbrev pub numberIn : R.Row → ℕ → Float
+abbrev pub numberIn : Numbers → ℕ → Float
 numberIn r code = quotient (stepsIn (r .steps) (r .middle) code) (r .«per_unit»)
 
 abbrev pub meantAt : ℕ → ℕ → Float → Value
@@ -71,11 +37,11 @@ meantAt (suc (suc (suc (suc (suc (suc zero)))))) code x = OfResidual (Residual.M
 meantAt (suc (suc (suc (suc (suc (suc (suc zero))))))) code x = OfResidual (Residual.Tecu x)
 meantAt (suc (suc (suc (suc (suc (suc (suc (suc n)))))))) code x = OfYaw (Yaw.Degrees x)
 
-abbrev pub meantIn : R.Row → ℕ → Value
+abbrev pub meantIn : Numbers → ℕ → Value
 meantIn r code = meantAt (r .meaning) code (numberIn r code)
 
-abbrev pub topIn : ℕ → Value
-topIn meaning = pick (ltb meaning 6) (Refused Field) (pick (ltb meaning 8) (OfResidual Residual.Invalid) (OfYaw Yaw.Invalid))
+abbrev pub invalidIn : ℕ → Value
+invalidIn meaning = pick (ltb meaning 6) (Refused Field) (pick (ltb meaning 8) (OfResidual Residual.Invalid) (OfYaw Yaw.Invalid))
 
 -- they are those of Values.antt
 pub steps-in : (s : Steps) (code : ℕ) → stepsIn (stepsNumber s) (middleOf s) code ≡ stepCount s code
@@ -98,90 +64,67 @@ pub meant-in : (m : Meaning) (s : Steps) (perUnit code : ℕ)
     → meantAt (meaningNumber m) code (quotient (stepsIn (stepsNumber s) (middleOf s) code) perUnit) ≡ meant m s perUnit code
 meant-in m s perUnit code = ap (λ (z : ℤ). meantAt (meaningNumber m) code (quotient z perUnit)) (steps-in s code) ∙ meant-at m s perUnit code
 
-pub top-in : (m : Meaning) → topIn (meaningNumber m) ≡ meantByTop m
-top-in metres = refl
-top-in degrees = refl
-top-in tecu = refl
-top-in coefficient = refl
-top-in count = refl
-top-in residualMetres = refl
-top-in residualTecu = refl
-top-in yaw = refl
+pub invalid-in : (m : Meaning) → invalidIn (meaningNumber m) ≡ meantByInvalid m
+invalid-in metres = refl
+invalid-in degrees = refl
+invalid-in tecu = refl
+invalid-in coefficient = refl
+invalid-in count = refl
+invalid-in residualMetres = refl
+invalid-in residualTecu = refl
+invalid-in yaw = refl
 
--- ---- the value by the numbers: the three answers of the call
+-- ---- the value by the numbers: the four answers of the call
 
-module _ (w : Row) (r : R.Row) (is : r ≡ numbersOf w) (code : ℕ) where
-  pub taken : code < r .codes → meantIn r code ≡ valueBy w code
-  taken h = subst (λ (q : R.Row). code < q .codes → meantIn q code ≡ valueBy w code) (sym is) (go w) h
-    where
-      go : (w : Row) → code < numbersOf w .codes → meantIn (numbersOf w) code ≡ valueBy w code
-      go none l = absurd (omega arith)
-      go (row sf width most steps perUnit meaning) l = let e : leb code most ≡ true = le-leb code most (omega arith) in rw e (meant-in meaning steps perUnit code)
+-- a meaning has a number of its own
+meant-some : (m : Meaning) → meaningNumber m ≡ 0 → ⊥
+meant-some metres e = omega arith
+meant-some degrees e = omega arith
+meant-some tecu e = omega arith
+meant-some coefficient e = omega arith
+meant-some count e = omega arith
+meant-some residualMetres e = omega arith
+meant-some residualTecu e = omega arith
+meant-some yaw e = omega arith
 
-  pub topmost : (r .codes ≤ code) → code ≡ r .top → topIn (r .meaning) ≡ valueBy w code
-  topmost h e = subst (λ (q : R.Row). (q .codes ≤ code) → code ≡ q .top → topIn (q .meaning) ≡ valueBy w code) (sym is) (go w) h e
-    where
-      go : (w : Row) → numbersOf w .codes ≤ code → code ≡ numbersOf w .top → topIn (numbersOf w .meaning) ≡ valueBy w code
-      go none l q = refl
-      go (row sf width most steps perUnit meaning) l q =
-          let a : leb code most ≡ false = lt-leb code most (omega arith) in
-          let b : eqb code (2 ^ width - 1) ≡ true = eq-eqb code (2 ^ width - 1) q in
-          rw (a, b) (top-in meaning)
+module _ (most invalid code : ℕ) where
+  abbrev numbers : ℕ → Means → Numbers
+  numbers width means = numbersOf (record { number = 0; width = width; most = most; invalid = invalid; means = means })
 
-  pub outside : (r .codes ≤ code) → (code ≡ r .top → ⊥) → Refused Field ≡ valueBy w code
-  outside h e = subst (λ (q : R.Row). (q .codes ≤ code) → (code ≡ q .top → ⊥) → Refused Field ≡ valueBy w code) (sym is) (go w) h e
-    where
-      go : (w : Row) → numbersOf w .codes ≤ code → (code ≡ numbersOf w .top → ⊥) → Refused Field ≡ valueBy w code
-      go none l q = refl
-      go (row sf width most steps perUnit meaning) l q =
-          let a : leb code most ≡ false = lt-leb code most (omega arith) in
-          let b : eqb code (2 ^ width - 1) ≡ false = ne-eqb code (2 ^ width - 1) q in
-          rw (a, b) refl
+  none-meant : (means : Means) (width : ℕ) → numbers width means .meaning ≡ 0 → Refused Field ≡ valueBy most invalid means code
+  none-meant nothing width e = refl
+  none-meant (counts steps perUnit meaning) width e = absurd (meant-some meaning e)
 
--- ---- the code's table is the table
+  taken-meant : (means : Means) (width : ℕ) → (numbers width means .meaning ≡ 0 → ⊥) → code ≤ most → meantIn (numbers width means) code ≡ valueBy most invalid means code
+  taken-meant nothing width n h = absurd (n refl)
+  taken-meant (counts steps perUnit meaning) width n h = rw (le-leb code most h) (meant-in meaning steps perUnit code)
 
--- f k, f (k + 1), .. to n of them
-unfoldable pub lines : (ℕ → List ℕ) → ℕ → ℕ → List (List ℕ)
-lines f zero k = []
-lines f (suc n) k = f k ∷ lines f n (suc k)
+  invalid-meant : (means : Means) (width : ℕ) → (numbers width means .meaning ≡ 0 → ⊥) → most < code → code ≡ invalid
+      → invalidIn (numbers width means .meaning) ≡ valueBy most invalid means code
+  invalid-meant nothing width n h e = absurd (n refl)
+  invalid-meant (counts steps perUnit meaning) width n h e = rw (lt-leb code most h, eq-eqb code invalid e) (invalid-in meaning)
 
-line : (f : ℕ → List ℕ) (n k i : ℕ) → i < n → getD (lines f n k) i [] ≡ f (k + i)
-unfolding lines
-line f zero k i h = absurd (omega arith)
-line f (suc n) k zero h = let e : k ≡ k + 0 = omega arith in ap f e
-line f (suc n) k (suc i) h = let e : suc k + i ≡ k + suc i = omega arith in line f n (suc k) i (omega arith) ∙ ap f e
+  outside-meant : (means : Means) → most < code → (code ≡ invalid → ⊥) → Refused Field ≡ valueBy most invalid means code
+  outside-meant nothing h e = refl
+  outside-meant (counts steps perUnit meaning) h e = rw (lt-leb code most h, ne-eqb code invalid e) refl
 
-abbrev pub lineOf : ℕ → List ℕ
-lineOf sf = columns (rowOf sf)
+module _ (sf code : ℕ) (r : Numbers) (is : r ≡ numbersOf (lineOf sf)) where
+  pub value-none : r .meaning ≡ 0 → Refused Field ≡ valueOf sf code
+  unfolding valueOf
+  value-none e = none-meant (lineOf sf .most) (lineOf sf .invalid) code (lineOf sf .means) (lineOf sf .width) (rw is at e)
 
--- the code's list of lines, SF020 to SF083
-pub line-of : (l : List (List ℕ)) → l ≡ lines lineOf 64 20 → (sf : ℕ) → 20 ≤ sf → sf ≤ 83 → (r : R.Row) → r ≡ struct (getD l (sf - 20) []) → r ≡ numbersOf (rowOf sf)
-line-of l is sf least most r q = let e : 20 + (sf - 20) ≡ sf = omega arith in
-    q ∙ ap (λ (x : List (List ℕ)). struct (getD x (sf - 20) [])) is ∙ ap struct (line lineOf 64 20 (sf - 20) (omega arith)) ∙ ap (λ (x : ℕ). numbersOf (rowOf x)) e
+  pub value-taken : (v : Value) → (r .meaning ≡ 0 → ⊥) → code ≤ r .most → v ≡ meantIn r code → v ≡ valueOf sf code
+  unfolding valueOf
+  value-taken v n h q =
+      q ∙ ap (λ (x : Numbers). meantIn x code) is
+      ∙ taken-meant (lineOf sf .most) (lineOf sf .invalid) code (lineOf sf .means) (lineOf sf .width) (rw is at n) (rw is at h)
 
--- every line of the table is of a field from SF020 to SF083
-abbrev among : Row → Bool
-among none = true
-among (row sf width most steps perUnit meaning) = leb 20 sf && leb sf 83
+  pub value-invalid : (v : Value) → (r .meaning ≡ 0 → ⊥) → r .most < code → code ≡ r .invalid → v ≡ invalidIn (r .meaning) → v ≡ valueOf sf code
+  unfolding valueOf
+  value-invalid v n h e q =
+      q ∙ ap (λ (x : Numbers). invalidIn (x .meaning)) is
+      ∙ invalid-meant (lineOf sf .most) (lineOf sf .invalid) code (lineOf sf .means) (lineOf sf .width) (rw is at n) (rw is at h) (rw is at e)
 
-unfoldable allAmong : List Row → Bool
-allAmong [] = true
-allAmong (r ∷ rows) = among r && allAmong rows
-
--- so the others have none
-none-outside : (rows : List Row) → T (allAmong rows) → (sf : ℕ) → ((n : ℕ) → 20 ≤ n → n ≤ 83 → sf ≡ n → ⊥) → find rows sf ≡ none
-unfolding find allAmong
-none-outside [] t sf h = refl
-none-outside (none ∷ rows) t sf h = none-outside rows t sf h
-none-outside (row n width most steps perUnit meaning ∷ rows) t sf h =
-    let a : T (leb 20 n && leb n 83) = and-l (leb 20 n && leb n 83) (allAmong rows) t in
-    let e : eqb sf n ≡ false = ne-eqb sf n (h n (leb→le 20 n (and-l (leb 20 n) (leb n 83) a)) (leb→le n 83 (and-r (leb 20 n) (leb n 83) a))) in
-    rw e (none-outside rows (and-r (leb 20 n && leb n 83) (allAmong rows) t) sf h)
-
-pub none-below : (sf : ℕ) → sf < 20 → rowOf sf ≡ none
-unfolding rowOf table allAmong
-none-below sf h = none-outside table tt sf (λ n a b e. omega arith)
-
-pub none-over : (sf : ℕ) → 83 < sf → rowOf sf ≡ none
-unfolding rowOf table allAmong
-none-over sf h = none-outside table tt sf (λ n a b e. omega arith)
+  pub value-outside : r .most < code → (code ≡ r .invalid → ⊥) → Refused Field ≡ valueOf sf code
+  unfolding valueOf
+  value-outside h e = outside-meant (lineOf sf .most) (lineOf sf .invalid) code (lineOf sf .means) (rw is at h) (rw is at e)

@@ -3,19 +3,20 @@ use mathlib.Core.Path.{_≡_, refl, sym, ap, ap₂, subst, _∙_}
 use mathlib.Core.List.{List, [], _∷_}
 use mathlib.Core.Bool.{Bool, true, false, cond, _&&_}
 use Prim.Native.Nat.{ℕ, zero, suc, _+_, _-_, _*_, _^_, _≤_, _<_}
-use native.Mathlib.Nat.{mul-one, one-mul, mul-assoc, mul-comm, mul-pos, lt-of-lt-of-le, le-of-lt}
+use native.Mathlib.Nat.{mul-one, mul-assoc, mul-comm, mul-pos, lt-of-lt-of-le, le-of-lt}
 use native.Mathlib.Omega.{arith}
 use lib.Dec.{T, leb, ltb, eqb, leb→le, ltb→lt, lit<, lit≤}
 use lib.IntN.{ℤ, pos, negsuc, _-ℤ_, +ℤ-invr}
 use lib.Pow.{shl-lt}
-use lib.Ieee.{Float, nan, inf, fin, Format, binary64, prec, low, emax, up, down, round, div, ofInt, unlike}
+use lib.Ieee.{Float, nan, inf, fin, Format, binary64, up, down, round, div, ofInt, unlike}
 use lib.Ieee.Fits.{down-pos, and-l, and-r}
 use lib.Ieee.Exact.{HasValue, round-exact}
 use lib.Ieee.Back.{round-whole}
 use lib.Ieee.Scale.{round-same}
 use borrow.Author.Tests.{ne-eqb, le-leb}
-use Rattle.values.specs.Columns.{middleOf}
-use Rattle.values.specs.Values.{Meaning, tecu, residualTecu, Steps, about, oneMore, sixfold, spacings, Row, none, row, table, orElse, find, rowOf, halfDegrees, stepCount, quotient, meant, valueBy, valueOf}
+use Rattle.fields.specs.Fields.{Meaning, tecu, residualTecu, Steps, about, oneMore, sixfold, spacings, Means, nothing, counts, Line, table, orElse, find, lineOf}
+use Rattle.fields.specs.Columns.{middleOf}
+use Rattle.values.specs.Values.{halfDegrees, stepCount, quotient, meant, valueBy, valueOf}
 use Rattle.values.specs.declared.Residual.the-variants as Residual
 use Rattle.values.specs.declared.Value.the-variants.{Tecu, OfResidual}
 
@@ -98,29 +99,30 @@ quarters z h =
 
 -- ---- over the table
 
--- every line divides by at least 1, and its codes and steps are small
-abbrev small : Row → Bool
-small none = true
-small (row sf width most s perUnit meaning) = (leb most 65535 && leb (middleOf s) 65535) && (ltb 0 perUnit && leb perUnit 65535)
+-- every line that has a value divides by at least 1, and its codes and steps are small
+abbrev smallMeans : Means → Bool
+smallMeans nothing = true
+smallMeans (counts s perUnit meaning) = leb (middleOf s) 65535 && (ltb 0 perUnit && leb perUnit 65535)
 
-unfoldable allSmall : List Row → Bool
+abbrev small : Line → Bool
+small line = leb (line .most) 65535 && smallMeans (line .means)
+
+unfoldable allSmall : List Line → Bool
 allSmall [] = true
-allSmall (r ∷ rows) = small r && allSmall rows
+allSmall (line ∷ lines) = small line && allSmall lines
 
-find-small : (rows : List Row) (sf : ℕ) → T (allSmall rows) → T (small (find rows sf))
+find-small : (lines : List Line) (sf : ℕ) → T (allSmall lines) → T (small (find lines sf))
 unfolding allSmall find
 find-small [] sf t = tt
-find-small (none ∷ rows) sf t = find-small rows sf t
-find-small (row n width most s perUnit meaning ∷ rows) sf t =
-    go (eqb sf n) (and-l (small (row n width most s perUnit meaning)) (allSmall rows) t) (find-small rows sf (and-r (small (row n width most s perUnit meaning)) (allSmall rows) t))
+find-small (line ∷ lines) sf t = go (eqb sf (line .number)) (and-l (small line) (allSmall lines) t) (find-small lines sf (and-r (small line) (allSmall lines) t))
   where
-    go : (b : Bool) → T (small (row n width most s perUnit meaning)) → T (small (find rows sf)) → T (small (orElse b (row n width most s perUnit meaning) (find rows sf)))
+    go : (b : Bool) → T (small line) → T (small (find lines sf)) → T (small (orElse b line (find lines sf)))
     go true here later = here
     go false here later = later
 
-row-small : (sf : ℕ) → T (small (rowOf sf))
-unfolding rowOf table allSmall
-row-small sf = find-small table sf tt
+line-small : (sf : ℕ) → T (small (lineOf sf))
+unfolding lineOf table allSmall
+line-small sf = find-small table sf tt
 
 -- so few steps are exact
 difference : (a b : ℕ) → a ≤ 65535 → b ≤ 65535 → steps (pos a -ℤ pos b) < 2 ^ 53
@@ -144,24 +146,25 @@ few spacings code h k = listed code
     listed (suc (suc (suc zero))) = lit≤ tt
     listed (suc (suc (suc (suc n)))) = lit≤ tt
 
--- the value of every code that a field of the table takes is one exact fraction, rounded once
-pub value-rounded-once : (sf n width most : ℕ) (s : Steps) (perUnit : ℕ) (meaning : Meaning) → rowOf sf ≡ row n width most s perUnit meaning → (code : ℕ) → code ≤ most
+-- the value of every code in a field's range is one exact fraction, rounded once
+pub value-rounded-once : (sf : ℕ) (s : Steps) (perUnit : ℕ) (meaning : Meaning) → lineOf sf .means ≡ counts s perUnit meaning → (code : ℕ) → code ≤ lineOf sf .most
     → quotient (stepCount s code) perUnit ≡ round binary64 (negative (stepCount s code)) (steps (stepCount s code)) perUnit
-value-rounded-once sf n width most s perUnit meaning e code h =
-    let t : T ((leb most 65535 && leb (middleOf s) 65535) && (ltb 0 perUnit && leb perUnit 65535)) = subst (λ (r : Row). T (small r)) e (row-small sf) in
-    let a = and-l (leb most 65535 && leb (middleOf s) 65535) (ltb 0 perUnit && leb perUnit 65535) t in
-    let b = and-r (leb most 65535 && leb (middleOf s) 65535) (ltb 0 perUnit && leb perUnit 65535) t in
-    let c : most ≤ 65535 = leb→le most 65535 (and-l (leb most 65535) (leb (middleOf s) 65535) a) in
-    let d : middleOf s ≤ 65535 = leb→le (middleOf s) 65535 (and-r (leb most 65535) (leb (middleOf s) 65535) a) in
-    let f : 0 < perUnit = ltb→lt 0 perUnit (and-l (ltb 0 perUnit) (leb perUnit 65535) b) in
-    let g : perUnit ≤ 65535 = leb→le perUnit 65535 (and-r (ltb 0 perUnit) (leb perUnit 65535) b) in
+value-rounded-once sf s perUnit meaning e code h =
+    let t = line-small sf in
+    let c : lineOf sf .most ≤ 65535 = leb→le _ 65535 (and-l (leb (lineOf sf .most) 65535) (smallMeans (lineOf sf .means)) t) in
+    let u : T (leb (middleOf s) 65535 && (ltb 0 perUnit && leb perUnit 65535))
+    = subst (λ (m : Means). T (smallMeans m)) e (and-r (leb (lineOf sf .most) 65535) (smallMeans (lineOf sf .means)) t) in
+    let d : middleOf s ≤ 65535 = leb→le (middleOf s) 65535 (and-l (leb (middleOf s) 65535) (ltb 0 perUnit && leb perUnit 65535) u) in
+    let v = and-r (leb (middleOf s) 65535) (ltb 0 perUnit && leb perUnit 65535) u in
+    let f : 0 < perUnit = ltb→lt 0 perUnit (and-l (ltb 0 perUnit) (leb perUnit 65535) v) in
+    let g : perUnit ≤ 65535 = leb→le perUnit 65535 (and-r (ltb 0 perUnit) (leb perUnit 65535) v) in
     rounded-once (stepCount s code) perUnit (few s code (omega arith) d) f (omega arith)
 
--- a code that a field of the table takes means its value
-pub taken-means : (sf n width most : ℕ) (s : Steps) (perUnit : ℕ) (meaning : Meaning) → rowOf sf ≡ row n width most s perUnit meaning → (code : ℕ) → code ≤ most
+-- a code in a field's range means its value
+pub taken-means : (sf : ℕ) (s : Steps) (perUnit : ℕ) (meaning : Meaning) → lineOf sf .means ≡ counts s perUnit meaning → (code : ℕ) → code ≤ lineOf sf .most
     → valueOf sf code ≡ meant meaning s perUnit code
 unfolding valueOf
-taken-means sf n width most s perUnit meaning e code h = ap (λ (r : Row). valueBy r code) e ∙ rw (le-leb code most h) refl
+taken-means sf s perUnit meaning e code h = ap (λ (m : Means). valueBy (lineOf sf .most) (lineOf sf .invalid) m code) e ∙ rw (le-leb code (lineOf sf .most) h) refl
 
 -- ---- VTEC: SF080, SF082 and SF083 are exact in quarters
 
@@ -173,13 +176,13 @@ pub quarter-exact : (code middle : ℕ) → code ≤ 65535 → middle ≤ 65535
 quarter-exact code middle h k = quarters (pos code -ℤ pos middle) (difference code middle h k)
 
 pub vtec-average : (code : ℕ) → code ≤ 4094 → valueOf 80 code ≡ Tecu (quarter code 2047)
-unfolding rowOf table find
-vtec-average code h = taken-means 80 80 12 4094 (about 2047) 4 tecu refl code h
+unfolding lineOf table find
+vtec-average code h = taken-means 80 (about 2047) 4 tecu refl code h
 
 pub vtec-small : (code : ℕ) → code ≤ 126 → valueOf 82 code ≡ OfResidual (Residual.Tecu (quarter code 63))
-unfolding rowOf table find
-vtec-small code h = taken-means 82 82 7 126 (about 63) 4 residualTecu refl code h
+unfolding lineOf table find
+vtec-small code h = taken-means 82 (about 63) 4 residualTecu refl code h
 
 pub vtec-large : (code : ℕ) → code ≤ 2046 → valueOf 83 code ≡ OfResidual (Residual.Tecu (quarter code 1023))
-unfolding rowOf table find
-vtec-large code h = taken-means 83 83 11 2046 (about 1023) 4 residualTecu refl code h
+unfolding lineOf table find
+vtec-large code h = taken-means 83 (about 1023) 4 residualTecu refl code h

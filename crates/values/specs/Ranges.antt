@@ -1,4 +1,4 @@
--- The table of Values.antt beside document 000 and document 01: the lowest and the highest value of each field are those that its row's range names, and the fields that
+-- The table of crate fields beside document 000 and document 01: the lowest and the highest value of each field are those that its row's range names, and the fields that
 -- document 01 lists are those of the table. Each is computed; they serve as checks of the table.
 use mathlib.Core.Path.{_≡_, refl}
 use mathlib.Core.List.{List, [], _∷_}
@@ -6,7 +6,8 @@ use mathlib.Core.Bool.{Bool, true, false, not, _&&_}
 use Prim.Native.Nat.{ℕ, _*_, _-_, _^_}
 use lib.Dec.{eqb}
 use lib.IntN.{ℤ}
-use Rattle.values.specs.Values.{Meaning, metres, degrees, tecu, coefficient, count, residualMetres, residualTecu, yaw, Steps, about, oneMore, sixfold, spacings, Row, none, row, table, stepCount}
+use Rattle.fields.specs.Fields.{metres, degrees, tecu, coefficient, count, residualMetres, residualTecu, yaw, about, oneMore, sixfold, spacings, Means, nothing, counts, Line, table}
+use Rattle.values.specs.Values.{stepCount}
 use Rattle.values.specs.Laws.{negative, steps}
 
 -- "±16.382 m" of SF020 is `plusMinus 20 16382 1000`; "0.1 to 3.2 degrees" of SF036 is `fromTo 36 1 32 10`
@@ -65,78 +66,93 @@ same false b = not b
 abbrev isAt : Bool → (digits over perUnit : ℕ) → ℤ → Bool
 isAt minus digits over perUnit z = same minus (negative z) && eqb (steps z * over) (digits * perUnit)
 
--- code 0 means the lowest value, the highest code that is taken the highest
-abbrev agree : Row → Range → Bool
-agree none range = false
-agree (row sf width most s perUnit meaning) (plusMinus n digits over) =
-    eqb sf n && (isAt true digits over perUnit (stepCount s 0) && isAt false digits over perUnit (stepCount s most))
-agree (row sf width most s perUnit meaning) (fromTo n low high over) =
-    eqb sf n && (isAt false low over perUnit (stepCount s 0) && isAt false high over perUnit (stepCount s most))
+-- code 0 means the lowest value, the highest code of the range the highest
+abbrev agreeBy : (number most : ℕ) → Means → Range → Bool
+agreeBy number most nothing range = false
+agreeBy number most (counts s perUnit meaning) (plusMinus n digits over) =
+    eqb number n && (isAt true digits over perUnit (stepCount s 0) && isAt false digits over perUnit (stepCount s most))
+agreeBy number most (counts s perUnit meaning) (fromTo n low high over) =
+    eqb number n && (isAt false low over perUnit (stepCount s 0) && isAt false high over perUnit (stepCount s most))
 
-unfoldable pub allAgree : List Row → List Range → Bool
+-- the lines that have a value
+abbrev valuedBy : Means → Line → List Line → List Line
+valuedBy nothing line others = others
+valuedBy (counts s perUnit meaning) line others = line ∷ others
+
+unfoldable pub valued : List Line → List Line
+valued [] = []
+valued (line ∷ lines) = valuedBy (line .means) line (valued lines)
+
+unfoldable pub allAgree : List Line → List Range → Bool
 allAgree [] [] = true
 allAgree [] (range ∷ others) = false
-allAgree (r ∷ rows) [] = false
-allAgree (r ∷ rows) (range ∷ others) = agree r range && allAgree rows others
+allAgree (line ∷ lines) [] = false
+allAgree (line ∷ lines) (range ∷ others) = agreeBy (line .number) (line .most) (line .means) range && allAgree lines others
 
-pub table-agrees : allAgree table ranges ≡ true
-unfolding allAgree table ranges
+pub table-agrees : allAgree (valued table) ranges ≡ true
+unfolding allAgree valued table ranges
 table-agrees = refl
 
 -- ---- the fields that document 01 lists
 
 abbrev with-field : Bool → ℕ → List ℕ → List ℕ
-with-field true sf others = sf ∷ others
-with-field false sf others = others
+with-field true number others = number ∷ others
+with-field false number others = others
 
-unfoldable pub fields : (ℕ → ℕ → Steps → Meaning → Bool) → List Row → List ℕ
+unfoldable pub fields : (Line → Bool) → List Line → List ℕ
 fields test [] = []
-fields test (none ∷ rows) = fields test rows
-fields test (row sf width most s perUnit meaning ∷ rows) = with-field (test width most s meaning) sf (fields test rows)
+fields test (line ∷ lines) = with-field (test line) (line .number) (fields test lines)
 
-abbrev isResidual : Meaning → Bool
-isResidual metres = false
-isResidual degrees = false
-isResidual tecu = false
-isResidual coefficient = false
-isResidual count = false
-isResidual residualMetres = true
-isResidual residualTecu = true
-isResidual yaw = false
+abbrev isResidual : Means → Bool
+isResidual nothing = false
+isResidual (counts s perUnit metres) = false
+isResidual (counts s perUnit degrees) = false
+isResidual (counts s perUnit tecu) = false
+isResidual (counts s perUnit coefficient) = false
+isResidual (counts s perUnit count) = false
+isResidual (counts s perUnit residualMetres) = true
+isResidual (counts s perUnit residualTecu) = true
+isResidual (counts s perUnit yaw) = false
 
 -- "The top code is "invalid" for SF052, 053, 064 to 067, 082 and 083,"
-pub residuals : fields (λ width most s meaning. isResidual meaning) table ≡ 52 ∷ 53 ∷ 64 ∷ 65 ∷ 66 ∷ 67 ∷ 82 ∷ 83 ∷ []
+pub residuals : fields (λ line. isResidual (line .means)) table ≡ 52 ∷ 53 ∷ 64 ∷ 65 ∷ 66 ∷ 67 ∷ 82 ∷ 83 ∷ []
 unfolding fields table
 residuals = refl
 
--- "and FIELD for SF020, 029, 043, 045 to 050, 057 to 062 and 080."
-pub top-is-field : fields (λ width most s meaning. eqb most (2 ^ width - 2) && not (isResidual meaning)) table
-    ≡ 20 ∷ 29 ∷ 43 ∷ 45 ∷ 46 ∷ 47 ∷ 48 ∷ 49 ∷ 50 ∷ 57 ∷ 58 ∷ 59 ∷ 60 ∷ 61 ∷ 62 ∷ 80 ∷ []
+pub top-is-invalid : fields (λ line. not (eqb (line .invalid) (line .most)) && eqb (line .most) (2 ^ line .width - 2)) table
+    ≡ 52 ∷ 53 ∷ 64 ∷ 65 ∷ 66 ∷ 67 ∷ 82 ∷ 83 ∷ []
+unfolding fields table
+top-is-invalid = refl
+
+-- "and FIELD for SF020, 029, 043, 045 to 050, 057 to 062 and 080." SF040 takes 0 to 2, which is all but its top code too.
+pub top-is-field : fields (λ line. eqb (line .most) (2 ^ line .width - 2) && eqb (line .invalid) (line .most)) table
+    ≡ 20 ∷ 29 ∷ 40 ∷ 43 ∷ 45 ∷ 46 ∷ 47 ∷ 48 ∷ 49 ∷ 50 ∷ 57 ∷ 58 ∷ 59 ∷ 60 ∷ 61 ∷ 62 ∷ 80 ∷ []
 unfolding fields table
 top-is-field = refl
 
-abbrev isOneMore : Steps → Bool
-isOneMore (about middle) = false
-isOneMore oneMore = true
-isOneMore sixfold = false
-isOneMore spacings = false
+abbrev isOneMore : Means → Bool
+isOneMore nothing = false
+isOneMore (counts (about middle) perUnit meaning) = false
+isOneMore (counts oneMore perUnit meaning) = true
+isOneMore (counts sixfold perUnit meaning) = false
+isOneMore (counts spacings perUnit meaning) = false
 
 -- "SF030, 034 to 037, 071, 075, 076 mean code plus one"
-pub one-more : fields (λ width most s meaning. isOneMore s) table ≡ 30 ∷ 34 ∷ 35 ∷ 36 ∷ 37 ∷ 71 ∷ 75 ∷ 76 ∷ []
+pub one-more : fields (λ line. isOneMore (line .means)) table ≡ 30 ∷ 34 ∷ 35 ∷ 36 ∷ 37 ∷ 71 ∷ 75 ∷ 76 ∷ []
 unfolding fields table
 one-more = refl
 
 -- ---- the ranges that document 01 lists
 
 -- the highest code of each field that takes neither its full width nor all codes but the top one, behind the field's number
-unfoldable pub ownRanges : List Row → List ℕ
+unfoldable pub ownRanges : List Line → List ℕ
 ownRanges [] = []
-ownRanges (none ∷ rows) = ownRanges rows
-ownRanges (row sf width most s perUnit meaning ∷ rows) =
-    with-field (not (eqb most (2 ^ width - 1)) && not (eqb most (2 ^ width - 2))) sf
-    (with-field (not (eqb most (2 ^ width - 1)) && not (eqb most (2 ^ width - 2))) most (ownRanges rows))
+ownRanges (line ∷ lines) =
+    with-field (not (eqb (line .most) (2 ^ line .width - 1)) && not (eqb (line .most) (2 ^ line .width - 2))) (line .number)
+    (with-field (not (eqb (line .most) (2 ^ line .width - 1)) && not (eqb (line .most) (2 ^ line .width - 2))) (line .most) (ownRanges lines))
 
--- "Other ranges: SF021 0 to 59, with 63 invalid; SF032 0 to 1800; SF033 0 to 3600; SF073 0 to 170; SF074 0 to 360"
-pub own-ranges : ownRanges table ≡ 21 ∷ 59 ∷ 32 ∷ 1800 ∷ 33 ∷ 3600 ∷ 73 ∷ 170 ∷ 74 ∷ 360 ∷ []
+-- "Other ranges: SF021 0 to 59, with 63 invalid; SF032 0 to 1800; SF033 0 to 3600; SF073 0 to 170; SF074 0 to 360; .. SF041 and SF054 0 to 2." "All else takes its
+-- full width."
+pub own-ranges : ownRanges table ≡ 21 ∷ 59 ∷ 32 ∷ 1800 ∷ 33 ∷ 3600 ∷ 41 ∷ 2 ∷ 54 ∷ 2 ∷ 73 ∷ 170 ∷ 74 ∷ 360 ∷ []
 unfolding ownRanges table
 own-ranges = refl

@@ -1,12 +1,11 @@
 // What a field's code means: metres, degrees, TECU and whole numbers (document 01, "Codes").
 ghost use mathlib.Core.Path.{_≡_};
-ghost use mathlib.Core.List.{[]};
-ghost use Prim.Native.Nat.{_+_, _<_};
+ghost use Prim.Native.Nat.{_+_};
 ghost use lib.IntN.{pos, _-ℤ_};
-ghost use lib.ListN.{getD};
-ghost use Rattle.values.specs.Values.{none, rowOf, halfDegrees, quotient, valueOf, residualOf, yawOf, countOf, orbitWith, orbitFrom, orbitOf, numberOfValue, numberOfResidual, numberOfYaw, numberOfCount, numberOfOrbit};
-ghost use Rattle.values.specs.Columns.{struct, numbersOf, numberIn, meantIn, topIn};
+ghost use Rattle.values.specs.Values.{halfDegrees, quotient, valueOf, residualOf, yawOf, countOf, orbitWith, orbitFrom, orbitOf, numberOfValue, numberOfResidual, numberOfYaw, numberOfCount, numberOfOrbit};
+ghost use Rattle.values.specs.Columns.{numberIn, meantIn, invalidIn};
 use answer::Refusal;
+use fields::Numbers;
 
 // "A residual is either invalid or a float in its unit": SF052, 053, 064 to 067, 082 and 083.
 pub enum Residual {
@@ -62,151 +61,6 @@ pub enum CountAnswer {
     Refused(Refusal),
 }
 
-// A field's line of the table: it takes the codes below `codes`; `top` is its highest code.
-struct Row {
-    codes: u16,
-    top: u16,
-    steps: u16,
-    middle: u16,
-    per_unit: u16,
-    meaning: u16,
-}
-
-// How a code counts steps, in the numbers of specs/Columns.antt: from the middle code, code plus one, six times the code, by SF077's list.
-const ABOUT: u16 = 0;
-
-const ONE_MORE: u16 = 1;
-
-const SIXFOLD: u16 = 2;
-
-const SPACINGS: u16 = 3;
-
-// What the value is, in the numbers of specs/Columns.antt.
-const METRES: u16 = 1;
-
-const DEGREES: u16 = 2;
-
-const TECU: u16 = 3;
-
-const COEFFICIENT: u16 = 4;
-
-const COUNT: u16 = 5;
-
-const RESIDUAL_METRES: u16 = 6;
-
-const RESIDUAL_TECU: u16 = 7;
-
-const YAW: u16 = 8;
-
-// SF020 to SF083: codes, top, steps, middle, per_unit, meaning. Zeros where a field has no value.
-const ROWS: [[u16; 6]; 64] = [
-    [16383, 16383, ABOUT, 8191, 500, METRES], // SF020
-    [60, 63, SIXFOLD, 0, 1, YAW], // SF021
-    [0, 0, 0, 0, 0, 0],
-    [0, 0, 0, 0, 0, 0],
-    [0, 0, 0, 0, 0, 0],
-    [0, 0, 0, 0, 0, 0],
-    [0, 0, 0, 0, 0, 0],
-    [0, 0, 0, 0, 0, 0],
-    [0, 0, 0, 0, 0, 0],
-    [2047, 2047, ABOUT, 1023, 50, METRES], // SF029
-    [32, 31, ONE_MORE, 0, 1, COUNT], // SF030
-    [0, 0, 0, 0, 0, 0],
-    [1801, 2047, ABOUT, 900, 10, DEGREES], // SF032
-    [3601, 4095, ABOUT, 1800, 10, DEGREES], // SF033
-    [8, 7, ONE_MORE, 0, 1, COUNT], // SF034
-    [8, 7, ONE_MORE, 0, 1, COUNT], // SF035
-    [32, 31, ONE_MORE, 0, 10, DEGREES], // SF036
-    [32, 31, ONE_MORE, 0, 10, DEGREES], // SF037
-    [0, 0, 0, 0, 0, 0],
-    [0, 0, 0, 0, 0, 0],
-    [0, 0, 0, 0, 0, 0],
-    [0, 0, 0, 0, 0, 0],
-    [0, 0, 0, 0, 0, 0],
-    [255, 255, ABOUT, 127, 250, METRES], // SF043
-    [0, 0, 0, 0, 0, 0],
-    [127, 127, ABOUT, 63, 250, METRES], // SF045
-    [127, 127, ABOUT, 63, 1000, COEFFICIENT], // SF046
-    [511, 511, ABOUT, 255, 5000, COEFFICIENT], // SF047
-    [511, 511, ABOUT, 255, 250, METRES], // SF048
-    [511, 511, ABOUT, 255, 1000, COEFFICIENT], // SF049
-    [2047, 2047, ABOUT, 1023, 5000, COEFFICIENT], // SF050
-    [0, 0, 0, 0, 0, 0],
-    [63, 63, ABOUT, 31, 250, RESIDUAL_METRES], // SF052
-    [255, 255, ABOUT, 127, 250, RESIDUAL_METRES], // SF053
-    [0, 0, 0, 0, 0, 0],
-    [0, 0, 0, 0, 0, 0],
-    [0, 0, 0, 0, 0, 0],
-    [4095, 4095, ABOUT, 2047, 25, TECU], // SF057
-    [4095, 4095, ABOUT, 2047, 125, COEFFICIENT], // SF058
-    [8191, 8191, ABOUT, 4095, 500, COEFFICIENT], // SF059
-    [16383, 16383, ABOUT, 8191, 25, TECU], // SF060
-    [16383, 16383, ABOUT, 8191, 125, COEFFICIENT], // SF061
-    [32767, 32767, ABOUT, 16383, 500, COEFFICIENT], // SF062
-    [0, 0, 0, 0, 0, 0],
-    [15, 15, ABOUT, 7, 25, RESIDUAL_TECU], // SF064
-    [127, 127, ABOUT, 63, 25, RESIDUAL_TECU], // SF065
-    [1023, 1023, ABOUT, 511, 25, RESIDUAL_TECU], // SF066
-    [16383, 16383, ABOUT, 8191, 25, RESIDUAL_TECU], // SF067
-    [0, 0, 0, 0, 0, 0],
-    [0, 0, 0, 0, 0, 0],
-    [0, 0, 0, 0, 0, 0],
-    [4, 3, ONE_MORE, 0, 1, COUNT], // SF071
-    [0, 0, 0, 0, 0, 0],
-    [171, 255, ABOUT, 85, 1, DEGREES], // SF073
-    [361, 511, ABOUT, 180, 1, DEGREES], // SF074
-    [16, 15, ONE_MORE, 0, 1, COUNT], // SF075
-    [16, 15, ONE_MORE, 0, 1, COUNT], // SF076
-    [4, 3, SPACINGS, 0, 2, DEGREES], // SF077
-    [4, 3, SPACINGS, 0, 2, DEGREES], // SF078
-    [0, 0, 0, 0, 0, 0],
-    [4095, 4095, ABOUT, 2047, 4, TECU], // SF080
-    [0, 0, 0, 0, 0, 0],
-    [127, 127, ABOUT, 63, 4, RESIDUAL_TECU], // SF082
-    [2047, 2047, ABOUT, 1023, 4, RESIDUAL_TECU], // SF083
-];
-
-// The line of the field SF `sf`; zeros where it has no value.
-fn row_of(sf: u16) -> Row
-    ensures { λ r. ⌜ r ≡ numbersOf (rowOf sf) ⌝ }
-{
-    if sf < 20 {
-        return no_row();
-    }
-    if 83 < sf {
-        return no_row();
-    }
-    row_in(&ROWS, sf as usize - 20)
-}
-
-// A table is laid out anew where a function names it, so it is named once and lent.
-fn row_in(rows: &[[u16; 6]; 64], i: usize) -> Row
-    requires { ⌜ i < 64 ⌝ }
-    ensures { λ r. ⌜ r ≡ struct (getD (now (rows .entry)) i []) ⌝ }
-{
-    Row {
-        codes: rows[i][0],
-        top: rows[i][1],
-        steps: rows[i][2],
-        middle: rows[i][3],
-        per_unit: rows[i][4],
-        meaning: rows[i][5],
-    }
-}
-
-fn no_row() -> Row
-    ensures { λ r. ⌜ r ≡ numbersOf none ⌝ }
-{
-    Row {
-        codes: 0,
-        top: 0,
-        steps: 0,
-        middle: 0,
-        per_unit: 0,
-        meaning: 0,
-    }
-}
-
 // n / per_unit, rounded once.
 fn quotient_of(n: u32, per_unit: u16) -> f64
     ensures { λ r. ⌜ r ≡ quotient (pos n) «per_unit» ⌝ }
@@ -241,19 +95,19 @@ fn spacing(code: u16) -> u32
 }
 
 // The signed step count, divided once by the steps per unit.
-fn number_in(row: Row, code: u16) -> f64
-    ensures { λ r. ⌜ r ≡ numberIn row code ⌝ }
+fn number_in(line: Numbers, code: u16) -> f64
+    ensures { λ r. ⌜ r ≡ numberIn line code ⌝ }
 {
-    if row.steps == ABOUT {
-        return quotient_about(code, row.middle, row.per_unit);
+    if line.steps == fields::ABOUT {
+        return quotient_about(code, line.middle, line.per_unit);
     }
-    if row.steps == ONE_MORE {
-        return quotient_of(code as u32 + 1, row.per_unit);
+    if line.steps == fields::ONE_MORE {
+        return quotient_of(code as u32 + 1, line.per_unit);
     }
-    if row.steps == SIXFOLD {
-        return quotient_of(6 * (code as u32), row.per_unit);
+    if line.steps == fields::SIXFOLD {
+        return quotient_of(6 * (code as u32), line.per_unit);
     }
-    quotient_of(spacing(code), row.per_unit)
+    quotient_of(spacing(code), line.per_unit)
 }
 
 // A count: code plus one.
@@ -264,42 +118,42 @@ fn one_more(code: u16) -> u64
 }
 
 // What a code that the field takes means.
-fn meant_in(row: Row, code: u16) -> Value
-    ensures { λ r. ⌜ r ≡ meantIn row code ⌝ }
+fn meant_in(line: Numbers, code: u16) -> Value
+    ensures { λ r. ⌜ r ≡ meantIn line code ⌝ }
 {
-    if row.meaning == COUNT {
+    if line.meaning == fields::COUNT {
         return Value::Count(one_more(code));
     }
-    let x = number_in(row, code);
-    if row.meaning == METRES {
+    let x = number_in(line, code);
+    if line.meaning == fields::METRES {
         return Value::Metres(x);
     }
-    if row.meaning == DEGREES {
+    if line.meaning == fields::DEGREES {
         return Value::Degrees(x);
     }
-    if row.meaning == TECU {
+    if line.meaning == fields::TECU {
         return Value::Tecu(x);
     }
-    if row.meaning == COEFFICIENT {
+    if line.meaning == fields::COEFFICIENT {
         return Value::Coefficient(x);
     }
-    if row.meaning == RESIDUAL_METRES {
+    if line.meaning == fields::RESIDUAL_METRES {
         return Value::OfResidual(Residual::Metres(x));
     }
-    if row.meaning == RESIDUAL_TECU {
+    if line.meaning == fields::RESIDUAL_TECU {
         return Value::OfResidual(Residual::Tecu(x));
     }
     Value::OfYaw(Yaw::Degrees(x))
 }
 
-// What a field's top code means where the field does not take it: invalid for a residual and the yaw, FIELD for the others.
-fn top_in(meaning: u16) -> Value
-    ensures { λ r. ⌜ r ≡ topIn meaning ⌝ }
+// What the one code that a field takes besides its range means: invalid for a residual and the yaw; no other field has one.
+fn invalid_in(meaning: u16) -> Value
+    ensures { λ r. ⌜ r ≡ invalidIn meaning ⌝ }
 {
-    if meaning < RESIDUAL_METRES {
+    if meaning < fields::RESIDUAL_METRES {
         return Value::Refused(Refusal::Field);
     }
-    if meaning < YAW {
+    if meaning < fields::YAW {
         return Value::OfResidual(Residual::Invalid);
     }
     Value::OfYaw(Yaw::Invalid)
@@ -309,12 +163,15 @@ fn top_in(meaning: u16) -> Value
 pub fn value_of(sf: u16, code: u64) -> Value
     ensures { λ r. ⌜ r ≡ valueOf sf code ⌝ }
 {
-    let row = row_of(sf);
-    if code < row.codes as u64 {
-        return meant_in(row, code as u16);
+    let line = fields::line_of(sf);
+    if line.meaning == 0 {
+        return Value::Refused(Refusal::Field);
     }
-    if code == row.top as u64 {
-        return top_in(row.meaning);
+    if code <= line.most as u64 {
+        return meant_in(line, code as u16);
+    }
+    if code == line.invalid as u64 {
+        return invalid_in(line.meaning);
     }
     Value::Refused(Refusal::Field)
 }

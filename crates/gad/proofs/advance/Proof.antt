@@ -1,5 +1,5 @@
 -- The match gives the next state at each state.
-use Rattle.layout.specs.Tests.{matched}
+use Rattle.answer.specs.Matched.{matched}
 use borrow.Author.Needs.{needs}
 use Rattle.gad.proofs.advance.Statement.{statement}
 use Rattle.gad.proofs.advance.Tie as tie

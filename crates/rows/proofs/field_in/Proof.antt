@@ -1,22 +1,20 @@
--- The struct is the definition, its most and extra what the calls gave.
+-- A number that no field has counts one bit.
+use Rattle.rows.specs.Cells.{cell-none, cell-some}
 use borrow.Author.Needs.{needs}
 use Rattle.rows.proofs.field_in.Statement.{statement}
 use Rattle.rows.proofs.field_in.Tie as tie
 
-add-width : tie.Need-add-width
-add-width c = search needs
+sf-requires : tie.Need-sf-requires
+sf-requires c κs = search needs
 
-cast-width : tie.Need-cast-width
-cast-width c = search needs
-
-most-in-requires : tie.Need-most-in-requires
-most-in-requires c κs = search needs
-
-extra-in-requires : tie.Need-extra-in-requires
-extra-in-requires c κs = search needs
+up-to-requires : tie.Need-up-to-requires
+up-to-requires c κs = search needs
 
 returns : tie.Need-returns
-returns c = cc
+returns c = search (cell-none, needs)
+
+returns-2 : tie.Need-returns-2
+returns-2 c = search (cell-some, needs)
 
 pub field-in-spec : {M : Type 1} → statement M
-field-in-spec = tie.close (tie.spec add-width cast-width most-in-requires extra-in-requires returns)
+field-in-spec = tie.close (tie.spec sf-requires up-to-requires returns returns-2)

@@ -1,5 +1,5 @@
 -- The struct is the definition, its words what the calls gave.
-use Rattle.hpac.specs.Rows.{row-made}
+use Rattle.rows.specs.Along.{row-made}
 use borrow.Author.Needs.{needs}
 use Rattle.hpac.proofs.row.c00_row.Statement.{statement}
 use Rattle.hpac.proofs.row.c00_row.Tie as tie

@@ -1,5 +1,5 @@
--- Each side of the test gives what the definition picks.
-use Rattle.layout.specs.Tests.{if-same, if-other}
+-- The word that the equation cuts is the one that the size picks.
+use Rattle.hpac.specs.Rows.{polynomial-of}
 use borrow.Author.Needs.{needs}
 use Rattle.hpac.proofs.row.polynomial_cells.Statement.{statement}
 use Rattle.hpac.proofs.row.polynomial_cells.Tie as tie
@@ -9,6 +9,5 @@ polynomial-cells-spec =
     tie.close (
     tie.spec
     (λ c κs. search needs)
-    (λ c. search (if-same, if-other, needs))
     (λ c κs. search needs)
-    (λ c. search (if-same, if-other, needs)))
+    (λ c. search (polynomial-of, needs)))

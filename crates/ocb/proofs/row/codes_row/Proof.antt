@@ -1,5 +1,5 @@
 -- The struct is the definition, its words what the calls gave.
-use Rattle.ocb.specs.Rows.{row-made}
+use Rattle.rows.specs.Along.{row-made}
 use borrow.Author.Needs.{needs}
 use Rattle.ocb.proofs.row.codes_row.Statement.{statement}
 use Rattle.ocb.proofs.row.codes_row.Tie as tie
