@@ -4,11 +4,11 @@ use mathlib.Core.Bool.{Bool, true, false, _&&_, false≢true}
 use mathlib.Core.List.{List, [], _∷_, _++_}
 use Prim.Native.Nat.{ℕ, _+_, _-_, _*_, _/_, _%_, _^_, _≤_, _<_}
 use native.Mathlib.Omega.{arith}
-use lib.ListN.{length, getD, take}
+use lib.ListN.{length, take}
 use borrow.Author.Tests.{ltb-true}
 use Rattle.bits.specs.Bits.{Bytes}
 use Rattle.bits.specs.Laws.{bytes-none, bytes-cons}
-use Rattle.area.specs.Area.{sf031, isArea, bytesOf, numberIn}
+use Rattle.area.specs.Area.{isArea, bytesOf, numberIn}
 
 pub bytes-area : (a : ℕ) → Bytes (bytesOf a)
 bytes-area a =

@@ -15,7 +15,7 @@ use Rattle.sizes.specs.Sizes.{mostAreas}
 use Rattle.area.specs.Area.{sf031, areaOff, numberIn, numberAt}
 use Rattle.book.specs.Book.{areasIn}
 use Rattle.book.specs.Take.{lookup}
-use Rattle.book.specs.Payload.{blockCount, mostBlocks, blockAt, blocksFrom}
+use Rattle.book.specs.Payload.{blockCount, mostBlocks, blockStart, blockAt, blocksFrom}
 use Rattle.book.specs.TakeLaws.{orElse}
 use Rattle.book.specs.Judge.{judgeFound, judgeBlock}
 use Rattle.book.specs.declared.Found.{Found}
@@ -53,12 +53,12 @@ module _ (s : List ℕ) (there : 3 ≤ length s) (r : ℕ) where
     pub count-few : (o : ℕ) → o ≡ r + 1 → o ≤ mostBlocks
     count-few o q = let z = read-field s 14 5 r e (omega arith) (omega arith) in omega arith
 
-module _ (s : List ℕ) (i : ℕ) (there : 19 + 47 * (i + 1) ≤ 8 * length s) (r : ℕ) (e : r ≡ got s (19 + 47 * i) 47) where
+module _ (s : List ℕ) (i : ℕ) (there : blockStart (i + 1) ≤ 8 * length s) (r : ℕ) (e : r ≡ got s (blockStart i) 47) where
   pub block-is : r ≡ blockAt s i
-  block-is = read-field s (19 + 47 * i) 47 r e (omega arith) (omega arith) .0
+  block-is = read-field s (blockStart i) 47 r e (omega arith) (omega arith) .0
 
   pub block-small : r < 2 ^ 47
-  block-small = read-field s (19 + 47 * i) 47 r e (omega arith) (omega arith) .1
+  block-small = read-field s (blockStart i) 47 r e (omega arith) (omega arith) .1
 
 -- ---- looking an ID up, among areas and among blocks
 

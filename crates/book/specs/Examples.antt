@@ -5,11 +5,13 @@ use Prim.Native.Nat.{ℕ}
 use lib.ListN.{take, replicate}
 use Rattle.answer.specs.declared.Refusal.the-variants as refusal
 use Rattle.bits.specs.Bits.{bitsOf, toBits, number}
+use Rattle.fields.specs.Fields.{table, find, lineOf, sf}
 use Rattle.layout.specs.Layout.{judge, readL}
+use Rattle.sheet.specs.Sheet.{judging}
 use Rattle.area.specs.Area.{areaOff, isArea}
 use Rattle.sizes.specs.Sizes.{bookBytes}
 use Rattle.book.specs.Book.{bookOf, noBook, areasIn, bytesOfAll, headSound, areasSound, sound, placeOf, found}
-use Rattle.book.specs.Take.{gadOf, lookup, insert, takeBlock, takeAll, before, outcome, takenOf, bytesAfter}
+use Rattle.book.specs.Take.{lookup, insert, takeBlock, takeAll, before, outcome, takenOf, bytesAfter}
 use Rattle.book.specs.declared.Taken.the-variants.{Holds, Refused}
 
 abbrev lent : List ℕ
@@ -20,24 +22,24 @@ abbrev oneArea : List ℕ
 oneArea = 2 ∷ 152 ∷ 0 ∷ 243 ∷ 73 ∷ 244 ∷ 28 ∷ 74 ∷ 64 ∷ []
 
 pub one-taken : takenOf noBook lent oneArea ≡ Holds (bookOf 4 1)
-unfolding outcome gadOf readL judge toBits bitsOf number sound headSound areasSound before areasIn takeAll takeBlock areaOff lookup insert
+unfolding outcome judging readL sf lineOf find table judge toBits bitsOf number sound headSound areasSound before areasIn takeAll takeBlock areaOff lookup insert
 one-taken = refl
 
 -- its six bytes lie first, and what is behind them is as lent
 pub one-left : take 8 (bytesAfter noBook lent oneArea) ≡ 7 ∷ 154 ∷ 79 ∷ 160 ∷ 226 ∷ 82 ∷ 0 ∷ 0 ∷ []
-unfolding outcome gadOf readL judge toBits bitsOf number sound headSound areasSound before areasIn takeAll takeBlock areaOff lookup insert bytesOfAll
+unfolding outcome judging readL sf lineOf find table judge toBits bitsOf number sound headSound areasSound before areasIn takeAll takeBlock areaOff lookup insert bytesOfAll
 one-left = refl
 
 pub one-found : found (bookOf 4 1) (bytesAfter noBook lent oneArea) (record { 0 = 7 }) ≡ 7 ∷ 154 ∷ 79 ∷ 160 ∷ 226 ∷ 82 ∷ []
-unfolding found placeOf isArea outcome gadOf readL judge toBits bitsOf number sound headSound areasSound before areasIn takeAll takeBlock areaOff lookup insert bytesOfAll
+unfolding found placeOf isArea outcome judging readL sf lineOf find table judge toBits bitsOf number sound headSound areasSound before areasIn takeAll takeBlock areaOff lookup insert bytesOfAll
 one-found = refl
 
 -- the first fault in reading order: a latitude of 1801 is FIELD, though the payload ends before its block does
 pub range-first : takenOf noBook lent (2 ∷ 152 ∷ 0 ∷ 252 ∷ 37 ∷ []) ≡ Refused refusal.Field
-unfolding outcome gadOf readL judge toBits bitsOf number sound headSound areasSound
+unfolding outcome judging readL sf lineOf find table judge toBits bitsOf number sound headSound areasSound
 range-first = refl
 
 -- another definition of area 7 in the same GAD is CONFLICT
 pub other-definition : takenOf noBook lent (2 ∷ 152 ∷ 32 ∷ 243 ∷ 73 ∷ 244 ∷ 28 ∷ 74 ∷ 65 ∷ 230 ∷ 155 ∷ 232 ∷ 56 ∷ 148 ∷ 128 ∷ []) ≡ Refused refusal.Conflict
-unfolding outcome gadOf readL judge toBits bitsOf number sound headSound areasSound before areasIn takeAll takeBlock areaOff lookup insert
+unfolding outcome judging readL sf lineOf find table judge toBits bitsOf number sound headSound areasSound before areasIn takeAll takeBlock areaOff lookup insert
 other-definition = refl

@@ -6,12 +6,13 @@ use Prim.Native.Nat.{ℕ, _+_, _*_}
 use native.Mathlib.Omega.{arith}
 use lib.Dec.{ltb, eqb}
 use lib.ListN.{length, take}
+use Rattle.answer.specs.Stop.{stop}
 use Rattle.answer.specs.declared.Refusal.the-variants.{AreaOff, Conflict, BookFull}
 use Rattle.area.specs.Area.{sf031, areaOff}
 use Rattle.sizes.specs.Sizes.{mostAreas}
 use Rattle.book.specs.Book.{areasIn, bytesOfAll}
 use Rattle.book.specs.Laws.{Ascending}
-use Rattle.book.specs.Take.{lookup, insert, Outcome, taken, refused, stop, placed, takeBlock}
+use Rattle.book.specs.Take.{lookup, insert, Outcome, taken, refused, placed, takeBlock}
 use Rattle.book.specs.TakeLaws.{length-insert}
 use Rattle.book.specs.declared.Found.{Found}
 use Rattle.book.specs.declared.Found.the-variants.{Area, Nothing}
@@ -38,7 +39,7 @@ pub judge-is : (a : ℕ) (l : List ℕ) → judgedBy (takeBlock a l) ≡ judgeBl
 unfolding takeBlock
 judge-is a l = go (areaOff a) (lookup (sf031 a) l)
   where
-    go : (t : Bool) (f : Found) → judgedBy (stop t AreaOff (placed a l f)) ≡ cond t (Refused AreaOff) (judgeFound a f (length l))
+    go : (t : Bool) (f : Found) → judgedBy (stop t (refused AreaOff) (placed a l f)) ≡ cond t (Refused AreaOff) (judgeFound a f (length l))
     go true f = refl
     go false (Area b) = by (eqb a b)
       where

@@ -9,9 +9,9 @@ use lib.ListN.{length, getD, take, drop, length-append, length-drop}
 use lib.Seq.{take-add, drop-drop}
 use borrow.Author.Tests.{le-leb, leb-true, eq-eqb, eqb-true}
 use Rattle.bits.specs.Bits.{Bytes}
-use Rattle.bits.specs.Laws.{bytes-drop, bytes-append, bytes-none}
+use Rattle.bits.specs.Laws.{bytes-drop}
 use Rattle.area.specs.Area.{sf031, isArea, bytesOf, numberIn}
-use Rattle.area.specs.Laws.{bytes-area, number-bytes, bytes-number, area-lt, half-number, both-left, both-right}
+use Rattle.area.specs.Laws.{number-bytes, bytes-number, area-lt, half-number, both-left, both-right}
 use Rattle.sizes.specs.Sizes.{mostAreas, bookBytes}
 use Rattle.book.specs.Book.{areaIn, areasIn, bytesOfAll, headSound, areasSound, sound}
 use Rattle.book.specs.declared.Book.{Book}
@@ -32,11 +32,6 @@ pub bytes-join : (l m : List ℕ) → bytesOfAll (l ++ m) ≡ bytesOfAll l ++ by
 unfolding bytesOfAll
 bytes-join [] m = refl
 bytes-join (a ∷ l) m = ap (λ z. bytesOf a ++ z) (bytes-join l m) ∙ sym (append-assoc (bytesOf a) (bytesOfAll l) (bytesOfAll m))
-
-pub bytes-bytes : (l : List ℕ) → Bytes (bytesOfAll l)
-unfolding bytesOfAll
-bytes-bytes [] = bytes-none
-bytes-bytes (a ∷ l) = bytes-append (bytes-area a) (bytes-bytes l)
 
 -- numbers of 47 bits, ascending by ID, the first ID being `least` or more
 pub data Ascending : ℕ → List ℕ → Type 0 where

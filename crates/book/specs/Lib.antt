@@ -1,10 +1,9 @@
 pub mod Book
 pub mod Take
-pub mod Payload
 pub mod Laws
 pub mod FindLaws
 pub mod TakeLaws
-pub mod PayloadLaws
+pub mod Payload
 pub mod TakenLaws
 pub mod Judge
 pub mod Theorems

@@ -1,43 +1,51 @@
--- Mirror: a GAD payload at its bits, as the code reads it; and, proved, that this is what its layout reads (`gad-reads`).
-use mathlib.Core.Path.{_≡_, refl, ap, ap₂, sym, _∙_}
-use mathlib.Core.Bool.{Bool, true, false, cond, not}
+-- Mirror: a GAD payload at its bits, as the code reads it; and, proved, that where a payload is accepted these are what its layout reads (`gad-at-bits`).
+use mathlib.Core.Path.{_≡_, refl, ap, ap₂, sym, _∙_, subst}
+use mathlib.Core.Bool.{Bool, true, false, _&&_}
 use mathlib.Core.List.{List, [], _∷_}
-use Prim.Native.Nat.{ℕ, zero, suc, _+_, _-_, _*_, _^_, _≤_, _<_}
+use Prim.Native.Nat.{ℕ, zero, suc, _+_, _*_, _^_, _≤_}
+use native.Mathlib.Nat.{add-assoc}
 use native.Mathlib.Omega.{arith}
-use native.Mathlib.Numerals.{add-one}
-use lib.Dec.{leb, ltb, eqb}
+use lib.Dec.{leb}
 use lib.ListN.{length, take, drop, length-drop}
 use lib.Seq.{drop-drop}
-use borrow.Author.Tests.{lt-ltb, le-ltb, ltb-true, ltb-false, le-leb, lt-leb, leb-true, leb-false, eqb-true}
-use Rattle.answer.specs.declared.Refusal.{Refusal}
+use borrow.Author.Tests.{le-leb, leb-true}
+use Rattle.answer.specs.Stop.{stop}
 use Rattle.answer.specs.declared.Refusal.the-variants as refusal
 use Rattle.bits.specs.Bits.{toBits, number}
 use Rattle.bits.specs.Bits as bits
-use Rattle.bits.specs.Laws.{length-toBits, field-lt}
+use Rattle.bits.specs.Laws.{length-toBits, field-lt, field-split, field-part}
 use Rattle.layout.specs.declared.Field.{Field}
-use Rattle.layout.specs.declared.Verdict.{Verdict}
-use Rattle.layout.specs.declared.Verdict.the-variants.{Taken, Fault}
-use Rattle.layout.specs.Layout.{Layout, done, field, pick, judge, enough, judged, readL}
-use Rattle.layout.specs.Layout as layout
-use Rattle.layout.specs.Parts.{upTo, free, times}
-use Rattle.gad.specs.Gad.{Block, Gad, block}
-use Rattle.sizes.specs.Sizes.{longestPayload}
-use Rattle.book.specs.Take.{gadOf, reading, Outcome, takeAll, before}
+use Rattle.layout.specs.declared.Verdict.the-variants.{Taken}
+use Rattle.layout.specs.Layout.{Layout, done, field, judge, accepted, refused, readL}
+use Rattle.layout.specs.Parts.{times}
+use Rattle.layout.specs.RoundTrip.{enough-acc, judged-acc, before-acc}
+use Rattle.layout.specs.Run.{taken-most}
+use Rattle.fields.specs.Fields.{table, find, lineOf, sf}
+use Rattle.gad.specs.Gad.{Block, Gad, block, gad}
+use Rattle.message.specs.Messages.{Message, gadMessage, gadLayout}
+use Rattle.sheet.specs.Sheet.{badLength, judging}
+use Rattle.area.specs.Area.{sf032, sf033, inRange}
+use Rattle.book.specs.Take.{areaOf, areasOf, Outcome, takeAll, before}
+use Rattle.book.specs.TakeLaws.{InRange}
 use Rattle.book.specs.declared.Book.{Book}
 
--- 9 bits of SIOU, SF068 AIOU 4 bits, a reserved bit, SF030 5 bits, which means code plus one, and so many blocks of 47 bits
+-- SF068 AIOU; SF030, which means code plus one; and so many blocks
 abbrev pub aiouOf : List ℕ → ℕ
 aiouOf payload = bits.field payload 9 4
 
 abbrev pub blockCount : List ℕ → ℕ
-blockCount payload = bits.field payload 14 5 + 1
+blockCount payload = suc (bits.field payload 14 5)
 
 -- what those 5 bits can count: a fact of the layout, whatever a book can hold
 abbrev pub mostBlocks : ℕ
 mostBlocks = 2 ^ 5
 
+-- where block i begins
+abbrev pub blockStart : ℕ → ℕ
+blockStart i = 19 + 47 * i
+
 abbrev pub blockAt : List ℕ → ℕ → ℕ
-blockAt payload i = bits.field payload (19 + 47 * i) 47
+blockAt payload i = bits.field payload (blockStart i) 47
 
 unfoldable pub blocksFrom : ℕ → ℕ → List ℕ → List ℕ
 blocksFrom zero i payload = []
@@ -46,206 +54,144 @@ blocksFrom (suc n) i payload = blockAt payload i ∷ blocksFrom n (suc i) payloa
 abbrev pub blocksOf : List ℕ → List ℕ
 blocksOf payload = blocksFrom (blockCount payload) 0 payload
 
--- the first fault in reading order: at each field SHORT where the payload has ended, and then its range
-abbrev pub faults : Bool → Refusal → Verdict → Verdict
-faults true why rest = Fault why
-faults false why rest = rest
-
-abbrev pub endsBefore : List ℕ → ℕ → Bool
-endsBefore payload end = ltb (8 * length payload) end
-
--- of the block from bit pos on
-unfoldable pub blockVerdict : List ℕ → ℕ → Verdict
-blockVerdict payload pos =
-    faults (endsBefore payload (pos + 19)) refusal.Short
-    (faults (ltb 1800 (bits.field payload (pos + 8) 11)) refusal.Field
-    (faults (endsBefore payload (pos + 31)) refusal.Short
-    (faults (ltb 3600 (bits.field payload (pos + 19) 12)) refusal.Field
-    (faults (endsBefore payload (pos + 47)) refusal.Short
-    Taken))))
-
-abbrev pub unlessFault : Verdict → Verdict → Verdict
-unlessFault Taken rest = rest
-unlessFault (Fault why) rest = Fault why
-
-unfoldable pub blocksVerdict : ℕ → ℕ → List ℕ → Verdict
-blocksVerdict zero i payload = Taken
-blocksVerdict (suc n) i payload = unlessFault (blockVerdict payload (19 + 47 * i)) (blocksVerdict n (suc i) payload)
-
-unfoldable pub verdictOf : List ℕ → Verdict
-verdictOf payload = faults (endsBefore payload 19) refusal.Short (blocksVerdict (blockCount payload) 0 payload)
-
--- LENGTH comes before
-unfoldable pub payloadVerdict : List ℕ → Verdict
-payloadVerdict payload = faults (eqb (length payload) 0) refusal.Length (faults (ltb longestPayload (length payload)) refusal.Length (verdictOf payload))
-
--- what is there, field by field
-abbrev pub codesAt : List ℕ → ℕ → Block
-codesAt payload pos =
-    record {
-      id = bits.field payload pos 8;
-      latitude = bits.field payload (pos + 8) 11;
-      longitude = bits.field payload (pos + 19) 12;
-      rows = bits.field payload (pos + 31) 3;
-      columns = bits.field payload (pos + 34) 3;
-      latitudeSpacing = bits.field payload (pos + 37) 5;
-      longitudeSpacing = bits.field payload (pos + 42) 5;
-    }
-
-unfoldable pub codesFrom : ℕ → ℕ → List ℕ → List Block
-codesFrom zero i payload = []
-codesFrom (suc n) i payload = codesAt payload (19 + 47 * i) ∷ codesFrom n (suc i) payload
-
-abbrev pub gadAt : List ℕ → Gad
-gadAt payload = record { siou = bits.field payload 0 9; aiou = aiouOf payload; blocks = codesFrom (blockCount payload) 0 payload }
-
--- the areas held after a payload without a fault, or the first refusal of a block
+-- the areas held after a payload that is accepted, or the first refusal of a block
 abbrev pub takeBits : Book → List ℕ → List ℕ → Outcome
 takeBits book s payload = takeAll (blocksOf payload) (before book s (aiouOf payload))
 
--- what follows if there is no fault, and what from a fault
-abbrev pub byVerdict : {B : Type 0} → Verdict → B → (Refusal → B) → B
-byVerdict Taken next fault = next
-byVerdict (Fault why) next fault = fault why
+-- the GAD m stands at those bits, and all of them are there
+pub record AtBits (payload : List ℕ) (m : Gad) : Type 0 where
+  pub siou : m .siou ≡ bits.field payload 0 9
+  pub aiou : m .aiou ≡ aiouOf payload
+  pub areas : areasOf (m .blocks) ≡ blocksOf payload
+  pub in-range : InRange (blocksOf payload)
+  pub there : blockStart (blockCount payload) ≤ 8 * length payload
 
--- ---- a field of the layout, at its bits
+-- ---- along the layout: each field stands where the one before it ends
 
-range-taken : (sf w most c : ℕ) → judge (upTo sf w most) c ≡ faults (ltb most c) refusal.Field Taken
-unfolding judge
-range-taken sf w most c = rw (le-ltb c 0 (omega arith)) (go (eqb c most) refl (ltb most c) refl)
-  where
-    go : (x : Bool) → eqb c most ≡ x → (y : Bool) → ltb most c ≡ y → pick x Taken (pick (leb c most) Taken (Fault refusal.Field)) ≡ faults y refusal.Field Taken
-    go true p true q = absurd (omega (arith, eqb-true c most p, ltb-true most c q))
-    go true p false q = refl
-    go false p true q = let z : leb c most ≡ false = lt-leb c most (ltb-true most c q) in rw z
-    go false p false q = let z : leb c most ≡ true = le-leb c most (ltb-false most c q) in rw z
+module _ {A : Type 0} (s : List ℕ) (v : A) where
+  -- from bit pos on the layout reads v
+  record From (l : Layout A) (pos : ℕ) : Type 0 where
+    inside : pos ≤ 8 * length s
+    codes : List ℕ
+    used : ℕ
+    reads : readL l (drop pos (toBits s)) ≡ accepted v codes used
 
-free-taken : (sf w c : ℕ) → c < 2 ^ w → judge (free sf w) c ≡ Taken
-free-taken sf w c h = range-taken sf w (2 ^ w - 1) c ∙ ap (λ b. faults b refusal.Field Taken) (le-ltb (2 ^ w - 1) c (omega arith))
-
--- of two ends the later one decides
-later : {B : Type 0} (payload : List ℕ) (mid end : ℕ) (x y : B) → mid ≤ end
-    → cond (endsBefore payload mid) x (cond (endsBefore payload end) x y) ≡ cond (endsBefore payload end) x y
-later payload mid end x y h = go (endsBefore payload mid) refl
-  where
-    go : (b : Bool) → endsBefore payload mid ≡ b → cond b x (cond (endsBefore payload end) x y) ≡ cond (endsBefore payload end) x y
-    go true e = let z : endsBefore payload end ≡ true = lt-ltb (8 * length payload) end (omega (arith, ltb-true (8 * length payload) mid e)) in rw z
-    go false e = refl
-
-module _ {A B : Type 0} (next : A → B) (fault : Refusal → B) (payload : List ℕ) where
-  -- what follows from reading the layout l from bit pos on
-  abbrev from : ℕ → Layout A → B
-  from pos l = reading (readL l (drop pos (toBits payload))) next fault
-
-  field-step : (f : Field) (k : ℕ → Layout A) (pos end : ℕ) → 0 < f .width → pos + f .width ≡ end
-      → from pos (field f k) ≡ cond (endsBefore payload end) (fault refusal.Short) (byVerdict (judge f (bits.field payload pos (f .width))) (from end (k (bits.field payload pos (f .width)))) fault)
+  past : {f : Field} {next : ℕ → Layout A} {pos : ℕ} → From (field f next) pos
+      → (judge f (bits.field s pos (f .width)) ≡ Taken) × From (next (bits.field s pos (f .width))) (pos + f .width)
   unfolding readL bits.field
-  field-step f k pos end some e =
+  past {f} {next} {pos} r =
       let w : ℕ = f .width in
-      let c : ℕ = number (take w (drop pos (toBits payload))) in
-      let o : layout.Outcome A = readL (k c) (drop w (drop pos (toBits payload))) in
-      go c w (leb w (length (drop pos (toBits payload)))) (judge f c) o
-      ∙ ap₂ (λ b l. cond b (fault refusal.Short) (byVerdict (judge f c) (reading (readL (k c) l) next fault) fault)) (ended (leb w (length (drop pos (toBits payload)))) refl)
-      (drop-drop w pos (toBits payload) ∙ ap (λ n. drop n (toBits payload)) e)
-    where
-      go : (c w : ℕ) (b : Bool) (v : Verdict) (o : layout.Outcome A)
-          → reading (enough b (judged v (layout.before c w o))) next fault ≡ cond (not b) (fault refusal.Short) (byVerdict v (reading o next fault) fault)
-      go c w false v o = refl
-      go c w true (Fault why) o = refl
-      go c w true Taken (layout.accepted value codes used) = refl
-      go c w true Taken (layout.refused why) = refl
+      let l : List ℕ = drop pos (toBits s) in
+      let c : ℕ = number (take w l) in
+      let e₁ = enough-acc (leb w (length l)) _ (r .reads) in
+      let e₂ = judged-acc (judge f c) _ (e₁ .1) in
+      let e₃ = before-acc c w (readL (next c) (drop w l)) (e₂ .1) in (
+        e₂ .0,
+        record {
+          inside = omega (arith, leb-true w (length l) (e₁ .0), length-drop pos (toBits s), length-toBits s, r .inside);
+          codes = e₃ .0;
+          used = e₃ .1;
+          reads = ap (readL (next c)) (sym (drop-drop w pos (toBits s))) ∙ e₃ .2;
+        },
+      )
 
-      ended : (b : Bool) → leb (f .width) (length (drop pos (toBits payload))) ≡ b → not b ≡ endsBefore payload end
-      ended true q = sym (le-ltb (8 * length payload) end (omega (arith, leb-true (f .width) (length (drop pos (toBits payload))) q, length-drop pos (toBits payload), length-toBits payload)))
-      ended false q = sym (lt-ltb (8 * length payload) end (omega (arith, leb-false (f .width) (length (drop pos (toBits payload))) q, length-drop pos (toBits payload), length-toBits payload)))
+  -- the same behind n bits from pos on, which say x
+  record Behind (pos n x : ℕ) (l : Layout A) : Type 0 where
+    says : x ≡ bits.field s pos n
+    here : From l (pos + n)
 
-  free-step : (sf w : ℕ) (k : ℕ → Layout A) (pos end : ℕ) → 0 < w → pos + w ≡ end
-      → from pos (field (free sf w) k) ≡ cond (endsBefore payload end) (fault refusal.Short) (from end (k (bits.field payload pos w)))
-  free-step sf w k pos end some e =
-      field-step (free sf w) k pos end some e
-      ∙ ap (λ v. cond (endsBefore payload end) (fault refusal.Short) (byVerdict v (from end (k (bits.field payload pos w))) fault)) (free-taken sf w (bits.field payload pos w) (field-lt payload pos w))
+  first : {f : Field} {next : ℕ → Layout A} {pos : ℕ} → From (field f next) pos → Behind pos (f .width) (bits.field s pos (f .width)) (next (bits.field s pos (f .width)))
+  first r = record { says = refl; here = past r .1 }
 
-  -- a free field, and what follows it wants more bits than it
-  free-then : (sf w : ℕ) (k : ℕ → Layout A) (pos mid end : ℕ) (x : B) → 0 < w → pos + w ≡ mid → mid ≤ end
-      → from mid (k (bits.field payload pos w)) ≡ cond (endsBefore payload end) (fault refusal.Short) x
-      → from pos (field (free sf w) k) ≡ cond (endsBefore payload end) (fault refusal.Short) x
-  free-then sf w k pos mid end x some e h q =
-      free-step sf w k pos mid some e ∙ ap (cond (endsBefore payload mid) (fault refusal.Short)) q ∙ later payload mid end (fault refusal.Short) x h
-
-  range-step : (sf w most : ℕ) (k : ℕ → Layout A) (pos end : ℕ) → 0 < w → pos + w ≡ end
-      → from pos (field (upTo sf w most) k)
-      ≡ cond (endsBefore payload end) (fault refusal.Short)
-      (cond (ltb most (bits.field payload pos w)) (fault refusal.Field) (from end (k (bits.field payload pos w))))
-  range-step sf w most k pos end some e =
-      field-step (upTo sf w most) k pos end some e
-      ∙ ap (λ v. cond (endsBefore payload end) (fault refusal.Short) (byVerdict v (from end (k (bits.field payload pos w))) fault)) (range-taken sf w most (bits.field payload pos w))
-      ∙ ap (cond (endsBefore payload end) (fault refusal.Short)) (go (ltb most (bits.field payload pos w)))
-    where
-      go : (b : Bool) → byVerdict (faults b refusal.Field Taken) (from end (k (bits.field payload pos w))) fault ≡ cond b (fault refusal.Field) (from end (k (bits.field payload pos w)))
-      go true = refl
-      go false = refl
+  further : {f : Field} {next : ℕ → Layout A} {pos n x : ℕ} → Behind pos n x (field f next)
+      → (judge f (bits.field s (pos + n) (f .width)) ≡ Taken)
+      × Behind pos (n + f .width) (x * 2 ^ f .width + bits.field s (pos + n) (f .width)) (next (bits.field s (pos + n) (f .width)))
+  further {f} {next} {pos} {n} {x} b =
+      let p = past (b .here) in
+      let w : ℕ = f .width in
+      let c : ℕ = bits.field s (pos + n) w in (
+        p .0,
+        record {
+          says = ap (λ x. x * 2 ^ w + c) (b .says) ∙ sym (field-split s pos n w (omega (arith, p .1 .inside)));
+          here = subst (From (next c)) (add-assoc pos n w) (p .1);
+        },
+      )
 
   -- ---- a block, and blocks
 
-  block-step : (k : Block → Layout A) (pos : ℕ) → from pos (block k) ≡ byVerdict (blockVerdict payload pos) (from (pos + 47) (k (codesAt payload pos))) fault
-  unfolding blockVerdict
-  block-step k pos =
-      free-then 31 8 _ pos (pos + 8) (pos + 19) _ (omega arith) refl (omega arith) (range-step 32 11 1800 _ (pos + 8) (pos + 19) (omega arith) (omega arith))
-      ∙ ap (λ x. cond (endsBefore payload (pos + 19)) (fault refusal.Short) (cond (ltb 1800 (bits.field payload (pos + 8) 11)) (fault refusal.Field) x))
-      (range-step 33 12 3600 _ (pos + 19) (pos + 31) (omega arith) (omega arith)
-      ∙ ap (λ x. cond (endsBefore payload (pos + 31)) (fault refusal.Short) (cond (ltb 3600 (bits.field payload (pos + 19) 12)) (fault refusal.Field) x))
-      (free-then 34 3 _ (pos + 31) (pos + 34) (pos + 47) _ (omega arith) (omega arith) (omega arith)
-      (free-then 35 3 _ (pos + 34) (pos + 37) (pos + 47) _ (omega arith) (omega arith) (omega arith)
-      (free-then 36 5 _ (pos + 37) (pos + 42) (pos + 47) _ (omega arith) (omega arith) (omega arith)
-      (free-step 37 5 _ (pos + 42) (pos + 47) (omega arith) (omega arith))))))
-      ∙ go (endsBefore payload (pos + 19)) (ltb 1800 (bits.field payload (pos + 8) 11)) (endsBefore payload (pos + 31)) (ltb 3600 (bits.field payload (pos + 19) 12)) (endsBefore payload (pos + 47))
-    where
-      x : B
-      x = from (pos + 47) (k (codesAt payload pos))
+  record BlockAt (k : Block → Layout A) (pos : ℕ) : Type 0 where
+    code : Block
+    rest : From (k code) (pos + 47)
+    area : areaOf code ≡ bits.field s pos 47
+    range : inRange (bits.field s pos 47) ≡ true
 
-      go : (a b c d e : Bool)
-          → cond a (fault refusal.Short) (cond b (fault refusal.Field) (cond c (fault refusal.Short) (cond d (fault refusal.Field) (cond e (fault refusal.Short) x))))
-          ≡ byVerdict (faults a refusal.Short (faults b refusal.Field (faults c refusal.Short (faults d refusal.Field (faults e refusal.Short Taken))))) x fault
-      go true b c d e = refl
-      go false true c d e = refl
-      go false false true d e = refl
-      go false false false true e = refl
-      go false false false false true = refl
-      go false false false false false = refl
+  block-stands : (k : Block → Layout A) (pos : ℕ) → From (block k) pos → BlockAt k pos
+  unfolding sf lineOf find table
+  block-stands k pos r =
+      let latitude = further (first r) in
+      let longitude = further (latitude .1) in
+      let rows = further (longitude .1) in
+      let columns = further (rows .1) in
+      let latitudeSpacing = further (columns .1) in
+      let longitudeSpacing = further (latitudeSpacing .1) in
+      let there : pos + 47 ≤ 8 * length s = longitudeSpacing .1 .here .inside in
+      let y : leb (sf032 (bits.field s pos 47)) 1800 ≡ true
+      = ap (λ x. leb x 1800) (sym (field-part s pos 8 11 28 there)) ∙ le-leb _ _ (taken-most (sf 32) _ (omega arith) (latitude .0)) in
+      let z : leb (sf033 (bits.field s pos 47)) 3600 ≡ true
+      = ap (λ x. leb x 3600) (sym (field-part s pos 19 12 16 there)) ∙ le-leb _ _ (taken-most (sf 33) _ (omega arith) (longitude .0)) in
+      record { code = _; rest = longitudeSpacing .1 .here; area = longitudeSpacing .1 .says; range = ap₂ (λ a b. a && b) y z }
 
-  blocks-step : (n i : ℕ) (h : List Block → A)
-      → from (19 + 47 * i) (times n block (λ xs. done (h xs))) ≡ byVerdict (blocksVerdict n i payload) (next (h (codesFrom n i payload))) fault
-  unfolding readL blocksVerdict codesFrom
-  blocks-step zero i h = refl
-  blocks-step (suc n) i h =
-      block-step (λ x. times n block (λ xs. done (h (x ∷ xs)))) (19 + 47 * i)
-      ∙ ap (λ y. byVerdict (blockVerdict payload (19 + 47 * i)) y fault)
-      (ap (λ p. from p (times n block (λ xs. done (h (codesAt payload (19 + 47 * i) ∷ xs))))) {x = 19 + 47 * i + 47} {y = 19 + 47 * suc i} (omega arith)
-      ∙ blocks-step n (suc i) (λ xs. h (codesAt payload (19 + 47 * i) ∷ xs)))
-      ∙ go (blockVerdict payload (19 + 47 * i)) (blocksVerdict n (suc i) payload)
-    where
-      x : B
-      x = next (h (codesAt payload (19 + 47 * i) ∷ codesFrom n (suc i) payload))
+  record BlocksAt (k : List Block → Layout A) (n i : ℕ) : Type 0 where
+    codes : List Block
+    rest : From (k codes) (blockStart (i + n))
+    areas : areasOf codes ≡ blocksFrom n i s
+    range : InRange (blocksFrom n i s)
 
-      go : (v w : Verdict) → byVerdict v (byVerdict w x fault) fault ≡ byVerdict (unlessFault v w) x fault
-      go Taken w = refl
-      go (Fault why) w = refl
+  blocks-stand : (k : List Block → Layout A) (n i : ℕ) → From (times n block k) (blockStart i) → BlocksAt k n i
+  unfolding blocksFrom
+  blocks-stand k zero i r = record { codes = []; rest = subst (From (k [])) (omega arith) r; areas = refl; range = InRange.none }
+  blocks-stand k (suc n) i r =
+      let b = block-stands (λ x. times n block (λ xs. k (x ∷ xs))) (blockStart i) r in
+      let l = blocks-stand (λ xs. k (b .code ∷ xs)) n (suc i) (subst (From (times n block (λ xs. k (b .code ∷ xs)))) (omega arith) (b .rest)) in
+      record {
+        codes = b .code ∷ l .codes;
+        rest = subst (From (k (b .code ∷ l .codes))) (omega arith) (l .rest);
+        areas = ap₂ (λ a l. a ∷ l) (b .area) (l .areas);
+        range = InRange.more (field-lt s (blockStart i) 47) (b .range) (l .range);
+      }
 
--- What follows from a payload by its layout is what follows from it at its bits: its first fault, or what its bits say.
-pub gad-reads : {B : Type 0} (payload : List ℕ) (next : Gad → B) (fault : Refusal → B) → reading (gadOf payload) next fault ≡ byVerdict (verdictOf payload) (next (gadAt payload)) fault
-unfolding gadOf verdictOf
-gad-reads payload next fault =
-    free-then next fault payload 5 9 _ 0 9 19 _ (omega arith) refl (omega arith)
-    (free-then next fault payload 68 4 _ 9 13 19 _ (omega arith) refl (omega arith)
-    (free-then next fault payload 69 1 _ 13 14 19 _ (omega arith) refl (omega arith)
-    (free-step next fault payload 30 5 _ 14 19 (omega arith) refl
-    ∙ ap (cond (endsBefore payload 19) (fault refusal.Short)) (blocks-step next fault payload (suc (bits.field payload 14 5)) 0 with-blocks))))
-    ∙ ap (λ n. cond (endsBefore payload 19) (fault refusal.Short) (byVerdict (blocksVerdict n 0 payload) (next (with-blocks (codesFrom n 0 payload))) fault)) (sym (add-one (bits.field payload 14 5)))
-    ∙ go (endsBefore payload 19) (blocksVerdict (blockCount payload) 0 payload)
+-- ---- the payload
+
+-- what is accepted by a GAD's layout is the GAD that stands at those bits
+gad-accepted : {A : Type 0} (f : Gad → A) (payload : List ℕ) (v : A) (codes : List ℕ) (used : ℕ) → readL (gad (λ m. done (f m))) (toBits payload) ≡ accepted v codes used
+    → (m : Gad) × (v ≡ f m) × AtBits payload m
+unfolding readL sf lineOf find table
+gad-accepted f payload v codes used e =
+    let start : From payload v (gad (λ m. done (f m))) 0 = record { inside = omega arith; codes = codes; used = used; reads = e } in
+    let siou = past payload v start in
+    let aiou = past payload v (siou .1) in
+    let reserved = past payload v (aiou .1) in
+    let count = past payload v (reserved .1) in
+    let b = blocks-stand payload v (λ blocks. done (f (record { siou = bits.field payload 0 9; aiou = aiouOf payload; blocks = blocks }))) (blockCount payload) 0 (count .1) in
+    let end : accepted (f (record { siou = bits.field payload 0 9; aiou = aiouOf payload; blocks = b .codes })) [] 0 ≡ accepted v (b .rest .codes) (b .rest .used) = b .rest .reads in (
+      record { siou = bits.field payload 0 9; aiou = aiouOf payload; blocks = b .codes },
+      cc,
+      record { siou = refl; aiou = refl; areas = b .areas; in-range = b .range; there = omega (arith, b .rest .inside) },
+    )
+
+-- so what is read from a payload of type 2-0 is a GAD,
+pub gad-only : (payload : List ℕ) (v : Message) (codes : List ℕ) (used : ℕ) → judging 2 0 payload ≡ accepted v codes used → (m : Gad) × (v ≡ gadMessage m) × AtBits payload m
+unfolding judging
+gad-only payload v codes used e = go (badLength (length payload)) e
   where
-    with-blocks : List Block → Gad
-    with-blocks blocks = record { siou = bits.field payload 0 9; aiou = aiouOf payload; blocks = blocks }
+    go : (b : Bool) → stop b (refused refusal.Length) (readL gadLayout (toBits payload)) ≡ accepted v codes used → (m : Gad) × (v ≡ gadMessage m) × AtBits payload m
+    go true e = let z : _≡_ {A = ℕ} 0 1 = cc in absurd (omega arith)
+    go false e = gad-accepted gadMessage payload v codes used e
 
-    go : (b : Bool) (v : Verdict) → cond b (fault refusal.Short) (byVerdict v (next (gadAt payload)) fault) ≡ byVerdict (faults b refusal.Short v) (next (gadAt payload)) fault
-    go true v = refl
-    go false v = refl
+-- and stands there.
+pub gad-at-bits : (payload : List ℕ) (m : Gad) (codes : List ℕ) (used : ℕ) → judging 2 0 payload ≡ accepted (gadMessage m) codes used → AtBits payload m
+gad-at-bits payload m codes used e =
+    let r = gad-only payload (gadMessage m) codes used e in
+    let same : gadMessage m ≡ gadMessage (r .0) = r .1 in
+    let z : r .0 ≡ m = cc in
+    subst (AtBits payload) z (r .2)

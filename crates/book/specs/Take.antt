@@ -1,18 +1,19 @@
 -- Definitions to believe: what a GAD does to the book (document 01, "Book and run").
-use mathlib.Core.Bool.{Bool, true, false, cond, not}
+use mathlib.Core.Bool.{cond, not}
 use mathlib.Core.List.{List, [], _∷_, _++_, map}
 use Prim.Native.Nat.{ℕ, _+_, _*_, _^_}
 use lib.Dec.{ltb, eqb}
 use lib.ListN.{length, drop}
 use Rattle.answer.specs.Number.{numberOf}
+use Rattle.answer.specs.Stop.{stop}
 use Rattle.answer.specs.declared.Refusal.{Refusal}
-use Rattle.answer.specs.declared.Refusal.the-variants.{Length, Room, AreaOff, Conflict, BookFull, State}
-use Rattle.bits.specs.Bits.{toBits}
-use Rattle.layout.specs.Layout.{done, readL}
+use Rattle.answer.specs.declared.Refusal.the-variants.{Room, NotOurs, AreaOff, Conflict, BookFull, State}
 use Rattle.layout.specs.Layout as layout
-use Rattle.gad.specs.Gad.{Block, Gad, gad}
+use Rattle.gad.specs.Gad.{Block, Gad}
+use Rattle.message.specs.Messages.{Message, ocbMessage, hpacMessage, gadMessage, bpacMessage}
+use Rattle.sheet.specs.Sheet.{judging}
 use Rattle.area.specs.Area.{sf031, areaOff}
-use Rattle.sizes.specs.Sizes.{mostAreas, bookBytes, longestPayload}
+use Rattle.sizes.specs.Sizes.{mostAreas, bookBytes}
 use Rattle.book.specs.Book.{bookOf, areasIn, bytesOfAll, sound}
 use Rattle.book.specs.declared.Book.{Book}
 use Rattle.book.specs.declared.Found.{Found}
@@ -20,13 +21,12 @@ use Rattle.book.specs.declared.Found.the-variants.{Area, Nothing}
 use Rattle.book.specs.declared.Taken.{Taken}
 use Rattle.book.specs.declared.Taken.the-variants.{Holds, Refused}
 
--- what a payload says as a GAD, by the layout of tables 6.23 and 6.24; or its first fault in reading order
-unfoldable pub gadOf : List ℕ → layout.Outcome Gad
-gadOf payload = readL (gad done) (toBits payload)
-
--- what follows from what was read, and what from a refusal
-abbrev pub reading : {A B : Type 0} → layout.Outcome A → (A → B) → (Refusal → B) → B
-reading (layout.accepted value codes used) next fault = next value
+-- what follows from the GAD that was read, and what from a refusal; nothing else is read from a payload of type 2-0
+abbrev pub reading : {B : Type 0} → layout.Outcome Message → (Gad → B) → (Refusal → B) → B
+reading (layout.accepted (gadMessage body) codes bits) next fault = next body
+reading (layout.accepted (ocbMessage constellation body) codes bits) next fault = fault NotOurs
+reading (layout.accepted (hpacMessage constellation body) codes bits) next fault = fault NotOurs
+reading (layout.accepted (bpacMessage body) codes bits) next fault = fault NotOurs
 reading (layout.refused why) next fault = fault why
 
 -- a block as an area, "the 47 bits of the GAD block": SF031 8 bits, SF032 11, SF033 12, SF034 3, SF035 3, SF036 5, SF037 5
@@ -52,11 +52,6 @@ pub data Outcome : Type 0 where
   taken : List ℕ → Outcome
   refused : Refusal → Outcome
 
--- the test holds: refused; else go on
-abbrev pub stop : Bool → Refusal → Outcome → Outcome
-stop true r rest = refused r
-stop false r rest = rest
-
 -- "An identical repeat changes nothing." CONFLICT: "same area ID and AIOU, other definition". BOOK_FULL: "a 33rd area ID".
 abbrev pub placed : ℕ → List ℕ → Found → Outcome
 placed a l (Area b) = cond (eqb a b) (taken l) (refused Conflict)
@@ -64,7 +59,7 @@ placed a l Nothing = cond (ltb (length l) mostAreas) (taken (insert a l)) (refus
 
 -- a block, in the order AREA_OFF, CONFLICT, BOOK_FULL
 unfoldable pub takeBlock : ℕ → List ℕ → Outcome
-takeBlock a l = stop (areaOff a) AreaOff (placed a l (lookup (sf031 a) l))
+takeBlock a l = stop (areaOff a) (refused AreaOff) (placed a l (lookup (sf031 a) l))
 
 -- "It is taken whole or refused at its first faulty block": each block is judged against the areas with the earlier ones added
 abbrev pub andThen : Outcome → (List ℕ → Outcome) → Outcome
@@ -79,14 +74,12 @@ takeAll (a ∷ blocks) l = andThen (takeBlock a l) (λ l. takeAll blocks l)
 unfoldable pub before : Book → List ℕ → ℕ → List ℕ
 before book s aiou = cond (eqb (book .«aiou_plus_one») (aiou + 1)) (areasIn (book .count) s) []
 
--- "Order: ROOM, STATE, .. payload refusals, .. for GAD the book's refusals"
+-- "Order: ROOM, STATE, .. payload refusals, .. for GAD the book's refusals"; a payload's own are the reader's, LENGTH and then the first fault in reading order
 unfoldable pub outcome : Book → List ℕ → List ℕ → Outcome
 outcome book s payload =
-    stop (ltb (length s) bookBytes) Room
-    (stop (not (sound book s)) State
-    (stop (eqb (length payload) 0) Length
-    (stop (ltb longestPayload (length payload)) Length
-    (reading (gadOf payload) (λ m. takeAll (areasOf (m .blocks)) (before book s (m .aiou))) (λ why. refused why)))))
+    stop (ltb (length s) bookBytes) (refused Room)
+    (stop (not (sound book s)) (refused State)
+    (reading (judging 2 0 payload) (λ m. takeAll (areasOf (m .blocks)) (before book s (m .aiou))) (λ why. refused why)))
 
 -- what `take` answers, and what it leaves of the lent bytes: "only bytes of areas held are written", and a refusal changes nothing
 abbrev pub answerOf : Outcome → ℕ → Taken
@@ -98,7 +91,7 @@ leftBy (taken l) s = bytesOfAll l ++ drop (6 * length l) s
 leftBy (refused r) s = s
 
 abbrev pub takenOf : Book → List ℕ → List ℕ → Taken
-takenOf book s payload = answerOf (outcome book s payload) (reading (gadOf payload) (λ m. m .aiou) (λ why. 0))
+takenOf book s payload = answerOf (outcome book s payload) (reading (judging 2 0 payload) (λ m. m .aiou) (λ why. 0))
 
 abbrev pub bytesAfter : Book → List ℕ → List ℕ → List ℕ
 bytesAfter book s payload = leftBy (outcome book s payload) s

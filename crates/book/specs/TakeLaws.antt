@@ -7,10 +7,11 @@ use native.Mathlib.Omega.{arith}
 use lib.Dec.{ltb, eqb}
 use lib.ListN.{length, getD}
 use borrow.Author.Tests.{lt-ltb, ltb-true, ltb-false, eq-eqb, eqb-true, eqb-false}
+use Rattle.answer.specs.Stop.{stop}
 use Rattle.answer.specs.declared.Refusal.the-variants.{AreaOff, Conflict, BookFull}
 use Rattle.area.specs.Area.{sf031, inRange, areaOff, isArea}
 use Rattle.sizes.specs.Sizes.{mostAreas}
-use Rattle.book.specs.Take.{lookup, insert, Outcome, taken, refused, stop, placed, takeBlock, andThen, takeAll}
+use Rattle.book.specs.Take.{lookup, insert, Outcome, taken, refused, placed, takeBlock, andThen, takeAll}
 use Rattle.book.specs.Laws.{Ascending, Areas}
 use Rattle.book.specs.declared.Found.{Found}
 use Rattle.book.specs.declared.Found.the-variants.{Area, Nothing}
@@ -37,16 +38,6 @@ lookup-append id (a ∷ l) m = go (eqb (sf031 a) id) (lookup-append id l m)
     go : (b : Bool) → lookup id (l ++ m) ≡ orElse (lookup id l) (lookup id m) → cond b (Area a) (lookup id (l ++ m)) ≡ orElse (cond b (Area a) (lookup id l)) (lookup id m)
     go true ih = refl
     go false ih = ih
-
--- an area that is found has the ID
-pub lookup-id : (id : ℕ) (l : List ℕ) (a : ℕ) → lookup id l ≡ Area a → sf031 a ≡ id
-unfolding lookup
-lookup-id id [] a e = let z : _≡_ {A = ℕ} 0 1 = cc in absurd (omega arith)
-lookup-id id (b ∷ l) a e = go (eqb (sf031 b) id) refl (λ q. lookup-id id l a q) e
-  where
-    go : (t : Bool) → eqb (sf031 b) id ≡ t → (lookup id l ≡ Area a → sf031 a ≡ id) → cond t (Area b) (lookup id l) ≡ Area a → sf031 a ≡ id
-    go true q ih e = let z : b ≡ a = cc in ap sf031 (sym z) ∙ eqb-true _ _ q
-    go false q ih e = ih e
 
 -- where the ID is new, the first area does not have it, nor do the others
 new-first : (id b : ℕ) (l : List ℕ) → lookup id (b ∷ l) ≡ Nothing → (sf031 b ≡ id → ⊥) × (lookup id l ≡ Nothing)
@@ -127,7 +118,7 @@ pub took : (a : ℕ) (l m : List ℕ) → takeBlock a l ≡ taken m → Took a l
 unfolding takeBlock
 took a l m = go (areaOff a) refl (lookup (sf031 a) l) refl
   where
-    go : (t : Bool) → areaOff a ≡ t → (f : Found) → lookup (sf031 a) l ≡ f → stop t AreaOff (placed a l f) ≡ taken m → Took a l m
+    go : (t : Bool) → areaOff a ≡ t → (f : Found) → lookup (sf031 a) l ≡ f → stop t (refused AreaOff) (placed a l f) ≡ taken m → Took a l m
     go true q f r e = let z : _≡_ {A = ℕ} 0 1 = cc in absurd (omega arith)
     go false q (Area b) r e = by (eqb a b) refl e
       where

@@ -2,66 +2,47 @@
 use mathlib.Core.Path.{_≡_, refl, ap, ap₂, sym, _∙_, subst}
 use mathlib.Core.Bool.{Bool, true, false, cond}
 use mathlib.Core.List.{List, [], _++_}
-use Prim.Native.Nat.{ℕ, suc, _+_, _*_, _^_, _≤_, _<_}
+use Prim.Native.Nat.{ℕ, _+_, _*_, _^_, _≤_, _<_}
 use native.Mathlib.Omega.{arith}
-use native.Mathlib.Numerals.{add-one}
-use lib.Dec.{leb, ltb, eqb}
+use lib.Dec.{leb, eqb}
 use lib.ListN.{length, drop, length-append, length-drop}
 use borrow.Author.Tests.{le-ltb, le-leb, ne-eqb}
 use Rattle.answer.specs.declared.Refusal.{Refusal}
-use Rattle.answer.specs.declared.Refusal.the-variants as refusal
 use Rattle.bits.specs.Bits.{field}
-use Rattle.layout.specs.declared.Verdict.{Verdict}
-use Rattle.layout.specs.declared.Verdict.the-variants as verdict
+use Rattle.bits.specs.Laws.{field-lt}
 use Rattle.layout.specs.Layout as layout
 use Rattle.gad.specs.Gad.{Gad}
-use Rattle.sizes.specs.Sizes.{mostAreas, bookBytes, longestPayload}
+use Rattle.message.specs.Messages.{Message, gadMessage}
+use Rattle.sheet.specs.Sheet.{judging}
+use Rattle.sizes.specs.Sizes.{mostAreas, bookBytes}
 use Rattle.book.specs.Book.{bookOf, areasIn, bytesOfAll, headSound, sound}
 use Rattle.book.specs.Laws.{Ascending, Areas, length-areas, head-parts, sound-head, sound-room, sound-areas, sound-ascending, sound-each, length-bytes, sound-bytes}
-use Rattle.book.specs.Take.{gadOf, reading, areasOf, Outcome, taken, refused, stop, takeAll, before, outcome, answerOf, leftBy, takenOf, bytesAfter}
-use Rattle.book.specs.Payload.{aiouOf, blockAt, blocksFrom, blocksOf, faults, verdictOf, payloadVerdict, gadAt, takeBits, byVerdict, gad-reads}
-use Rattle.book.specs.PayloadLaws.{reads-areas, reads-range, payload-reads}
-use Rattle.book.specs.TakeLaws.{TookAll, took-all, Good, stays-good, some-area}
+use Rattle.book.specs.Take.{reading, areasOf, Outcome, taken, refused, takeAll, before, outcome, answerOf, leftBy, takenOf, bytesAfter}
+use Rattle.book.specs.Payload.{blockAt, blocksFrom, AtBits, gad-only, gad-at-bits}
+use Rattle.book.specs.TakeLaws.{TookAll, took-all, Good, InRange, stays-good, some-area}
 use Rattle.book.specs.declared.Book.{Book}
 use Rattle.book.specs.declared.Taken.the-variants.{Holds, Refused}
 
 module _ (book : Book) (s payload : List ℕ) (w : sound book s ≡ true) where
-  -- the areas held afterwards, or the first refusal
-  pub outcome-judged : outcome book s payload ≡ byVerdict (payloadVerdict payload) (takeBits book s payload) (λ why. refused why)
-  unfolding outcome payloadVerdict
-  outcome-judged =
-      rw (le-ltb (length s) bookBytes (sound-room book s w), w)
-      (rw (gad-reads payload (λ m. takeAll (areasOf (m .blocks)) (before book s (m .aiou))) (λ why. refused why)) (go (eqb (length payload) 0) (ltb longestPayload (length payload)) (verdictOf payload) refl))
-    where
-      go : (a b : Bool) (v : Verdict) → verdictOf payload ≡ v
-          → stop a refusal.Length (stop b refusal.Length (byVerdict v (takeAll (areasOf (gadAt payload .blocks)) (before book s (aiouOf payload))) (λ why. refused why)))
-          ≡ byVerdict (faults a refusal.Length (faults b refusal.Length v)) (takeBits book s payload) (λ why. refused why)
-      go true b v e = refl
-      go false true v e = refl
-      go false false (verdict.Fault why) e = refl
-      go false false verdict.Taken e = ap (λ l. takeAll l (before book s (aiouOf payload))) (reads-areas payload e)
+  outcome-sound : outcome book s payload ≡ reading (judging 2 0 payload) (λ m. takeAll (areasOf (m .blocks)) (before book s (m .aiou))) (λ why. refused why)
+  unfolding outcome
+  outcome-sound = rw (le-ltb (length s) bookBytes (sound-room book s w), w)
 
-  pub answer-judged : takenOf book s payload ≡ byVerdict (payloadVerdict payload) (answerOf (takeBits book s payload) (aiouOf payload)) (λ why. Refused why)
-  answer-judged = ap (λ o. answerOf o (reading (gadOf payload) (λ m. m .aiou) (λ why. 0))) outcome-judged ∙ go (payloadVerdict payload) refl
-    where
-      go : (v : Verdict) → payloadVerdict payload ≡ v
-          → answerOf (byVerdict v (takeBits book s payload) (λ why. refused why)) (reading (gadOf payload) (λ m. m .aiou) (λ why. 0))
-          ≡ byVerdict v (answerOf (takeBits book s payload) (aiouOf payload)) (λ why. Refused why)
-      go (verdict.Fault why) e = refl
-      go verdict.Taken e =
-          let z : reading (gadOf payload) (λ m. m .aiou) (λ why. 0) ≡ aiouOf payload
-          = gad-reads payload (λ m. m .aiou) (λ why. 0) ∙ ap (λ v. byVerdict v (aiouOf payload) (λ why. 0)) (payload-reads payload e) in
-          ap (answerOf (takeBits book s payload)) z
+  -- the payload's refusal,
+  module _ (why : Refusal) (e : judging 2 0 payload ≡ layout.refused why) where
+    pub outcome-refused : outcome book s payload ≡ refused why
+    outcome-refused = outcome-sound ∙ ap (λ o. reading o (λ m. takeAll (areasOf (m .blocks)) (before book s (m .aiou))) (λ why. refused why)) e
 
-  -- for a caller who has read the payload: its refusal, or its blocks into the book
-  module _ (some : 1 ≤ length payload) (few : length payload ≤ longestPayload) where
-    past-length : outcome book s payload ≡ reading (gadOf payload) (λ m. takeAll (areasOf (m .blocks)) (before book s (m .aiou))) (λ why. refused why)
-    unfolding outcome
-    past-length = rw (le-ltb (length s) bookBytes (sound-room book s w), w, ne-eqb (length payload) 0 (λ z. omega arith), le-ltb longestPayload (length payload) few)
+    pub answer-refused : takenOf book s payload ≡ Refused why
+    answer-refused = ap (λ o. answerOf o (reading (judging 2 0 payload) (λ m. m .aiou) (λ why. 0))) outcome-refused
 
-    pub outcome-read : (m : Gad) (codes : List ℕ) (used : ℕ) → gadOf payload ≡ layout.accepted m codes used
-        → outcome book s payload ≡ takeAll (areasOf (m .blocks)) (before book s (m .aiou))
-    outcome-read m codes used e = past-length ∙ ap (λ o. reading o (λ m. takeAll (areasOf (m .blocks)) (before book s (m .aiou))) (λ why. refused why)) e
+  -- or its blocks into the book
+  module _ (m : Gad) (codes : List ℕ) (used : ℕ) (e : judging 2 0 payload ≡ layout.accepted (gadMessage m) codes used) where
+    pub outcome-read : outcome book s payload ≡ takeAll (areasOf (m .blocks)) (before book s (m .aiou))
+    outcome-read = outcome-sound ∙ ap (λ o. reading o (λ m. takeAll (areasOf (m .blocks)) (before book s (m .aiou))) (λ why. refused why)) e
+
+    pub answer-read : takenOf book s payload ≡ answerOf (takeAll (areasOf (m .blocks)) (before book s (m .aiou))) (m .aiou)
+    answer-read = ap₂ answerOf outcome-read (ap (λ o. reading o (λ m. m .aiou) (λ why. 0)) e)
 
 -- ---- the areas before and afterwards
 
@@ -94,43 +75,61 @@ made-sound n s aiou room one small g =
     let z₄ : leb (length n) mostAreas ≡ true = le-leb (length n) mostAreas (g .few) in
     rw (z₀, z₁, z₂, z₃, z₄) (sound-bytes n (drop (6 * length n) s) 0 (g .ascending) (g .areas))
 
--- the areas held afterwards
-pub record Left (book : Book) (s payload : List ℕ) (after : Book) : Type 0 where
-  pub areas : List ℕ
-  pub reads : payloadVerdict payload ≡ verdict.Taken
-  pub is : outcome book s payload ≡ taken areas
-  pub all : TookAll (blocksOf payload) (before book s (aiouOf payload)) areas
-  pub head : after ≡ bookOf (aiouOf payload + 1) (length areas)
+-- a payload that is taken says a GAD
+pub record Says (payload : List ℕ) : Type 0 where
+  pub gad : Gad
+  pub codes : List ℕ
+  pub used : ℕ
+  pub reads : judging 2 0 payload ≡ layout.accepted (gadMessage gad) codes used
 
-pub left : (book : Book) (s payload : List ℕ) (after : Book) → sound book s ≡ true → takenOf book s payload ≡ Holds after → Left book s payload after
-left book s payload after w e =
-    by-verdict (payloadVerdict payload) refl (outcome-judged book s payload w) (sym (answer-judged book s payload w) ∙ e)
+pub says-read : (payload : List ℕ) (v : Message) (codes : List ℕ) (used : ℕ) → judging 2 0 payload ≡ layout.accepted v codes used → Says payload
+says-read payload v codes used e =
+    let r = gad-only payload v codes used e in
+    record { gad = r .0; codes = codes; used = used; reads = e ∙ ap (λ v. layout.accepted v codes used) (r .1) }
+
+pub says : (book : Book) (s payload : List ℕ) (after : Book) → sound book s ≡ true → takenOf book s payload ≡ Holds after → Says payload
+says book s payload after w e = go (judging 2 0 payload) refl
   where
-    by-outcome : payloadVerdict payload ≡ verdict.Taken → (o : Outcome) → takeBits book s payload ≡ o → outcome book s payload ≡ o
-        → answerOf o (aiouOf payload) ≡ Holds after → Left book s payload after
-    by-outcome v (taken l) q o e =
-        record { areas = l; reads = v; is = o; all = took-all (blocksOf payload) (before book s (aiouOf payload)) l q; head = cc }
-    by-outcome v (refused r) q o e = let z : _≡_ {A = ℕ} 0 1 = cc in absurd (omega arith)
+    go : (o : layout.Outcome Message) → judging 2 0 payload ≡ o → Says payload
+    go (layout.accepted v codes used) q = says-read payload v codes used q
+    go (layout.refused why) q =
+        let z : Refused why ≡ Holds after = sym (answer-refused book s payload w why q) ∙ e in
+        let y : _≡_ {A = ℕ} 0 1 = cc in
+        absurd (omega arith)
 
-    by-verdict : (v : Verdict) → payloadVerdict payload ≡ v → outcome book s payload ≡ byVerdict v (takeBits book s payload) (λ why. refused why)
-        → byVerdict v (answerOf (takeBits book s payload) (aiouOf payload)) (λ why. Refused why) ≡ Holds after → Left book s payload after
-    by-verdict verdict.Taken q o e = by-outcome q (takeBits book s payload) refl o e
-    by-verdict (verdict.Fault why) q o e = let z : _≡_ {A = ℕ} 0 1 = cc in absurd (omega arith)
+module _ (book : Book) (s payload : List ℕ) (after : Book) (w : sound book s ≡ true) (e : takenOf book s payload ≡ Holds after)
+    (m : Gad) (codes : List ℕ) (used : ℕ) (r : judging 2 0 payload ≡ layout.accepted (gadMessage m) codes used) where
+  -- the areas held afterwards
+  pub record Left : Type 0 where
+    pub areas : List ℕ
+    pub is : takeAll (areasOf (m .blocks)) (before book s (m .aiou)) ≡ taken areas
+    pub head : after ≡ bookOf (m .aiou + 1) (length areas)
 
--- a GAD has a block
-not-empty : (payload l n : List ℕ) → TookAll (blocksOf payload) l n → 1 ≤ length n
-unfolding blocksFrom
-not-empty payload l n t =
-    let e : blocksOf payload ≡ blocksFrom (suc (field payload 14 5)) 0 payload = ap (λ k. blocksFrom k 0 payload) (add-one (field payload 14 5)) in
-    some-area (blockAt payload 0) (blocksFrom (field payload 14 5) 1 payload) l n (subst (λ b. TookAll b l n) e t)
+  pub left : Left
+  left = go (takeAll (areasOf (m .blocks)) (before book s (m .aiou))) refl (sym (answer-read book s payload w m codes used r) ∙ e)
+    where
+      go : (o : Outcome) → takeAll (areasOf (m .blocks)) (before book s (m .aiou)) ≡ o → answerOf o (m .aiou) ≡ Holds after → Left
+      go (taken l) q e = record { areas = l; is = q; head = cc }
+      go (refused r) q e = let z : _≡_ {A = ℕ} 0 1 = cc in absurd (omega arith)
 
-module _ (book : Book) (s payload : List ℕ) (after : Book) (w : sound book s ≡ true) (e : takenOf book s payload ≡ Holds after) where
-  pub one-after : 1 ≤ length (left book s payload after w e .areas)
-  one-after = let p = left book s payload after w e in not-empty payload (before book s (aiouOf payload)) (p .areas) (p .all)
+  pub all-taken : TookAll (areasOf (m .blocks)) (before book s (m .aiou)) (left .areas)
+  all-taken = took-all (areasOf (m .blocks)) (before book s (m .aiou)) (left .areas) (left .is)
 
-  pub good-after : Good (left book s payload after w e .areas)
-  good-after = let p = left book s payload after w e in
-      stays-good (blocksOf payload) (before book s (aiouOf payload)) (p .areas) (reads-range payload (payload-reads payload (p .reads))) (p .all) (good-before book s w (aiouOf payload))
+  stands : AtBits payload m
+  stands = gad-at-bits payload m codes used r
 
-  pub bytes-are : bytesAfter book s payload ≡ bytesOfAll (left book s payload after w e .areas) ++ drop (6 * length (left book s payload after w e .areas)) s
-  bytes-are = ap (λ o. leftBy o s) (left book s payload after w e .is)
+  -- a GAD has a block
+  one-after : 1 ≤ length (left .areas)
+  unfolding blocksFrom
+  one-after = some-area (blockAt payload 0) (blocksFrom (field payload 14 5) 1 payload) (before book s (m .aiou)) (left .areas) (subst (λ l. TookAll l (before book s (m .aiou)) (left .areas)) (stands .areas) all-taken)
+
+  pub good-after : Good (left .areas)
+  good-after = stays-good (areasOf (m .blocks)) (before book s (m .aiou)) (left .areas) (subst (λ l. InRange l) (sym (stands .areas)) (stands .in-range)) all-taken (good-before book s w (m .aiou))
+
+  pub bytes-are : bytesAfter book s payload ≡ bytesOfAll (left .areas) ++ drop (6 * length (left .areas)) s
+  bytes-are = ap (λ o. leftBy o s) (outcome-read book s payload w m codes used r ∙ left .is)
+
+  pub sound-after : sound after (bytesAfter book s payload) ≡ true
+  sound-after =
+      ap₂ sound (left .head) bytes-are
+      ∙ made-sound (left .areas) s (m .aiou) (sound-room book s w) one-after (subst (λ a. a < 2 ^ 4) (sym (stands .aiou)) (field-lt payload 9 4)) good-after

@@ -1,6 +1,6 @@
 -- Theorems: the book after a GAD, in the words of the calls `take` and `find`. It is sound (`stays-sound`), or as it was (`refusal-keeps`, `repeat-keeps`); under each ID there is what
 -- there was, else the GAD's block, else nothing (`in-book`, and its three parts `block-found`, `area-stays`, `nothing-else`). Proved; assumes nothing.
-use mathlib.Core.Path.{_≡_, refl, ap, ap₂, sym, _∙_, subst}
+use mathlib.Core.Path.{_≡_, refl, ap, ap₂, sym, _∙_}
 use mathlib.Core.Bool.{Bool, true, false, cond}
 use mathlib.Core.List.{List, [], _∷_, _++_}
 use Prim.Native.Nat.{ℕ, _+_, _*_, _<_}
@@ -11,19 +11,18 @@ use lib.Seq.{drop-at}
 use borrow.Author.Tests.{eq-eqb}
 use Rattle.answer.specs.declared.Refusal.{Refusal}
 use Rattle.bits.specs.Bits.{Bytes}
-use Rattle.bits.specs.Laws.{field-lt}
 use Rattle.layout.specs.Layout.{accepted}
 use Rattle.gad.specs.Gad.{Gad}
+use Rattle.message.specs.Messages.{gadMessage}
+use Rattle.sheet.specs.Sheet.{judging}
 use Rattle.area.specs.Area.{sf031, bytesOf}
 use Rattle.area.specs.declared.AreaId.{AreaId}
-use Rattle.book.specs.Book.{areasIn, bytesOfAll, sound, found}
-use Rattle.book.specs.Laws.{sound-room, areas-bytes, length-bytes}
-use Rattle.book.specs.Take.{gadOf, reading, areasOf, lookup, Outcome, taken, refused, takeAll, before, outcome, answerOf, leftBy, takenOf, bytesAfter}
-use Rattle.book.specs.Payload.{aiouOf, blocksOf, takeBits, byVerdict}
-use Rattle.book.specs.PayloadLaws.{AsRead, as-read}
+use Rattle.book.specs.Book.{bookOf, areasIn, bytesOfAll, sound, found}
+use Rattle.book.specs.Laws.{areas-bytes, length-bytes}
+use Rattle.book.specs.Take.{reading, areasOf, lookup, Outcome, taken, refused, takeAll, before, outcome, answerOf, leftBy, takenOf, bytesAfter}
 use Rattle.book.specs.TakeLaws.{orElse, TookAll, lookup-after, holds-each, retake}
 use Rattle.book.specs.FindLaws.{bytesOfFound, found-in, found-is}
-use Rattle.book.specs.TakenLaws.{outcome-judged, answer-judged, made-sound, left, one-after, good-after, bytes-are}
+use Rattle.book.specs.TakenLaws.{outcome-read, answer-read, Says, says, Left, left, all-taken, good-after, bytes-are, sound-after}
 use Rattle.book.specs.declared.Book.{Book}
 use Rattle.book.specs.declared.Found.{Found}
 use Rattle.book.specs.declared.Found.the-variants.{Area, Nothing}
@@ -31,44 +30,49 @@ use Rattle.book.specs.declared.Taken.the-variants.{Holds, Refused}
 
 -- A sound book stays sound, whatever the payload is.
 pub stays-sound : (book : Book) (s payload : List ℕ) (after : Book) → sound book s ≡ true → takenOf book s payload ≡ Holds after → sound after (bytesAfter book s payload) ≡ true
-stays-sound book s payload after w e = let p = left book s payload after w e in
-    ap₂ sound (p .head) (bytes-are book s payload after w e)
-    ∙ made-sound (p .areas) s (aiouOf payload) (sound-room book s w) (one-after book s payload after w e) (field-lt payload 9 4) (good-after book s payload after w e)
+stays-sound book s payload after w e =
+    let m : Says payload = says book s payload after w e in
+    sound-after book s payload after w e (m .gad) (m .codes) (m .used) (m .reads)
 
 -- "It is taken whole or refused": a refusal changes nothing.
 pub refusal-keeps : (book : Book) (s payload : List ℕ) (r : Refusal) → takenOf book s payload ≡ Refused r → bytesAfter book s payload ≡ s
 refusal-keeps book s payload r = go (outcome book s payload)
   where
-    go : (o : Outcome) → answerOf o (reading (gadOf payload) (λ m. m .aiou) (λ why. 0)) ≡ Refused r → leftBy o s ≡ s
+    go : (o : Outcome) → answerOf o (reading (judging 2 0 payload) (λ m. m .aiou) (λ why. 0)) ≡ Refused r → leftBy o s ≡ s
     go (taken l) e = let z : _≡_ {A = ℕ} 0 1 = cc in absurd (omega arith)
     go (refused q) e = refl
 
 -- "An identical repeat changes nothing."
 module _ (book : Book) (s payload : List ℕ) (after : Book) (w : sound book s ≡ true) (e : takenOf book s payload ≡ Holds after) where
-  again : takeBits after (bytesAfter book s payload) payload ≡ taken (left book s payload after w e .areas)
-  unfolding before
-  again = let p = left book s payload after w e in
-      ap (takeAll (blocksOf payload))
-      (ap (λ (b : Book). cond (eqb (b .«aiou_plus_one») (aiouOf payload + 1)) (areasIn (b .count) (bytesAfter book s payload)) []) (p .head)
-      ∙ ap (λ t. cond t (areasIn (length (p .areas)) (bytesAfter book s payload)) []) (eq-eqb (aiouOf payload + 1) (aiouOf payload + 1) refl)
-      ∙ ap (areasIn (length (p .areas))) (bytes-are book s payload after w e)
-      ∙ areas-bytes (p .areas) (drop (6 * length (p .areas)) s) 0 (good-after book s payload after w e .ascending))
-      ∙ retake (blocksOf payload) (before book s (aiouOf payload)) (p .areas) (p .all) (p .areas) (λ i. holds-each i (blocksOf payload) (before book s (aiouOf payload)) (p .areas) (p .all))
+  module _ (m : Gad) (codes : List ℕ) (used : ℕ) (r : judging 2 0 payload ≡ accepted (gadMessage m) codes used) where
+    abbrev kept : List ℕ
+    kept = left book s payload after w e m codes used r .areas
+
+    again : takeAll (areasOf (m .blocks)) (before after (bytesAfter book s payload) (m .aiou)) ≡ taken kept
+    unfolding before
+    again =
+        let head : after ≡ bookOf (m .aiou + 1) (length kept) = left book s payload after w e m codes used r .head in
+        let all : TookAll (areasOf (m .blocks)) (before book s (m .aiou)) kept = all-taken book s payload after w e m codes used r in
+        ap (takeAll (areasOf (m .blocks)))
+        (ap (λ (b : Book). cond (eqb (b .«aiou_plus_one») (m .aiou + 1)) (areasIn (b .count) (bytesAfter book s payload)) []) head
+        ∙ ap (λ t. cond t (areasIn (length kept) (bytesAfter book s payload)) []) (eq-eqb (m .aiou + 1) (m .aiou + 1) refl)
+        ∙ ap (areasIn (length kept)) (bytes-are book s payload after w e m codes used r)
+        ∙ areas-bytes kept (drop (6 * length kept) s) 0 (good-after book s payload after w e m codes used r .ascending))
+        ∙ retake (areasOf (m .blocks)) (before book s (m .aiou)) kept all kept (λ i. holds-each i (areasOf (m .blocks)) (before book s (m .aiou)) kept all)
+
+    repeat-read : (takenOf after (bytesAfter book s payload) payload ≡ Holds after) × (bytesAfter after (bytesAfter book s payload) payload ≡ bytesAfter book s payload)
+    repeat-read =
+        let s₁ : List ℕ = bytesAfter book s payload in
+        let w₁ : sound after s₁ ≡ true = sound-after book s payload after w e m codes used r in
+        let bytes : s₁ ≡ bytesOfAll kept ++ drop (6 * length kept) s = bytes-are book s payload after w e m codes used r in
+        let rest : drop (6 * length kept) s₁ ≡ drop (6 * length kept) s
+        = ap (drop (6 * length kept)) bytes ∙ drop-at (bytesOfAll kept) (drop (6 * length kept) s) (6 * length kept) (length-bytes kept) in (
+          answer-read after s₁ payload w₁ m codes used r ∙ ap (λ o. answerOf o (m .aiou)) again ∙ ap Holds (sym (left book s payload after w e m codes used r .head)),
+          ap (λ o. leftBy o s₁) (outcome-read after s₁ payload w₁ m codes used r ∙ again) ∙ ap (λ t. bytesOfAll kept ++ t) rest ∙ sym bytes,
+        )
 
   pub repeat-keeps : (takenOf after (bytesAfter book s payload) payload ≡ Holds after) × (bytesAfter after (bytesAfter book s payload) payload ≡ bytesAfter book s payload)
-  repeat-keeps = let p = left book s payload after w e in
-      let n : List ℕ = p .areas in
-      let s₁ : List ℕ = bytesAfter book s payload in
-      let w₁ : sound after s₁ ≡ true = stays-sound book s payload after w e in
-      let kept : drop (6 * length n) s₁ ≡ drop (6 * length n) s
-      = ap (drop (6 * length n)) (bytes-are book s payload after w e) ∙ drop-at (bytesOfAll n) (drop (6 * length n) s) (6 * length n) (length-bytes n) in (
-        answer-judged after s₁ payload w₁
-            ∙ ap₂ (λ v o. byVerdict v (answerOf o (aiouOf payload)) (λ why. Refused why)) (p .reads) again
-            ∙ ap Holds (sym (p .head)),
-        ap (λ o. leftBy o s₁) (outcome-judged after s₁ payload w₁ ∙ ap₂ (λ v o. byVerdict v o (λ why. refused why)) (p .reads) again)
-            ∙ ap (λ t. bytesOfAll n ++ t) kept
-            ∙ sym (bytes-are book s payload after w e),
-      )
+  repeat-keeps = let m : Says payload = says book s payload after w e in repeat-read (m .gad) (m .codes) (m .used) (m .reads)
 
 -- ---- what is found afterwards
 
@@ -99,27 +103,29 @@ before-found book s w b aiou id = go (eqb (book .«aiou_plus_one») (aiou + 1))
 
 -- After a GAD m was taken into a sound book (s are bytes, as those of every slice of u8 are):
 module _ (book : Book) (s payload : List ℕ) (after : Book) (w : sound book s ≡ true) (b : Bytes s) (e : takenOf book s payload ≡ Holds after)
-    (m : Gad) (codes : List ℕ) (used : ℕ) (r : gadOf payload ≡ accepted m codes used) (id : AreaId) where
-  looked-up : found after (bytesAfter book s payload) id ≡ bytesOfFound (lookup (id .0) (left book s payload after w e .areas))
-  looked-up = let p = left book s payload after w e in
-      found-in after (bytesAfter book s payload) (stays-sound book s payload after w e) id (p .areas) (drop (6 * length (p .areas)) s) (bytes-are book s payload after w e) (ap (λ (x : Book). x .count) (p .head))
+    (m : Gad) (codes : List ℕ) (used : ℕ) (r : judging 2 0 payload ≡ accepted (gadMessage m) codes used) (id : AreaId) where
+  abbrev held : Left book s payload after w e m codes used r
+  held = left book s payload after w e m codes used r
+
+  looked-up : found after (bytesAfter book s payload) id ≡ bytesOfFound (lookup (id .0) (held .areas))
+  looked-up =
+      found-in after (bytesAfter book s payload) (sound-after book s payload after w e m codes used r) id (held .areas) (drop (6 * length (held .areas)) s)
+      (bytes-are book s payload after w e m codes used r) (ap (λ (x : Book). x .count) (held .head))
 
   -- under each ID there is what there was before, else the GAD's block, else nothing;
   pub in-book : found after (bytesAfter book s payload) id ≡ firstOf (foundBefore book s (m .aiou) id) (bytesOfFound (lookup (id .0) (areasOf (m .blocks))))
-  in-book = let p = left book s payload after w e in
-      let a : AsRead payload m = as-read payload m codes used r in
+  in-book =
       looked-up
-      ∙ ap bytesOfFound (lookup-after (id .0) (blocksOf payload) (before book s (aiouOf payload)) (p .areas) (p .all))
-      ∙ bytes-or (lookup (id .0) (before book s (aiouOf payload))) (lookup (id .0) (blocksOf payload))
-      ∙ ap₂ (λ x y. firstOf x (bytesOfFound (lookup (id .0) y))) (before-found book s w b (aiouOf payload) id ∙ ap (λ n. foundBefore book s n id) (a .aiou)) (a .blocks)
+      ∙ ap bytesOfFound (lookup-after (id .0) (areasOf (m .blocks)) (before book s (m .aiou)) (held .areas) (all-taken book s payload after w e m codes used r))
+      ∙ bytes-or (lookup (id .0) (before book s (m .aiou))) (lookup (id .0) (areasOf (m .blocks)))
+      ∙ ap (λ x. firstOf x (bytesOfFound (lookup (id .0) (areasOf (m .blocks))))) (before-found book s w b (m .aiou) id)
 
   -- so each of its blocks is found under its ID, with its own six bytes;
   pub block-found : (i : ℕ) → i < length (areasOf (m .blocks)) → id .0 ≡ sf031 (getD (areasOf (m .blocks)) i 0)
       → found after (bytesAfter book s payload) id ≡ bytesOf (getD (areasOf (m .blocks)) i 0)
-  block-found i h q = let p = left book s payload after w e in
-      let a : AsRead payload m = as-read payload m codes used r in
-      let t : TookAll (areasOf (m .blocks)) (before book s (aiouOf payload)) (p .areas) = subst (λ l. TookAll l (before book s (aiouOf payload)) (p .areas)) (a .blocks) (p .all) in
-      looked-up ∙ ap bytesOfFound (ap (λ k. lookup k (p .areas)) q ∙ holds-each i (areasOf (m .blocks)) (before book s (aiouOf payload)) (p .areas) t h)
+  block-found i h q =
+      looked-up
+      ∙ ap bytesOfFound (ap (λ k. lookup k (held .areas)) q ∙ holds-each i (areasOf (m .blocks)) (before book s (m .aiou)) (held .areas) (all-taken book s payload after w e m codes used r) h)
 
   -- each area of the same AIOU that was found before is still found;
   pub area-stays : book .«aiou_plus_one» ≡ m .aiou + 1 → (found book s id ≡ [] → ⊥) → found after (bytesAfter book s payload) id ≡ found book s id

@@ -5,17 +5,17 @@ ghost use mathlib.Core.List.{_++_};
 ghost use Prim.Native.Nat.{_+_, _*_, _^_, _<_, _≤_};
 ghost use lib.Dec.{eqb};
 ghost use lib.ListN.{length, drop};
-ghost use Rattle.sizes.specs.Sizes.{mostAreas, bookBytes, longestPayload};
+ghost use Rattle.sizes.specs.Sizes.{mostAreas, bookBytes};
 ghost use Rattle.bits.specs.Part.{PartOf};
 ghost use Rattle.area.specs.Area.{sf031};
 ghost use Rattle.book.specs.Book.{bookOf, noBook, areasIn, bytesOfAll, headSound, areasSound, sound, placeOf, found, foundAt};
 ghost use Rattle.book.specs.Take.{lookup, insert, takeAll, answerOf, leftBy, takenOf, bytesAfter, numberOfTaken};
-ghost use Rattle.book.specs.Payload.{mostBlocks, aiouOf, blockCount, blockAt, blocksFrom, blocksOf, blockVerdict, blocksVerdict, payloadVerdict, takeBits};
+ghost use Rattle.book.specs.Payload.{mostBlocks, aiouOf, blockCount, blockStart, blockAt, blocksFrom, blocksOf, takeBits};
 ghost use Rattle.book.specs.TakeLaws.{orElse};
 ghost use Rattle.book.specs.Judge.{judgedBy, isTaken, judgeFound, judgeBlock, Image};
 use answer::Refusal;
 use area::AreaId;
-use layout::Verdict;
+use sheet::ReadAnswer;
 
 // What is known of a book besides its bytes: AIOU + 1, or 0 where it has no AIOU, and how many areas it has.
 pub struct Book {
@@ -181,69 +181,9 @@ fn block_count(payload: &[u8]) -> usize
     count(bits::get(payload, 14, 5) + 1)
 }
 
-// The first fault of block i in reading order: SHORT where the payload ends inside a field, FIELD for a latitude or a longitude out of range.
-fn block_verdict(payload: &[u8], i: usize) -> Verdict
-    requires { ⌜ (i < mostBlocks) × (length (now payload) ≤ longestPayload) ⌝ }
-    ensures { λ r. ⌜ r ≡ blockVerdict (now (payload .entry)) (19 + 47 * i) ⌝ }
-{
-    let bits = 8 * payload.len();
-    let at = 19 + 47 * i;
-    if bits < at + 19 {
-        return Verdict::Fault(Refusal::Short);
-    }
-    if 1800 < bits::get(payload, at + 8, 11) {
-        return Verdict::Fault(Refusal::Field);
-    }
-    if bits < at + 31 {
-        return Verdict::Fault(Refusal::Short);
-    }
-    if 3600 < bits::get(payload, at + 19, 12) {
-        return Verdict::Fault(Refusal::Field);
-    }
-    if bits < at + 47 {
-        return Verdict::Fault(Refusal::Short);
-    }
-    Verdict::Taken
-}
-
-fn blocks_verdict(payload: &[u8], n: usize) -> Verdict
-    requires { ⌜ (n ≤ mostBlocks) × (length (now payload) ≤ longestPayload) ⌝ }
-    ensures { λ r. ⌜ r ≡ blocksVerdict n 0 (now (payload .entry)) ⌝ }
-{
-    let mut i: usize = 0;
-    while i < n {
-        match block_verdict(payload, i) {
-            Verdict::Taken => {
-                i += 1;
-            }
-            Verdict::Fault(refusal) => {
-                return Verdict::Fault(refusal);
-            }
-        }
-    }
-    Verdict::Taken
-}
-
-// A payload's own refusals: LENGTH, then the first fault in reading order.
-fn payload_verdict(payload: &[u8]) -> Verdict
-    ensures { λ r. ⌜ r ≡ payloadVerdict (now (payload .entry)) ⌝ }
-{
-    let size = payload.len();
-    if size == 0 {
-        return Verdict::Fault(Refusal::Length);
-    }
-    if sizes::LONGEST_PAYLOAD < size {
-        return Verdict::Fault(Refusal::Length);
-    }
-    if size < 3 {
-        return Verdict::Fault(Refusal::Short);
-    }
-    blocks_verdict(payload, block_count(payload))
-}
-
 // A block's area.
 fn block(payload: &[u8], i: usize) -> u64
-    requires { ⌜ (i < mostBlocks) × (19 + 47 * (i + 1) ≤ 8 * length (now payload)) ⌝ }
+    requires { ⌜ (i < mostBlocks) × (blockStart (i + 1) ≤ 8 * length (now payload)) ⌝ }
     ensures { λ r. ⌜ (r ≡ blockAt (now (payload .entry)) i) × (r < 2 ^ 47) ⌝ }
 {
     bits::get(payload, 19 + 47 * i, 47)
@@ -267,7 +207,7 @@ pub fn look(bytes: &[u8], count: usize, id: u8) -> Found
 
 // The area with this ID among the first n blocks.
 fn look_before(payload: &[u8], n: usize, id: u8) -> Found
-    requires { ⌜ (n ≤ mostBlocks) × (19 + 47 * n ≤ 8 * length (now payload)) ⌝ }
+    requires { ⌜ (n ≤ mostBlocks) × (blockStart n ≤ 8 * length (now payload)) ⌝ }
     ensures { λ r. ⌜ r ≡ lookup id (blocksFrom n 0 (now (payload .entry))) ⌝ }
 {
     let mut i: usize = 0;
@@ -283,7 +223,7 @@ fn look_before(payload: &[u8], n: usize, id: u8) -> Found
 
 // The same in the book, and then among the first n blocks.
 fn known(bytes: &[u8], count: usize, payload: &[u8], n: usize, id: u8) -> Found
-    requires { ⌜ (6 * count ≤ length (now bytes)) × (n ≤ mostBlocks) × (19 + 47 * n ≤ 8 * length (now payload)) ⌝ }
+    requires { ⌜ (6 * count ≤ length (now bytes)) × (n ≤ mostBlocks) × (blockStart n ≤ 8 * length (now payload)) ⌝ }
     ensures { λ r. ⌜ r ≡ orElse (lookup id (areasIn count (now (bytes .entry)))) (lookup id (blocksFrom n 0 (now (payload .entry)))) ⌝ }
 {
     match look(bytes, count, id) {
@@ -316,7 +256,7 @@ fn judge_found(area: u64, found: Found, held: usize) -> Judged
 
 // Block i against the book and the blocks before it, with which the book would hold so many areas.
 fn judge_block(bytes: &[u8], count: usize, payload: &[u8], i: usize, held: usize) -> Judged
-    requires { ⌜ (6 * count ≤ length (now bytes)) × (i < mostBlocks) × (19 + 47 * (i + 1) ≤ 8 * length (now payload)) ⌝ }
+    requires { ⌜ (6 * count ≤ length (now bytes)) × (i < mostBlocks) × (blockStart (i + 1) ≤ 8 * length (now payload)) ⌝ }
     ensures { λ r. ⌜ r ≡ judgeBlock (blockAt (now (payload .entry)) i) (orElse (lookup (sf031 (blockAt (now (payload .entry)) i)) (areasIn count (now (bytes .entry)))) (lookup (sf031 (blockAt (now (payload .entry)) i)) (blocksFrom i 0 (now (payload .entry))))) held ⌝ }
 {
     let area = block(payload, i);
@@ -328,7 +268,7 @@ fn judge_block(bytes: &[u8], count: usize, payload: &[u8], i: usize, held: usize
 
 // All blocks, each against the book with the earlier ones added: how many areas it would hold then, or the first refusal.
 fn judge(bytes: &[u8], count: usize, payload: &[u8]) -> Judged
-    requires { ⌜ (6 * count ≤ length (now bytes)) × (19 + 47 * blockCount (now payload) ≤ 8 * length (now payload)) ⌝ }
+    requires { ⌜ (6 * count ≤ length (now bytes)) × (blockStart (blockCount (now payload)) ≤ 8 * length (now payload)) ⌝ }
     ensures { λ r. ⌜ r ≡ judgedBy (takeAll (blocksOf (now (payload .entry))) (areasIn count (now (bytes .entry)))) ⌝ }
 {
     let n = block_count(payload);
@@ -370,7 +310,7 @@ fn insert(bytes: &mut [u8], count: usize, area: u64)
 
 // Each block that is not held yet takes its place. They have all been judged: the message is taken.
 fn insert_all(bytes: &mut [u8], count: usize, payload: &[u8])
-    requires { ⌜ Image count (now bytes) × (count ≤ mostAreas) × (bookBytes ≤ length (now bytes)) × (19 + 47 * blockCount (now payload) ≤ 8 * length (now payload)) ⌝ }
+    requires { ⌜ Image count (now bytes) × (count ≤ mostAreas) × (bookBytes ≤ length (now bytes)) × (blockStart (blockCount (now payload)) ≤ 8 * length (now payload)) ⌝ }
     requires { ⌜ isTaken (takeAll (blocksOf (now payload)) (areasIn count (now bytes))) ≡ true ⌝ }
     ensures { λ _. ⌜ now (bytes .exit) ≡ leftBy (takeAll (blocksOf (now (payload .entry))) (areasIn count (now (bytes .entry)))) (now (bytes .entry)) ⌝ }
 {
@@ -404,7 +344,7 @@ fn count_under(book: Book, aiou: u8) -> usize
 
 // The blocks of a payload that reads as a GAD, taken into a sound book.
 fn take_blocks(book: Book, bytes: &mut [u8], payload: &[u8]) -> Taken
-    requires { ⌜ (bookBytes ≤ length (now bytes)) × (sound book (now bytes) ≡ true) × (19 + 47 * blockCount (now payload) ≤ 8 * length (now payload)) ⌝ }
+    requires { ⌜ (bookBytes ≤ length (now bytes)) × (sound book (now bytes) ≡ true) × (blockStart (blockCount (now payload)) ≤ 8 * length (now payload)) ⌝ }
     ensures { λ r. ⌜ r ≡ answerOf (takeBits book (now (bytes .entry)) (now (payload .entry))) (aiouOf (now (payload .entry))) ⌝ }
     ensures { λ _. ⌜ now (bytes .exit) ≡ leftBy (takeBits book (now (bytes .entry)) (now (payload .entry))) (now (bytes .entry)) ⌝ }
 {
@@ -419,7 +359,8 @@ fn take_blocks(book: Book, bytes: &mut [u8], payload: &[u8]) -> Taken
     }
 }
 
-// Takes a GAD payload: the book that is left, with its areas in the lent bytes. It is taken whole, or refused and nothing changes.
+// Takes a GAD payload: the book that is left, with its areas in the lent bytes. It is taken whole, or refused and nothing changes. The
+// payload is judged by the reader; what it accepts stands at the bits that are read here.
 pub fn take(book: Book, bytes: &mut [u8], payload: &[u8]) -> Taken
     ensures { λ r. ⌜ r ≡ takenOf book (now (bytes .entry)) (now (payload .entry)) ⌝ }
     ensures { λ _. ⌜ now (bytes .exit) ≡ bytesAfter book (now (bytes .entry)) (now (payload .entry)) ⌝ }
@@ -430,9 +371,12 @@ pub fn take(book: Book, bytes: &mut [u8], payload: &[u8]) -> Taken
     if !is_sound(book, bytes) {
         return Taken::Refused(Refusal::State);
     }
-    match payload_verdict(payload) {
-        Verdict::Fault(refusal) => Taken::Refused(refusal),
-        Verdict::Taken => take_blocks(book, bytes, payload),
+    match sheet::judge(2, 0, payload) {
+        ReadAnswer::Refused(refusal) => Taken::Refused(refusal),
+        ReadAnswer::Read {
+            bits: _,
+            entries: _,
+        } => take_blocks(book, bytes, payload),
     }
 }
 

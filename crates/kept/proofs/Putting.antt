@@ -8,7 +8,7 @@ use native.Mathlib.Numerals.{add-one}
 use native.Mathlib.Nat.{zero-add}
 use lib.Dec.{ltb}
 use lib.ListN.{length, getD, take, drop, length-append, length-drop, take-append-drop}
-use lib.Seq.{take-all, take-at, drop-at, drop-drop, length-take-le, take-suc}
+use lib.Seq.{take-all, length-take-le, take-suc}
 use borrow.Author.Tests.{lt-ltb, le-ltb, not-true, not-false}
 use mir.Syntax.{w8}
 use mir.Val.{Fits}

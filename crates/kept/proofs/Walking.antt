@@ -8,6 +8,7 @@ use lib.Dec.{leb, ltb, eqb}
 use lib.ListN.{length, take, drop, length-append, length-drop, drop-of-length-le}
 use lib.Seq.{take-all, drop-drop, drop-cons}
 use borrow.Author.Tests.{lt-ltb, le-ltb, lt-leb, le-leb, eq-eqb, ne-eqb, not-false}
+use Rattle.answer.specs.Stop.{stop}
 use Rattle.answer.specs.declared.Refusal.{Refusal}
 use Rattle.answer.specs.declared.Refusal.the-variants.{Room, Form, Leftover}
 use Rattle.sizes.specs.Sizes.{mostAreas, bookBytes}
@@ -19,9 +20,9 @@ use Rattle.book.specs.declared.Book.{Book}
 use Rattle.groups.specs.Groups.{readGroups}
 use Rattle.groups.specs.declared.Read.{Read}
 use Rattle.groups.specs.declared.Read.the-variants as reading
-use Rattle.kept.specs.Kept.{Said, said, refused, stop, behind, number, whole, not-kept, answerOf, leftBy, readKept, fits, withArea, readAreas, readCount, readAiou, readHead}
+use Rattle.kept.specs.Kept.{Said, said, refused, behind, number, whole, not-kept, answerOf, leftBy, readKept, fits, withArea, readAreas, readCount, readAiou, readHead}
 use Rattle.kept.specs.RoundTrip.{passed}
-use Rattle.kept.specs.Walk.{nextBy, nextOf, HeadIs, Areas, EndIs, storedBy, isSaid, step-on, step-off, read-le, next-le}
+use Rattle.kept.specs.Walk.{nextBy, nextOf, HeadIs, Areas, EndIs, storedBy, isSaid, step-on, step-off, step-form, step-past, read-le, next-le}
 use Rattle.kept.specs.declared.Next.{Next}
 use Rattle.kept.specs.declared.Next.the-variants as next
 use Rattle.kept.specs.declared.Head.{Head}
@@ -64,30 +65,27 @@ module _ (s : List ℕ) (at : ℕ) (h : at ≤ length s) (v : Next) (e : v ≡ n
     end-there = next-le s at v h e x end q
 
     module _ (aiou : ℕ) (book : Book) (eo : book ≡ bookOf aiou x) (b : Bool) (eb : b ≡ headSound book) where
-      count-read : readCount aiou (drop at s) ≡ stop (not b) Form (said book (drop end s))
-      unfolding readCount
-      count-read =
-          step-on s at v e (λ count s. stop (not (headSound (bookOf aiou count))) Form (said (bookOf aiou count) s)) x end q
-          ∙ ap₂ (λ y z. stop (not y) Form (said z (drop end s))) (sym (eb ∙ ap headSound eo)) (sym eo)
+      is-sound : not (headSound (bookOf aiou x)) ≡ not b
+      is-sound = ap not (sym (eb ∙ ap headSound eo))
 
       pub count-unsound : not b ≡ true → readCount aiou (drop at s) ≡ refused Form
-      count-unsound k = count-read ∙ ap (λ t. stop t Form (said book (drop end s))) k
+      unfolding readCount
+      count-unsound k = step-form s at v e (λ count. not (headSound (bookOf aiou count))) (λ count s. said (bookOf aiou count) s) x end q (is-sound ∙ k)
 
       pub count-sound : not b ≡ false → readCount aiou (drop at s) ≡ said book (drop end s)
-      count-sound k = count-read ∙ ap (λ t. stop t Form (said book (drop end s))) k
+      unfolding readCount
+      count-sound k =
+          step-past s at v e (λ count. not (headSound (bookOf aiou count))) (λ count s. said (bookOf aiou count) s) x end q (is-sound ∙ k)
+          ∙ ap (λ z. said z (drop end s)) (sym eo)
 
     pub aiou-over : 16 < x → readAiou (drop at s) ≡ refused Form
     unfolding readAiou
-    aiou-over k =
-        step-on s at v e (λ aiou s. stop (ltb 16 aiou) Form (readCount aiou s)) x end q ∙ ap (λ b. stop b Form (readCount x (drop end s))) (lt-ltb 16 x k)
+    aiou-over k = step-form s at v e (ltb 16) readCount x end q (lt-ltb 16 x k)
 
     pub aiou-on : x ≤ 16 → (d : ℕ) → d ≡ x → (r : Head) → HeadIs s (readCount d (drop end s)) r → HeadIs s (readAiou (drop at s)) r
     unfolding readAiou
-    aiou-on k d ed r p =
-        subst (λ o. HeadIs s o r)
-        (ap (λ d. readCount d (drop end s)) ed
-        ∙ sym (step-on s at v e (λ aiou s. stop (ltb 16 aiou) Form (readCount aiou s)) x end q ∙ ap (λ b. stop b Form (readCount x (drop end s))) (le-ltb 16 x k)))
-        p
+    aiou-on k d ed r =
+        subst (λ o. HeadIs s o r) (ap (λ d. readCount d (drop end s)) ed ∙ sym (step-past s at v e (ltb 16) readCount x end q (le-ltb 16 x k)))
 
 module _ (s : List ℕ) (v : Next) (e : v ≡ nextOf s 0) where
   pub head-refused : (r : Refusal) → v ≡ next.Refused r → readHead s ≡ refused r
@@ -97,22 +95,18 @@ module _ (s : List ℕ) (v : Next) (e : v ≡ nextOf s 0) where
   module _ (x end : ℕ) (q : v ≡ next.Number x end) where
     pub head-other : (x ≡ 1 → ⊥) → readHead s ≡ refused Form
     unfolding readHead
-    head-other k =
-        step-on s 0 v e (λ f s. stop (not (eqb f 1)) Form (readAiou s)) x end q ∙ ap (λ b. stop (not b) Form (readAiou (drop end s))) (ne-eqb x 1 k)
+    head-other k = step-form s 0 v e (λ f. not (eqb f 1)) (λ f s. readAiou s) x end q (ap not (ne-eqb x 1 k))
 
     pub head-on : x ≡ 1 → (r : Head) → HeadIs s (readAiou (drop end s)) r → HeadIs s (readHead s) r
     unfolding readHead
-    head-on k r p =
-        subst (λ o. HeadIs s o r)
-        (sym (step-on s 0 v e (λ f s. stop (not (eqb f 1)) Form (readAiou s)) x end q ∙ ap (λ b. stop (not b) Form (readAiou (drop end s))) (eq-eqb x 1 k)))
-        p
+    head-on k r = subst (λ o. HeadIs s o r) (sym (step-past s 0 v e (λ f. not (eqb f 1)) (λ f s. readAiou s) x end q (ap not (eq-eqb x 1 k))))
 
 -- a head that is read is sound
 count-head : (aiou : ℕ) (s : List ℕ) (book : Book) (rest : List ℕ) → readCount aiou s ≡ said book rest → headSound book ≡ true
 unfolding readCount
 count-head aiou s book rest = go (readGroups s)
   where
-    go : (r : Read) → behind r s (λ count s. stop (not (headSound (bookOf aiou count))) Form (said (bookOf aiou count) s)) ≡ said book rest → headSound book ≡ true
+    go : (r : Read) → behind r s (λ count s. stop (not (headSound (bookOf aiou count))) (refused Form) (said (bookOf aiou count) s)) ≡ said book rest → headSound book ≡ true
     go (reading.Refused r) e = let w : _≡_ {A = ℕ} 0 1 = cc in absurd (omega arith)
     go (reading.Number x n) e =
         let t = passed (not (headSound (bookOf aiou x))) Form (said (bookOf aiou x) (drop n s)) book rest e in
@@ -126,11 +120,11 @@ head-sound : (s : List ℕ) (book : Book) (rest : List ℕ) → readHead s ≡ s
 unfolding readHead readAiou
 head-sound s book rest = go (readGroups s)
   where
-    aiou : (s : List ℕ) (r : Read) → behind r s (λ aiou s. stop (ltb 16 aiou) Form (readCount aiou s)) ≡ said book rest → headSound book ≡ true
+    aiou : (s : List ℕ) (r : Read) → behind r s (λ aiou s. stop (ltb 16 aiou) (refused Form) (readCount aiou s)) ≡ said book rest → headSound book ≡ true
     aiou s (reading.Refused r) e = let w : _≡_ {A = ℕ} 0 1 = cc in absurd (omega arith)
     aiou s (reading.Number x n) e = count-head x (drop n s) book rest (passed (ltb 16 x) Form (readCount x (drop n s)) book rest e .1)
 
-    go : (r : Read) → behind r s (λ f s. stop (not (eqb f 1)) Form (readAiou s)) ≡ said book rest → headSound book ≡ true
+    go : (r : Read) → behind r s (λ f s. stop (not (eqb f 1)) (refused Form) (readAiou s)) ≡ said book rest → headSound book ≡ true
     go (reading.Refused r) e = let w : _≡_ {A = ℕ} 0 1 = cc in absurd (omega arith)
     go (reading.Number x n) e = aiou (drop n s) (readGroups (drop n s)) (passed (not (eqb x 1)) Form (readAiou (drop n s)) book rest e .1)
 
@@ -179,30 +173,28 @@ walk-end s n at i least end p h =
     record { list = w .list; is = w .is; there = p .there }
 
 module _ (s : List ℕ) (n at i least end : ℕ) (p : Walking s n at i least end) (h : i < n) (v : Next) (e : v ≡ nextOf s end) where
-  first : readAreas (n - i) least (drop end s) ≡ number (drop end s) (λ a rest. stop (not (fits (n - i - 1) least a)) Form (withArea a (readAreas (n - (i + 1)) (suc (sf031 a)) rest)))
+  first : readAreas (n - i) least (drop end s) ≡ number (drop end s) (λ a rest. stop (not (fits (n - i - 1) least a)) (refused Form) (withArea a (readAreas (n - (i + 1)) (suc (sf031 a)) rest)))
   unfolding readAreas
   first =
       let m : n - i - 1 ≡ n - (i + 1) = omega arith in
       ap (λ k. readAreas k least (drop end s)) {x = n - i} {y = suc (n - (i + 1))} (omega arith)
-      ∙ ap (λ m. number (drop end s) (λ a rest. stop (not (fits m least a)) Form (withArea a (readAreas (n - (i + 1)) (suc (sf031 a)) rest)))) (sym m)
+      ∙ ap (λ m. number (drop end s) (λ a rest. stop (not (fits m least a)) (refused Form) (withArea a (readAreas (n - (i + 1)) (suc (sf031 a)) rest)))) (sym m)
 
   pub walk-refused : (r : Refusal) → v ≡ next.Refused r → readAreas n 0 (drop at s) ≡ refused r
   walk-refused r q = p .off r (first ∙ step-off s end v e _ r q)
 
   module _ (x to : ℕ) (q : v ≡ next.Number x to) (b : Bool) (eb : b ≡ fits (n - i - 1) least x) where
-    one : readAreas (n - i) least (drop end s) ≡ stop (not b) Form (withArea x (readAreas (n - (i + 1)) (suc (sf031 x)) (drop to s)))
-    one =
-        first ∙ step-on s end v e (λ a rest. stop (not (fits (n - i - 1) least a)) Form (withArea a (readAreas (n - (i + 1)) (suc (sf031 a)) rest))) x to q
-        ∙ ap (λ b. stop (not b) Form (withArea x (readAreas (n - (i + 1)) (suc (sf031 x)) (drop to s)))) (sym eb)
+    abbrev further : ℕ → List ℕ → Said (List ℕ)
+    further a rest = withArea a (readAreas (n - (i + 1)) (suc (sf031 a)) rest)
 
     pub walk-form : not b ≡ true → readAreas n 0 (drop at s) ≡ refused Form
-    walk-form k = p .off Form (one ∙ ap (λ b. stop b Form (withArea x (readAreas (n - (i + 1)) (suc (sf031 x)) (drop to s)))) k)
+    walk-form k = p .off Form (first ∙ step-form s end v e (λ a. not (fits (n - i - 1) least a)) further x to q (ap not (sym eb) ∙ k))
 
     pub walk-turn : not b ≡ false → (d w : ℕ) → d ≡ sf031 x → w ≡ d → w < 256 → Walking s n at (i + 1) (w + 1) to
     walk-turn k d w ed ew small =
         let same : suc (sf031 x) ≡ w + 1 = ap suc (sym (ew ∙ ed)) ∙ omega arith in
         let all : readAreas (n - i) least (drop end s) ≡ withArea x (readAreas (n - (i + 1)) (w + 1) (drop to s))
-        = one ∙ ap (λ b. stop b Form (withArea x (readAreas (n - (i + 1)) (suc (sf031 x)) (drop to s)))) k
+        = first ∙ step-past s end v e (λ a. not (fits (n - i - 1) least a)) further x to q (ap not (sym eb) ∙ k)
         ∙ ap (λ j. withArea x (readAreas (n - (i + 1)) j (drop to s))) same in
         record {
           inside = omega arith;
@@ -273,7 +265,7 @@ module _ (s bytes₀ : List ℕ) (n at i end : ℕ) (bytes : List ℕ) (fits₀ 
       ∙ ap (λ o. storedBy o bytes₀) (sym (p .all .is))
 
   module _ (h : i < n) (v : Next) (e : v ≡ nextOf s end) where
-    opened : number (drop end s) (λ a rest. stop (not (fits (n - (i + 1)) (p .least) a)) Form (withArea a (readAreas (n - (i + 1)) (suc (sf031 a)) rest))) ≡ said (p .left) (p .all .rest)
+    opened : number (drop end s) (λ a rest. stop (not (fits (n - (i + 1)) (p .least) a)) (refused Form) (withArea a (readAreas (n - (i + 1)) (suc (sf031 a)) rest))) ≡ said (p .left) (p .all .rest)
     unfolding readAreas
     opened = ap (λ k. readAreas k (p .least) (drop end s)) {x = suc (n - (i + 1))} {y = n - i} (omega arith) ∙ p .reads
 
@@ -283,9 +275,9 @@ module _ (s bytes₀ : List ℕ) (n at i end : ℕ) (bytes : List ℕ) (fits₀ 
     pub store-turn : (x to : ℕ) → v ≡ next.Number x to → (z : List ℕ) → z ≡ putAt bytes (6 * i) x → Storing s bytes₀ n at (i + 1) to z
     store-turn x to q z ez =
         go (not (fits (n - (i + 1)) (p .least) x)) (readAreas (n - (i + 1)) (suc (sf031 x)) (drop to s)) refl
-        (sym (step-on s end v e (λ a rest. stop (not (fits (n - (i + 1)) (p .least) a)) Form (withArea a (readAreas (n - (i + 1)) (suc (sf031 a)) rest))) x to q) ∙ opened)
+        (sym (step-on s end v e (λ a rest. stop (not (fits (n - (i + 1)) (p .least) a)) (refused Form) (withArea a (readAreas (n - (i + 1)) (suc (sf031 a)) rest))) x to q) ∙ opened)
       where
-        go : (b : Bool) (o : Said (List ℕ)) → readAreas (n - (i + 1)) (suc (sf031 x)) (drop to s) ≡ o → stop b Form (withArea x o) ≡ said (p .left) (p .all .rest) → Storing s bytes₀ n at (i + 1) to z
+        go : (b : Bool) (o : Said (List ℕ)) → readAreas (n - (i + 1)) (suc (sf031 x)) (drop to s) ≡ o → stop b (refused Form) (withArea x o) ≡ said (p .left) (p .all .rest) → Storing s bytes₀ n at (i + 1) to z
         go true o y w = let w′ : _≡_ {A = ℕ} 0 1 = cc in absurd (omega arith)
         go false (refused r) y w = let w′ : _≡_ {A = ℕ} 0 1 = cc in absurd (omega arith)
         go false (said l rest) y w =

@@ -1,10 +1,11 @@
 -- Document 01, "Log and kept book": the kept book. Definitions to believe.
-use mathlib.Core.Bool.{Bool, true, false, cond, not, _&&_, _||_}
+use mathlib.Core.Bool.{Bool, not, _&&_, _||_}
 use mathlib.Core.List.{List, [], _∷_, _++_}
 use Prim.Native.Nat.{ℕ, zero, suc, _+_, _*_}
 use lib.Dec.{leb, ltb, eqb}
 use lib.ListN.{length, drop}
 use Rattle.answer.specs.Number.{numberOf}
+use Rattle.answer.specs.Stop.{stop}
 use Rattle.answer.specs.declared.Refusal.{Refusal}
 use Rattle.answer.specs.declared.Refusal.the-variants.{Room, State, Form, Leftover}
 use Rattle.area.specs.Area.{sf031, isArea}
@@ -36,14 +37,14 @@ noRoom s out = ltb (length s) bookBytes || ltb (length out) keptRoom
 
 unfoldable pub written : Book → List ℕ → List ℕ → Written
 written book s out =
-    cond (noRoom s out) (writing.Refused Room)
-    (cond (not (sound book s)) (writing.Refused State)
+    stop (noRoom s out) (writing.Refused Room)
+    (stop (not (sound book s)) (writing.Refused State)
     (writing.Bytes (length (keptBytes book s))))
 
 unfoldable pub outAfter : Book → List ℕ → List ℕ → List ℕ
 outAfter book s out =
-    cond (noRoom s out) out
-    (cond (not (sound book s)) out
+    stop (noRoom s out) out
+    (stop (not (sound book s)) out
     (keptBytes book s ++ drop (length (keptBytes book s)) out))
 
 abbrev pub numberOfWritten : Written → ℕ
@@ -56,10 +57,6 @@ numberOfWritten (writing.Refused refusal) = numberOf refusal
 pub data Said (A : Type 0) : Type 0 where
   said : (value : A) (rest : List ℕ) → Said A
   refused : Refusal → Said A
-
-abbrev pub stop : {A : Type 0} → Bool → Refusal → Said A → Said A
-stop true r rest = refused r
-stop false r rest = rest
 
 -- the first number, and what is to be read behind it: "SHORT or FORM (a number not in shortest form, ..)"
 abbrev pub behind : {A : Type 0} → Read → List ℕ → (ℕ → List ℕ → Said A) → Said A
@@ -79,19 +76,19 @@ withArea a (refused r) = refused r
 
 unfoldable pub readAreas : ℕ → ℕ → List ℕ → Said (List ℕ)
 readAreas zero least s = said [] s
-readAreas (suc n) least s = number s (λ a rest. stop (not (fits n least a)) Form (withArea a (readAreas n (suc (sf031 a)) rest)))
+readAreas (suc n) least s = number s (λ a rest. stop (not (fits n least a)) (refused Form) (withArea a (readAreas n (suc (sf031 a)) rest)))
 
 -- form number, AIOU + 1, count: the head of a sound book
 unfoldable pub readCount : ℕ → List ℕ → Said Book
 readCount aiou s =
-    number s (λ count s. stop (not (headSound (bookOf aiou count))) Form
+    number s (λ count s. stop (not (headSound (bookOf aiou count))) (refused Form)
     (said (bookOf aiou count) s))
 
 unfoldable pub readAiou : List ℕ → Said Book
-readAiou s = number s (λ aiou s. stop (ltb 16 aiou) Form (readCount aiou s))
+readAiou s = number s (λ aiou s. stop (ltb 16 aiou) (refused Form) (readCount aiou s))
 
 unfoldable pub readHead : List ℕ → Said Book
-readHead s = number s (λ f s. stop (not (eqb f form)) Form (readAiou s))
+readHead s = number s (λ f s. stop (not (eqb f form)) (refused Form) (readAiou s))
 
 -- a book and its areas, and then LEFTOVER
 pub data Outcome : Type 0 where
@@ -109,7 +106,7 @@ behindHead (refused r) = not-kept r
 
 -- "Reading checks ROOM, then the first fault in reading order, SHORT or FORM .., then LEFTOVER."
 unfoldable pub readKept : List ℕ → List ℕ → Outcome
-readKept s bytes = cond (ltb (length bytes) bookBytes) (not-kept Room) (behindHead (readHead s))
+readKept s bytes = stop (ltb (length bytes) bookBytes) (not-kept Room) (behindHead (readHead s))
 
 -- what `read_kept` answers, and what it leaves of the lent bytes: six bytes an area
 abbrev pub answerOf : Outcome → ReadKept

@@ -1,6 +1,6 @@
 -- The two round trips of the kept book: what is written reads back as that book, and what reads is, written again, the same bytes. Proved; assumes nothing.
 use mathlib.Core.Path.{_≡_, refl, ap, ap₂, sym, _∙_, subst}
-use mathlib.Core.Bool.{Bool, true, false, cond, not, _&&_}
+use mathlib.Core.Bool.{Bool, true, false, not, _&&_}
 use mathlib.Core.List.{List, [], _∷_, _++_, append-assoc, append-nil}
 use Prim.Native.Nat.{ℕ, zero, suc, _+_, _-_, _^_, _≤_, _<_}
 use native.Mathlib.Omega.{arith}
@@ -8,6 +8,7 @@ use lib.Dec.{leb, ltb, eqb}
 use lib.ListN.{length, drop}
 use lib.Seq.{drop-append-seam}
 use borrow.Author.Tests.{le-leb, le-ltb, not-false, eqb-true}
+use Rattle.answer.specs.Stop.{stop}
 use Rattle.answer.specs.declared.Refusal.{Refusal}
 use Rattle.answer.specs.declared.Refusal.the-variants.{Room, Form}
 use Rattle.bits.specs.Bits.{Bytes}
@@ -21,7 +22,7 @@ use Rattle.groups.specs.Groups.{groupsOf, groupsOfAll, readGroups}
 use Rattle.groups.specs.Laws.{read-written, written-read}
 use Rattle.groups.specs.declared.Read.{Read}
 use Rattle.groups.specs.declared.Read.the-variants as reading
-use Rattle.kept.specs.Kept.{form, keptOf, keptBytes, Said, said, refused, stop, behind, number, fits, withArea, readAreas, readCount, readAiou, readHead, kept, not-kept, whole, behindHead, readKept}
+use Rattle.kept.specs.Kept.{form, keptOf, keptBytes, Said, said, refused, behind, number, fits, withArea, readAreas, readCount, readAiou, readHead, kept, not-kept, whole, behindHead, readKept}
 
 -- ---- written and read
 
@@ -38,13 +39,13 @@ areas-read : (l t : List ℕ) (least : ℕ) → Ascending least l → Areas l �
 unfolding readAreas groupsOfAll
 areas-read [] t least p q = refl
 areas-read (a ∷ l) t least (Ascending.more k s p) (Areas.more g q) =
-    let next : ℕ → List ℕ → Said (List ℕ) = λ a rest. stop (not (fits (length l) least a)) Form (withArea a (readAreas (length l) (suc (sf031 a)) rest)) in
+    let next : ℕ → List ℕ → Said (List ℕ) = λ a rest. stop (not (fits (length l) least a)) (refused Form) (withArea a (readAreas (length l) (suc (sf031 a)) rest)) in
     let low : leb least (sf031 a) ≡ true = le-leb _ _ k in
     let high : leb (sf031 a + length l) 255 ≡ true = le-leb (sf031 a + length l) 255 (omega (arith, ids-left l (suc (sf031 a)) (omega arith) p)) in
     let good : fits (length l) least a ≡ true = ap₂ (λ x y. x && y) low (ap₂ (λ x y. x && y) high g) in
     ap (λ s. number s next) (append-assoc (groupsOf a) (groupsOfAll l) t)
     ∙ number-said a (groupsOfAll l ++ t) next (omega arith)
-    ∙ ap (λ b. stop (not b) Form (withArea a (readAreas (length l) (suc (sf031 a)) (groupsOfAll l ++ t)))) good
+    ∙ ap (λ b. stop (not b) (refused Form) (withArea a (readAreas (length l) (suc (sf031 a)) (groupsOfAll l ++ t)))) good
     ∙ ap (withArea a) (areas-read l t (suc (sf031 a)) p q)
 
 -- What is written reads back as that book: a sound head, and so many areas, ascending.
@@ -55,15 +56,15 @@ written-reads book l bytes h e n p q =
     let parts = head-parts book e in
     let t : List ℕ = groupsOfAll l in
     let three : ℕ → List ℕ → Said Book
-    = λ count s. stop (not (headSound (bookOf (book .«aiou_plus_one») count))) Form (said (bookOf (book .«aiou_plus_one») count) s) in
+    = λ count s. stop (not (headSound (bookOf (book .«aiou_plus_one») count))) (refused Form) (said (bookOf (book .«aiou_plus_one») count) s) in
     let z : ltb (length bytes) bookBytes ≡ false = le-ltb _ _ h in
     let y : ltb 16 (book .«aiou_plus_one») ≡ false = le-ltb 16 (book .«aiou_plus_one») (parts .0) in
     let head : readHead (groupsOf 1 ++ (groupsOf (book .«aiou_plus_one») ++ (groupsOf (book .count) ++ t))) ≡ said book t
-    = number-said 1 (groupsOf (book .«aiou_plus_one») ++ (groupsOf (book .count) ++ t)) (λ f s. stop (not (eqb f form)) Form (readAiou s)) (omega arith)
-    ∙ number-said (book .«aiou_plus_one») (groupsOf (book .count) ++ t) (λ aiou s. stop (ltb 16 aiou) Form (readCount aiou s)) (omega arith)
-    ∙ ap (λ b. stop b Form (readCount (book .«aiou_plus_one») (groupsOf (book .count) ++ t))) y
+    = number-said 1 (groupsOf (book .«aiou_plus_one») ++ (groupsOf (book .count) ++ t)) (λ f s. stop (not (eqb f form)) (refused Form) (readAiou s)) (omega arith)
+    ∙ number-said (book .«aiou_plus_one») (groupsOf (book .count) ++ t) (λ aiou s. stop (ltb 16 aiou) (refused Form) (readCount aiou s)) (omega arith)
+    ∙ ap (λ b. stop b (refused Form) (readCount (book .«aiou_plus_one») (groupsOf (book .count) ++ t))) y
     ∙ number-said (book .count) t three (omega arith)
-    ∙ ap (λ b. stop (not b) Form (said book t)) e in
+    ∙ ap (λ b. stop (not b) (refused Form) (said book t)) e in
     let areas : readAreas (book .count) 0 t ≡ said l []
     = ap₂ (λ n t. readAreas n 0 t) (sym n) (sym (append-nil t)) ∙ areas-read l [] 0 p q in
     rw z (ap behindHead head ∙ ap (whole book) areas)
@@ -93,7 +94,7 @@ begins {A} s k v rest b = go (readGroups s) refl
     go (reading.Refused r) p e = let w : _≡_ {A = ℕ} 0 1 = cc in absurd (omega arith)
 
 -- a test was passed
-pub passed : {A : Type 0} (b : Bool) (r : Refusal) (o : Said A) (v : A) (rest : List ℕ) → stop b r o ≡ said v rest → (b ≡ false) × (o ≡ said v rest)
+pub passed : {A : Type 0} (b : Bool) (r : Refusal) (o : Said A) (v : A) (rest : List ℕ) → stop b (refused r) o ≡ said v rest → (b ≡ false) × (o ≡ said v rest)
 passed true r o v rest e = let w : _≡_ {A = ℕ} 0 1 = cc in absurd (omega arith)
 passed false r o v rest e = (refl, e)
 
@@ -104,7 +105,7 @@ areas-written zero least s l rest b e =
     let y : s ≡ rest = cc in
     ap₂ (λ l r. groupsOfAll l ++ r) x y
 areas-written (suc n) least s l rest b e =
-    let g : Begins s (λ a rest. stop (not (fits n least a)) Form (withArea a (readAreas n (suc (sf031 a)) rest))) l rest = begins s _ l rest b e in
+    let g : Begins s (λ a rest. stop (not (fits n least a)) (refused Form) (withArea a (readAreas n (suc (sf031 a)) rest))) l rest = begins s _ l rest b e in
     g .is ∙ go (g .x) (g .behind-it) (readAreas n (suc (sf031 (g .x))) (g .behind-it)) refl
     (passed (not (fits n least (g .x))) Form (withArea (g .x) (readAreas n (suc (sf031 (g .x))) (g .behind-it))) l rest (g .reads) .1)
     (λ m q. areas-written n (suc (sf031 (g .x))) (g .behind-it) m rest (g .bytes) q)
@@ -122,7 +123,7 @@ count-written : (aiou : ℕ) (s : List ℕ) (book : Book) (rest : List ℕ) → 
 unfolding readCount
 count-written aiou s book rest b e =
     let k : ℕ → List ℕ → Said Book
-    = λ count s. stop (not (headSound (bookOf aiou count))) Form (said (bookOf aiou count) s) in
+    = λ count s. stop (not (headSound (bookOf aiou count))) (refused Form) (said (bookOf aiou count) s) in
     let g : Begins s k book rest = begins s k book rest b e in
     go (g .x) (g .behind-it) (g .is) (g .bytes) (passed (not (headSound (bookOf aiou (g .x)))) Form _ book rest (g .reads) .1)
   where
@@ -149,18 +150,18 @@ read-writes s bytes book l b e = room (ltb (length bytes) bookBytes) e
     found : (o : Said Book) → readHead s ≡ o → behindHead o ≡ kept book l → groupsOf 1 ++ (groupsOf (book .«aiou_plus_one») ++ (groupsOf (book .count) ++ groupsOfAll l)) ≡ s
     found (refused r) p q = let w : _≡_ {A = ℕ} 0 1 = cc in absurd (omega arith)
     found (said bk t) p q =
-        let g₁ : Begins s (λ f s. stop (not (eqb f form)) Form (readAiou s)) bk t = begins s (λ f s. stop (not (eqb f form)) Form (readAiou s)) bk t b p in
+        let g₁ : Begins s (λ f s. stop (not (eqb f form)) (refused Form) (readAiou s)) bk t = begins s (λ f s. stop (not (eqb f form)) (refused Form) (readAiou s)) bk t b p in
         let w₁ = passed (not (eqb (g₁ .x) 1)) Form (readAiou (g₁ .behind-it)) bk t (g₁ .reads) in
         let one : g₁ .x ≡ 1 = eqb-true (g₁ .x) 1 (not-false (eqb (g₁ .x) 1) (w₁ .0)) in
-        let g₂ : Begins (g₁ .behind-it) (λ aiou s. stop (ltb 16 aiou) Form (readCount aiou s)) bk t
-        = begins (g₁ .behind-it) (λ aiou s. stop (ltb 16 aiou) Form (readCount aiou s)) bk t (g₁ .bytes) (w₁ .1) in
+        let g₂ : Begins (g₁ .behind-it) (λ aiou s. stop (ltb 16 aiou) (refused Form) (readCount aiou s)) bk t
+        = begins (g₁ .behind-it) (λ aiou s. stop (ltb 16 aiou) (refused Form) (readCount aiou s)) bk t (g₁ .bytes) (w₁ .1) in
         let w₂ = passed (ltb 16 (g₂ .x)) Form (readCount (g₂ .x) (g₂ .behind-it)) bk t (g₂ .reads) in
         let c = count-written (g₂ .x) (g₂ .behind-it) bk t (g₂ .bytes) (w₂ .1) in
         let f = areas (bk .count) t (readAreas (bk .count) 0 t) refl (c .2) bk q in
         sym (g₁ .is ∙ ap₂ (λ x u. groupsOf x ++ u) one (g₂ .is ∙ ap₂ (λ a u. groupsOf a ++ u) (c .1 ∙ ap (λ (b : Book). b .«aiou_plus_one») (f .0))
         (c .0 ∙ ap₂ (λ n u. groupsOf n ++ u) (ap (λ (b : Book). b .count) (f .0)) (f .1))))
 
-    room : (z : Bool) → cond z (not-kept Room) (behindHead (readHead s)) ≡ kept book l
+    room : (z : Bool) → stop z (not-kept Room) (behindHead (readHead s)) ≡ kept book l
         → groupsOf 1 ++ (groupsOf (book .«aiou_plus_one») ++ (groupsOf (book .count) ++ groupsOfAll l)) ≡ s
     room true q = let w : _≡_ {A = ℕ} 0 1 = cc in absurd (omega arith)
     room false q = found (readHead s) refl q

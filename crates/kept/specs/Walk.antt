@@ -5,7 +5,9 @@ use Prim.Native.Nat.{ℕ, _+_, _-_, _*_, _≤_}
 use native.Mathlib.Omega.{arith}
 use lib.ListN.{length, drop, length-drop}
 use lib.Seq.{drop-drop}
+use Rattle.answer.specs.Stop.{stop}
 use Rattle.answer.specs.declared.Refusal.{Refusal}
+use Rattle.answer.specs.declared.Refusal.the-variants.{Form}
 use mathlib.Core.Bool.{Bool, true, false}
 use Rattle.book.specs.Book.{bytesOfAll}
 use Rattle.book.specs.declared.Book.{Book}
@@ -76,6 +78,17 @@ module _ {A : Type 0} (s : List ℕ) (at : ℕ) (v : Next) (e : v ≡ nextOf s a
       go : (w : Read) → nextBy w at ≡ next.Refused r → behind w (drop at s) k ≡ refused r
       go (reading.Number y n) z = let w : _≡_ {A = ℕ} 0 1 = cc in absurd (omega arith)
       go (reading.Refused t) z = let w : t ≡ r = cc in ap refused w
+
+-- a number that is to pass a test
+module _ {A : Type 0} (s : List ℕ) (at : ℕ) (v : Next) (e : v ≡ nextOf s at) (test : ℕ → Bool) (k : ℕ → List ℕ → Said A) (x end : ℕ) (q : v ≡ next.Number x end) where
+  tested : (b : Bool) → test x ≡ b → number (drop at s) (λ y t. stop (test y) (refused Form) (k y t)) ≡ stop b (refused Form) (k x (drop end s))
+  tested b w = step-on s at v e (λ y t. stop (test y) (refused Form) (k y t)) x end q ∙ ap (λ b. stop b (refused Form) (k x (drop end s))) w
+
+  pub step-form : test x ≡ true → number (drop at s) (λ y t. stop (test y) (refused Form) (k y t)) ≡ refused Form
+  step-form w = tested true w
+
+  pub step-past : test x ≡ false → number (drop at s) (λ y t. stop (test y) (refused Form) (k y t)) ≡ k x (drop end s)
+  step-past w = tested false w
 
 pub read-le : (s : List ℕ) (x n : ℕ) → readGroups s ≡ reading.Number x n → n ≤ length s
 read-le s x n e = subst (λ n. n ≤ length s) (is-read s x n e .is-size) (size-le s)

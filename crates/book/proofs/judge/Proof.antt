@@ -1,6 +1,5 @@
 -- `judge`: the areas held after the blocks judged so far answer as the book and those blocks do, and what is left is to be answered from them.
 use Prim.Native.Nat.{_-_}
-use native.Mathlib.Omega.{arith}
 use Rattle.book.proofs.Taking.{JudgingBlocks, judge-start, judge-end, judge-refused, judge-turn}
 use borrow.Author.Needs.{needs}
 use Rattle.book.proofs.judge.Statement.{statement}

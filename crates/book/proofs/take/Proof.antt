@@ -1,4 +1,4 @@
--- `take`: the tests are those of `outcome`, in its order; what its layout says of a payload is what its bits say (`gad-reads`).
+-- `take`: the tests are those of `outcome`, in its order; what the reader accepts stands at the bits that the code reads (`gad-at-bits`).
 use Rattle.book.proofs.Payloads.{take-room, left-room, take-state, left-state, take-sound, take-there, take-fault, left-fault, take-blocks, left-blocks}
 use borrow.Author.Needs.{needs}
 use Rattle.book.proofs.take.Statement.{statement}
@@ -16,8 +16,8 @@ same-length c = search needs
 returns-2 : tie.Need-returns-2
 returns-2 c = search (take-state, left-state, needs)
 
-payload-verdict-requires : tie.Need-payload-verdict-requires
-payload-verdict-requires c κs = search needs
+judge-requires : tie.Need-judge-requires
+judge-requires c κs = search needs
 
 enum-known-refusal : tie.Need-enum-known-refusal
 enum-known-refusal c = search needs
@@ -48,7 +48,7 @@ take-spec =
     is-sound-requires
     same-length
     returns-2
-    payload-verdict-requires
+    judge-requires
     enum-known-refusal
     enum-told
     take-blocks-requires

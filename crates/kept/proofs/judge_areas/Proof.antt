@@ -1,6 +1,5 @@
 -- `judge_areas`: what is still to be read decides what all is (Walking.antt).
 use Prim.Native.Nat.{_-_}
-use native.Mathlib.Omega.{arith}
 use Rattle.kept.proofs.Walking.{Walking, walk-start, walk-end, walk-refused, walk-form, walk-turn}
 use borrow.Author.Needs.{needs}
 use Rattle.kept.proofs.judge_areas.Statement.{statement}
