@@ -1,59 +1,60 @@
--- The turns of the search in a GAD sheet, worded as the code makes its tests.
-use mathlib.Core.Path.{_≡_, ap, sym, _∙_, subst}
+-- The answers of gadarea.rt: what the machine finds is the first block with the ID, and each answer of the code, worded as the code makes its tests.
+use mathlib.Core.Path.{_≡_, refl, ap, sym, _∙_}
 use mathlib.Core.List.{List}
-use Prim.Native.Nat.{ℕ, _+_, _-_, _^_, _≤_, _<_}
-use native.Mathlib.Omega.{arith}
-use lib.ListN.{length, getD}
+use Prim.Native.Nat.{ℕ}
+use Rattle.answer.specs.declared.Refusal.{Refusal}
 use Rattle.gad.specs.Gad as gad
+use Rattle.fields.specs.Fields.{sf}
 use Rattle.layout.specs.Layout.{done}
-use Rattle.layout.specs.Reaches.{Holds, reaches-holds}
-use Rattle.message.specs.Messages.{Message, gadMessage, gadLayout}
+use Rattle.layout.specs.Reaches.{Holds}
+use Rattle.layout.specs.Walks.{Walks}
+use Rattle.message.specs.declared.State.{State}
+use Rattle.message.specs.Machine.{fieldOf, stepOf}
+use Rattle.message.specs.Messages.{gadMessage, gadLayout}
 use Rattle.views.specs.declared.gadarea.GadArea.{GadArea}
 use Rattle.views.specs.declared.gadarea.GadAnswer.{GadAnswer}
-use Rattle.views.specs.declared.gadarea.GadAnswer.the-variants.{Is, Absent}
-use Rattle.views.specs.Gads.{gadBlocks, gadArea, firstGad}
-use Rattle.views.specs.GadPlaces.{blockAt, reaches-block, reaches-gad-blocks, gad-blocks}
-use Rattle.views.specs.Looking.{Blocks, Looking, look-inside, look-found, look-none, look-on}
+use Rattle.views.specs.declared.gadarea.GadAnswer.the-variants.{Is, Absent, Refused}
+use Rattle.views.specs.declared.places.Found.{Found}
+use Rattle.views.specs.declared.places.Found.the-variants as finding
+use Rattle.views.specs.declared.places.Opened.{Opened}
+use Rattle.views.specs.declared.places.Opened.the-variants as opening
+use Rattle.views.specs.declared.places.Place.{Place}
+use Rattle.views.specs.Along.{headed, goes-finds, finds-first}
+use Rattle.views.specs.AlongGad.{gadSeen, gadFound, over-block, over-head}
+use Rattle.views.specs.Gads.{gadBlocks, gadArea, firstGad, gadAnswerOf}
+use Rattle.views.specs.Places.{opened, codeAt, found}
+use Rattle.views.specs.Taken.{openedAs, opens}
 
-abbrev gads : (sheet : List ℕ) → Blocks Message gad.Block GadAnswer sheet
-gads sheet =
-    record {
-      part = gad.block;
-      what = blockAt sheet;
-      idOf = λ (b : gad.Block). b .id;
-      entries = λ b. 7;
-      view = λ at b. Is (gadArea b);
-      none = Absent;
-      walks = reaches-block;
-    }
+gad-finds : (id : ℕ) (sheet : List ℕ) (s : State) → Walks fieldOf stepOf s gadLayout → Holds gadLayout sheet 0
+    → gadFound sheet (found 31 id sheet (record { state = s; at = 0 })) ≡ firstGad id (gadBlocks sheet)
+unfolding sf
+gad-finds id sheet s w h =
+    let shown : (at : ℕ) (code : (sf before : ℕ) → ℕ) → GadAnswer = λ at code. Is (gadSeen code) in
+    let said : gad.Gad → GadAnswer = λ b. firstGad id (b .blocks) in
+    over-head (goes-finds sheet 31 id Absent shown said) (λ b. done (gadMessage b)) (λ b. done b) (λ n body e.
+    finds-first sheet 31 id Absent shown said gad.block gad.block (λ (b : gad.Block). b .id) (λ b. 7) (λ at b. Is (gadArea b))
+    (λ Q g k k' at f rest. over-block g k k' at f (λ x to i e v met. rest x to i e (ap Is v)))
+    (λ k. headed refl)
+    n (λ bs. gadMessage (body bs)) body 4 (λ bs. ap (firstGad id) (e bs))) s w h
 
-abbrev pub GadTurn : (id : ℕ) (sheet : List ℕ) (left at : ℕ) → Type 0
-GadTurn id sheet left at = Looking (gads sheet) id (firstGad id (gadBlocks sheet)) left at
+module _ (id : ℕ) (sheet : List ℕ) where
+  abbrev look : Place → GadAnswer
+  look p = gadFound sheet (found 31 id sheet p)
 
-pub gad-first : (id : ℕ) (sheet : List ℕ) (left : ℕ) → Holds gadLayout sheet 0 → left ≡ getD sheet 3 0 → GadTurn id sheet left 4
-gad-first id sheet left h e =
-    subst (λ n. GadTurn id sheet n 4) (sym e) (record {
-      after = λ blocks. done (gadMessage (record { siou = getD sheet 0 0; aiou = getD sheet 1 0; blocks = blocks }));
-      holds = reaches-holds (reaches-gad-blocks (λ body. done (gadMessage body))) h;
-      same = ap (firstGad id) (sym (gad-blocks sheet));
-    })
+  gad-answers : openedAs Refused look (opened 2 0 sheet) ≡ gadAnswerOf id sheet
+  unfolding gadAnswerOf
+  gad-answers = opens 2 0 sheet Refused look (firstGad id (gadBlocks sheet)) (gad-finds id sheet)
 
-module _ (id : ℕ) (sheet : List ℕ) (left at : ℕ) (t : GadTurn id sheet left at) where
-  pub gad-inside : at + 7 ≤ length sheet
-  gad-inside = look-inside (gads sheet) id (firstGad id (gadBlocks sheet)) left at t
+  module _ (o : Opened) (e : o ≡ opened 2 0 sheet) where
+    pub gad-refused : (why : Refusal) → o ≡ opening.Refused why → Refused why ≡ gadAnswerOf id sheet
+    gad-refused why q = ap (openedAs Refused look) (sym q ∙ e) ∙ gad-answers
 
-  pub gad-fits : length sheet < 2 ^ 64 → at + 7 < 2 ^ 64
-  gad-fits h = omega (arith, gad-inside)
+    pub gad-said : (p : Place) → o ≡ opening.At p → (wide : ℕ) (r : GadAnswer) → wide ≡ id → r ≡ gadFound sheet (found 31 wide sheet p) → r ≡ gadAnswerOf id sheet
+    gad-said p q wide r i h = h ∙ ap (λ x. gadFound sheet (found 31 x sheet p)) i ∙ ap (openedAs Refused look) (sym q ∙ e) ∙ gad-answers
 
-  pub gad-here : at ≤ length sheet
-  gad-here = omega (arith, gad-inside)
+module _ (sheet : List ℕ) (f x : Found) (e : f ≡ x) where
+  pub gad-absent : f ≡ finding.Nothing → Absent ≡ gadFound sheet x
+  gad-absent q = ap (gadFound sheet) (sym q ∙ e)
 
-  module _ (code : ℕ) (c : code ≡ getD sheet at 0) where
-    pub gad-found : code ≡ id → (a : GadArea) → a ≡ gadArea (blockAt sheet at) → Is a ≡ firstGad id (gadBlocks sheet)
-    gad-found e a q = ap Is q ∙ look-found (gads sheet) id (firstGad id (gadBlocks sheet)) left at t (sym c ∙ e)
-
-    pub gad-none : (code ≡ id → ⊥) → left ≡ 0 → Absent ≡ firstGad id (gadBlocks sheet)
-    gad-none e z = look-none (gads sheet) id (firstGad id (gadBlocks sheet)) left at t (λ x. e (c ∙ x)) z
-
-    pub gad-on : (code ≡ id → ⊥) → (left ≡ 0 → ⊥) → GadTurn id sheet (left - 1) (at + 7)
-    gad-on e z = look-on (gads sheet) id (firstGad id (gadBlocks sheet)) left at t (λ x. e (c ∙ x)) z
+  pub gad-there : (p : Place) → f ≡ finding.At p → (a : GadArea) → a ≡ gadSeen (codeAt sheet p) → Is a ≡ gadFound sheet x
+  gad-there p q a h = ap Is h ∙ ap (gadFound sheet) (sym q ∙ e)

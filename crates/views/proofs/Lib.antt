@@ -1,4 +1,5 @@
 pub mod Entries
+pub mod Seeks
 pub mod Gads
 pub mod Ocbs
 pub mod Calls

@@ -11,7 +11,8 @@ use Rattle.layout.specs.Layout.{judge, writeL}
 use Rattle.layout.specs.Record.{recordFrom}
 use Rattle.sheet.specs.Sheet.{judgingSheet, judgedSheet}
 use Rattle.values.specs.declared.Yaw.the-variants as yaw
-use Rattle.values.specs.Values.{table, find, rowOf, valueOf, countOf, yawOf}
+use Rattle.fields.specs.Fields.{table, find, lineOf, sf}
+use Rattle.values.specs.Values.{valueOf, countOf, yawOf}
 use Rattle.views.specs.First.{first}
 use Rattle.views.specs.Gads.{gadAnswerOf}
 use Rattle.views.specs.Bpacs.{bpacAnswerOf}
@@ -39,16 +40,16 @@ first-satellite : satelliteAnswerOf 1 glonass 0
       clock = clockBlock.Present 1 (inUnit 20 8200) 4;
       bias = biasBlock.Present (record { «phases_at» = 21; phases = 1; «codes_at» = 26; codes = 1 });
     }))
-unfolding satelliteAnswerOf nthFrom judgedSheet judgingSheet writeL judge bitsOf numbered maskSize maskSizes biasSize biasMaskSizes ones onesIn recordFrom yawIn yawOf valueOf rowOf table find
+unfolding satelliteAnswerOf nthFrom judgedSheet judgingSheet writeL judge bitsOf numbered maskSize maskSizes biasSize biasMaskSizes ones onesIn recordFrom yawIn yawOf valueOf sf lineOf find table
 first-satellite = refl
 
 second-satellite : satelliteAnswerOf 1 glonass 1 ≡ satellite.Is 24 OutOfUse
-unfolding satelliteAnswerOf nthFrom judgedSheet judgingSheet writeL judge bitsOf numbered maskSize maskSizes biasSize biasMaskSizes ones onesIn recordFrom
+unfolding satelliteAnswerOf nthFrom judgedSheet judgingSheet writeL judge bitsOf numbered maskSize maskSizes biasSize biasMaskSizes ones onesIn recordFrom sf lineOf find table
 second-satellite = refl
 
 -- past the last
 third-satellite : satelliteAnswerOf 1 glonass 2 ≡ satellite.Refused refusal.Field
-unfolding satelliteAnswerOf nthFrom judgedSheet judgingSheet writeL judge bitsOf numbered maskSize maskSizes biasSize biasMaskSizes ones onesIn recordFrom
+unfolding satelliteAnswerOf nthFrom judgedSheet judgingSheet writeL judge bitsOf numbered maskSize maskSizes biasSize biasMaskSizes ones onesIn recordFrom sf lineOf find table
 third-satellite = refl
 
 -- a GAD of area 7, latitude code 1234
@@ -64,19 +65,19 @@ area-seven : gadAnswerOf 7 seven
       «latitude_spacing» = inUnit 36 9;
       «longitude_spacing» = inUnit 37 9;
     })
-unfolding gadAnswerOf first judgedSheet judgingSheet writeL judge bitsOf recordFrom countIn countOf valueOf rowOf table find
+unfolding gadAnswerOf first judgedSheet judgingSheet writeL judge bitsOf recordFrom countIn countOf valueOf sf lineOf find table
 area-seven = refl
 
 no-area-eight : gadAnswerOf 8 seven ≡ gad.Absent
-unfolding gadAnswerOf first judgedSheet judgingSheet writeL judge bitsOf recordFrom
+unfolding gadAnswerOf first judgedSheet judgingSheet writeL judge bitsOf recordFrom sf lineOf find table
 no-area-eight = refl
 
 -- the sheet ends an entry early
 cut-short : gadAnswerOf 7 (5 ∷ 3 ∷ 0 ∷ 0 ∷ 7 ∷ 1234 ∷ 2000 ∷ 3 ∷ 4 ∷ 9 ∷ []) ≡ gad.Refused refusal.Short
-unfolding gadAnswerOf judgedSheet judgingSheet writeL judge
+unfolding gadAnswerOf judgedSheet judgingSheet writeL judge sf lineOf find table
 cut-short = refl
 
 -- a GAD's sheet is none of BPAC
 not-bpac : bpacAnswerOf 3 seven ≡ bpac.Refused refusal.Field
-unfolding bpacAnswerOf judgedSheet judgingSheet writeL judge bitsOf
+unfolding bpacAnswerOf judgedSheet judgingSheet writeL judge bitsOf sf lineOf find table
 not-bpac = refl

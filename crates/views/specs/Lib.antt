@@ -12,11 +12,12 @@ pub mod ValuesMet
 pub mod AreasMet
 pub mod SatellitesMet
 pub mod Taken
-pub mod Looking
 pub mod Parts
-pub mod GadPlaces
-pub mod HpacPlaces
-pub mod BpacPlaces
+pub mod Places
+pub mod Along
+pub mod AlongGad
+pub mod AlongBpac
+pub mod AlongHpac
 pub mod SatellitePlaces
 pub mod Examples
 pub mod Determined

@@ -10,7 +10,8 @@ use lib.Count.{ones}
 use lib.Dec.{eqb}
 use lib.ListN.{length, getD}
 use Rattle.codes.specs.declared.Constellation.{Constellation}
-use Rattle.codes.specs.Fields.{satellitesOf, yawField, steps}
+use Rattle.codes.specs.Fields.{satellitesOf}
+use Rattle.fields.specs.Fields.{sf}
 use Rattle.layout.specs.Layout.{Layout, done, field, pick}
 use Rattle.layout.specs.Parts.{Part, each}
 use Rattle.layout.specs.Record.{recordFrom, recordOf}
@@ -94,7 +95,7 @@ module _ (sheet : List ℕ) where
 -- ---- the walk
 
 module _ {A : Type 0} {sheet : List ℕ} where
-  reaches-yaw : (at : ℕ) (k : ℕ → Layout A) → Reaches sheet (k (getD sheet at 0)) (at + 1) (field yawField k) at
+  reaches-yaw : (at : ℕ) (k : ℕ → Layout A) → Reaches sheet (k (getD sheet at 0)) (at + 1) (field (sf 21) k) at
   reaches-yaw at k = on (at + 1) (add-one at) here
 
   pub reaches-orbit : (c : Constellation) (yaw at : ℕ) (k : ocb.Orbit → Layout A)
@@ -111,7 +112,7 @@ module _ {A : Type 0} {sheet : List ℕ} where
   reaches-phase : (k : ocb.PhaseBias → Layout A) (at : ℕ) → Reaches sheet (k (phaseAt sheet at)) (at + 3) (ocb.phaseBias k) at
   reaches-phase k at = on (at + 1) (add-one at) (on (at + 2) (add-suc at 1) (on (at + 3) (add-suc at 2) here))
 
-  reaches-code : (k : ℕ → Layout A) (at : ℕ) → Reaches sheet (k (getD sheet at 0)) (at + 1) (field (steps 29 11) k) at
+  reaches-code : (k : ℕ → Layout A) (at : ℕ) → Reaches sheet (k (getD sheet at 0)) (at + 1) (field (sf 29) k) at
   reaches-code k at = on (at + 1) (add-one at) here
 
   reaches-bias : (c : Constellation) (at : ℕ) (k : ocb.Bias → Layout A)

@@ -10,10 +10,10 @@ use lib.Dec.{eqb, leb}
 use lib.ListN.{getD}
 use Rattle.answer.specs.declared.Refusal.the-variants as refusal
 use Rattle.codes.specs.declared.Constellation.{Constellation}
-use Rattle.codes.specs.Fields.{correction, yawField}
+use Rattle.fields.specs.Fields.{yaw, sixfold, table, find, lineOf, sf}
 use Rattle.layout.specs.declared.Verdict.the-variants.{Taken}
 use Rattle.layout.specs.Layout.{Layout, done, field, pick, judge}
-use Rattle.layout.specs.Parts.{Part, absent, present, optional}
+use Rattle.layout.specs.Parts.{Part, present, optional}
 use Rattle.layout.specs.Reaches.{Holds, here, on, reaches-holds, reaches-to, partIf}
 use Rattle.message.specs.Messages.{ocbMessage, ocbLayout, byConstellation, constellationOf}
 use Rattle.ocb.specs.Ocb as ocb
@@ -23,19 +23,16 @@ use Rattle.values.specs.declared.Value.the-variants.{OfYaw, Refused}
 use Rattle.values.specs.declared.Yaw.the-variants as yaws
 use Rattle.values.specs.declared.YawAnswer.the-variants as yawAnswer
 use Rattle.values.specs.Values as values
-use Rattle.values.specs.Values.{yaw, sixfold, table, find, rowOf, meant, valueOf, yawBy, yawOf}
+use Rattle.values.specs.Values.{meant, valueOf, yawBy, yawOf}
+use Rattle.views.specs.Along.{EachOf, PartMet, not-there, there}
 use Rattle.views.specs.Entries.{entriesOf}
-use Rattle.views.specs.Met.{hasValue, plain, agree-top}
+use Rattle.views.specs.Met.{hasValue}
 use Rattle.views.specs.Parts.{reaches-part}
 use Rattle.views.specs.Satellites.{orbitEntries, satellitesIn}
 use Rattle.views.specs.SatellitePlaces.{orbitAt, clockAt, orbitOf, clockStart, blocksAt, satelliteFrom, satelliteEnd, numbersIn, bodyOf, reaches-orbit, reaches-satellite, reaches-satellites, satellites-in}
 use Rattle.views.specs.Taken.{taken-holds}
 use Rattle.views.specs.Units.{yawSaid, yawIn}
-use Rattle.views.specs.ValuesMet.{InMetres, IsYaw, EachOf, At, metres-met, taken-has, each-met}
-
-pub data PartMet {B : Type 0} (P : B → Type 0) : Part B → Type 0 where
-  not-there : PartMet P absent
-  there : {x : B} → P x → PartMet P (present x)
+use Rattle.views.specs.ValuesMet.{InMetres, IsYaw, At, metres-met, taken-has, each-met}
 
 pub part-met : {B : Type 0} (P : B → Type 0) (x : B) (b : Bool) → (b ≡ true → P x) → PartMet P (partIf b x)
 part-met P x true h = there (h refl)
@@ -58,14 +55,14 @@ pub data UseMet : ocb.Use → Type 0 where
 pub record SatelliteMet (s : ocb.Satellite) : Type 0 where
   pub state : UseMet (s .state)
 
-correction-met : (sheet : List ℕ) (at : ℕ) → judge correction (getD sheet at 0) ≡ Taken → InMetres 20 (getD sheet at 0)
-unfolding rowOf table find
-correction-met sheet at j = metres-met (getD sheet at 0) refl (taken-has correction (getD sheet at 0) (plain correction refl refl refl) j)
+correction-met : (sheet : List ℕ) (at : ℕ) → judge (sf 20) (getD sheet at 0) ≡ Taken → InMetres 20 (getD sheet at 0)
+unfolding lineOf find table
+correction-met sheet at j = metres-met 20 (getD sheet at 0) refl (taken-has 20 (getD sheet at 0) refl j)
 
-yaw-met : (code : ℕ) → judge yawField code ≡ Taken → IsYaw code
-unfolding yawIn yawOf valueOf rowOf table find
+yaw-met : (code : ℕ) → judge (sf 21) code ≡ Taken → IsYaw code
+unfolding yawIn yawOf valueOf lineOf find table
 yaw-met code j =
-    let h : hasValue (valueOf 21 code) ≡ true = taken-has yawField code (agree-top yawField 21 6 59 sixfold 1 yaw refl refl refl refl refl) j in
+    let h : hasValue (valueOf 21 code) ≡ true = taken-has 21 code refl j in
     go (leb code 59) (eqb code 63) h
   where
     go : (x y : Bool) → hasValue (values.pick x (meant yaw sixfold 1 code) (values.pick y (OfYaw yaws.Invalid) (Refused refusal.Field))) ≡ true
@@ -93,7 +90,7 @@ module _ {A : Type 0} (sheet : List ℕ) (yaw : ℕ) where
         along = subst (At (InMetres 20) sheet) p2 (correction-met sheet (suc (suc at)) (h .2 .2 .1));
         cross = subst (At (InMetres 20) sheet) p3 (correction-met sheet (suc (suc (suc at))) (h .2 .2 .2 .1));
         yaw = part-met IsYaw (getD sheet (at + 4) 0) (eqb yaw 1) (λ e. subst (At IsYaw sheet) p4
-            (yaw-met (getD sheet (suc (suc (suc (suc at)))) 0) (optional-holds sheet (suc (suc (suc (suc at)))) (field yawField) _ (eqb yaw 1) e (h .2 .2 .2 .2) .1)));
+            (yaw-met (getD sheet (suc (suc (suc (suc at)))) 0) (optional-holds sheet (suc (suc (suc (suc at)))) (field (sf 21)) _ (eqb yaw 1) e (h .2 .2 .2 .2) .1)));
       }
 
   clock-met : (at : ℕ) (k : ocb.Clock → Layout A) → Holds (ocb.clock k) sheet at → ClockMet (clockAt sheet at)

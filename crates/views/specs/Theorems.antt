@@ -1,6 +1,6 @@
 -- Theorems: the views look at the message that the sheet says, whatever the sheet holds, and never at a misread value: the record of each definition (gadBlocks,
 -- hpacAreas, bpacAreas, satellitesIn) is the one that reading the written bits gives, whatever follows them.
-use mathlib.Core.Path.{_≡_, ap, ap₂, sym, _∙_, subst}
+use mathlib.Core.Path.{_≡_, refl, ap, ap₂, sym, _∙_, subst}
 use mathlib.Core.Bool.{Bool, true, false}
 use mathlib.Core.List.{List, [], _∷_, _++_}
 use Prim.Native.Nat.{ℕ, _+_, _*_, _%_}
@@ -12,17 +12,18 @@ use Rattle.codes.specs.declared.Constellation.{Constellation}
 use Rattle.gad.specs.Gad as gad
 use Rattle.hpac.specs.Hpac as hpac
 use Rattle.layout.specs.Layout.{Layout, done, pick, accepted, readL, written, writeL}
-use Rattle.layout.specs.Reaches.{record-reads, many, manyOf, length-many}
+use Rattle.layout.specs.Reaches.{written-holds, record-reads, many, manyOf, length-many}
 use Rattle.layout.specs.Record.{recordOf}
 use Rattle.message.specs.Messages.{Message, ocbMessage, hpacMessage, gadMessage, bpacMessage, ocbLayout, hpacLayout, gadLayout, bpacLayout}
 use Rattle.ocb.specs.Ocb as ocb
-use Rattle.views.specs.GadPlaces.{gad-record}
-use Rattle.views.specs.HpacPlaces.{hpac-record}
-use Rattle.views.specs.BpacPlaces.{bpac-record}
+use Rattle.views.specs.Along.{PartMet}
+use Rattle.views.specs.AlongBpac.{bpac-ends}
+use Rattle.views.specs.AlongGad.{gad-ends}
+use Rattle.views.specs.AlongHpac.{hpac-ends}
 use Rattle.views.specs.Entries.{entriesOf}
 use Rattle.views.specs.SatellitePlaces.{phaseAt, phasesAt, codeMaskAt, codesAt, biasAt, biasStart, blocksAt, stateAt, satelliteFrom, satelliteEnd, numbersIn, satellites-in, ocb-record}
 use Rattle.views.specs.Satellites.{orbitEntries, clockEntries, stateEntries, biasPlaces, satellitesIn}
-use Rattle.views.specs.SatellitesMet.{PartMet, part-met}
+use Rattle.views.specs.SatellitesMet.{part-met}
 
 module _ (sheet bits rest : List ℕ) where
   -- reading gives the message m
@@ -33,13 +34,13 @@ module _ (sheet bits rest : List ℕ) where
   says l m w e = record-reads l sheet bits w rest ∙ ap (λ x. accepted x sheet (length bits)) e
 
   pub gad-says : writeL gadLayout sheet ≡ written bits → Says gadLayout (gadMessage (recordOf (gad.gad done) sheet))
-  gad-says w = says gadLayout _ w (gad-record sheet gadMessage ∙ ap gadMessage (sym (gad-record sheet (λ body. body))))
+  gad-says w = says gadLayout _ w (gad-ends sheet gadMessage (λ m g. m ≡ gadMessage g) (λ g met. refl) (written-holds gadLayout sheet bits w))
 
   pub bpac-says : writeL bpacLayout sheet ≡ written bits → Says bpacLayout (bpacMessage (recordOf (bpac.bpac done) sheet))
-  bpac-says w = says bpacLayout _ w (bpac-record sheet bpacMessage ∙ ap bpacMessage (sym (bpac-record sheet (λ body. body))))
+  bpac-says w = says bpacLayout _ w (bpac-ends sheet bpacMessage (λ m b. m ≡ bpacMessage b) (λ b met. refl) (written-holds bpacLayout sheet bits w))
 
   pub hpac-says : (c : Constellation) → writeL (hpacLayout c) sheet ≡ written bits → Says (hpacLayout c) (hpacMessage c (recordOf (hpac.hpac c done) sheet))
-  hpac-says c w = says (hpacLayout c) _ w (hpac-record c sheet (hpacMessage c) ∙ ap (hpacMessage c) (sym (hpac-record c sheet (λ body. body))))
+  hpac-says c w = says (hpacLayout c) _ w (hpac-ends c sheet (hpacMessage c) (λ m h. m ≡ hpacMessage c h) (λ h. refl) (written-holds (hpacLayout c) sheet bits w))
 
   pub ocb-says : (c : Constellation) → writeL (ocbLayout c) sheet ≡ written bits → Says (ocbLayout c) (ocbMessage c (recordOf (ocb.ocb c done) sheet))
   ocb-says c w = says (ocbLayout c) _ w (ocb-record c sheet (ocbMessage c) ∙ ap (ocbMessage c) (sym (ocb-record c sheet (λ body. body))))

@@ -2,38 +2,51 @@
 use mathlib.Core.Path.{_≡_, refl, ap, sym, _∙_}
 use mathlib.Core.Bool.{Bool, true, false}
 use mathlib.Core.List.{List, [], _∷_}
-use Prim.Native.Nat.{ℕ, zero, suc, _-_, _^_}
+use Prim.Native.Nat.{ℕ}
 use native.Mathlib.Omega.{arith}
 use lib.Dec.{eqb, leb}
 use lib.ListN.{getD}
-use Rattle.layout.specs.declared.Field.{Field}
 use Rattle.layout.specs.declared.Verdict.the-variants.{Taken}
 use Rattle.layout.specs.Layout.{Layout, judge}
-use Rattle.layout.specs.Parts.{times, each}
-use Rattle.layout.specs.Reaches.{Holds, Reaches, reaches-holds, many, manyOf}
+use Rattle.layout.specs.Parts.{each}
+use Rattle.layout.specs.Reaches.{Holds, Reaches, reaches-holds, manyOf}
 use Rattle.values.specs.declared.Value.the-variants.{Metres, Degrees, Tecu}
 use Rattle.values.specs.declared.CountAnswer.the-variants as count
 use Rattle.values.specs.declared.YawAnswer.the-variants as yawAnswer
-use Rattle.values.specs.Values as values
-use Rattle.values.specs.Values.{Meaning, metres, degrees, tecu, Steps, row, rowOf, meant, valueBy, valueOf, countBy, countOf, yawOf}
-use Rattle.views.specs.Met.{hasValue, isTaken, Agree, either, both, topMeans, value-is}
+use Rattle.fields.specs.Fields as fields
+use Rattle.fields.specs.Fields.{Meaning, metres, degrees, tecu, Steps, Means, counts, lineOf, sf}
+use Rattle.values.specs.declared.Value.{Value}
+use Rattle.values.specs.Values.{meant, valueBy, valueOf, countBy, countOf, yawOf}
+use Rattle.views.specs.Along.{Takes, EachOf, no-more, one-more}
+use Rattle.views.specs.Met.{hasValue, isTaken, either, both, invalidMeans, value-is, agree}
 use Rattle.views.specs.Units.{floatOf, inUnit, numberIn, countIn, yawIn}
 
 -- ---- a code that has a value
 
-module _ (sf width most : ℕ) (s : Steps) (perUnit : ℕ) (m : Meaning) (code : ℕ) where
-  -- of a field whose top code has no meaning of its own
-  value-met : rowOf sf ≡ row sf width most s perUnit m → topMeans m ≡ false → hasValue (valueOf sf code) ≡ true → valueOf sf code ≡ meant m s perUnit code
+module _ (number : ℕ) (s : Steps) (perUnit : ℕ) (m : Meaning) (code : ℕ) where
+  -- of a field that has no "invalid"
+  value-met : lineOf number .means ≡ counts s perUnit m → invalidMeans m ≡ false → hasValue (valueOf number code) ≡ true
+      → valueOf number code ≡ meant m s perUnit code
   unfolding valueOf
   value-met is t h =
-      ap (λ r. valueBy r code) is ∙ go (leb code most) refl (eqb code (2 ^ width - 1)) (sym (value-is sf width most s perUnit m code) ∙ sym (ap (λ r. hasValue (valueBy r code)) is) ∙ h)
+      ap (valueIn code) is
+      ∙ go (leb code most) refl (sym (value-is most invalid s perUnit m code) ∙ sym (ap (λ x. hasValue (valueIn code x)) is) ∙ h)
     where
-      go : (x : Bool) → leb code most ≡ x → (y : Bool) → either (leb code most) (both (eqb code (2 ^ width - 1)) (topMeans m)) ≡ true
-          → valueBy (row sf width most s perUnit m) code ≡ meant m s perUnit code
-      go true p y e = rw p
-      go false p y e = absurd (no (eqb code (2 ^ width - 1)) (ap (λ x. either x (both (eqb code (2 ^ width - 1)) (topMeans m))) (sym p) ∙ e))
+      most : ℕ
+      most = lineOf number .most
+
+      invalid : ℕ
+      invalid = lineOf number .invalid
+
+      valueIn : ℕ → Means → Value
+      valueIn code means = valueBy most invalid means code
+
+      go : (x : Bool) → leb code most ≡ x → either (leb code most) (both (eqb code invalid) (invalidMeans m)) ≡ true
+          → valueBy most invalid (counts s perUnit m) code ≡ meant m s perUnit code
+      go true p e = rw p
+      go false p e = absurd (no (eqb code invalid) (ap (λ x. either x (both (eqb code invalid) (invalidMeans m))) (sym p) ∙ e))
         where
-          no : (z : Bool) → both z (topMeans m) ≡ true → ⊥
+          no : (z : Bool) → both z (invalidMeans m) ≡ true → ⊥
           no true e = let b : false ≡ true = sym t ∙ e in let z : _≡_ {A = ℕ} 0 1 = cc in omega arith
           no false e = let z : _≡_ {A = ℕ} 0 1 = cc in omega arith
 
@@ -53,40 +66,47 @@ Counts sf code = countOf sf code ≡ count.Is (countIn sf code)
 abbrev pub IsYaw : ℕ → Type 0
 IsYaw code = yawOf code ≡ yawAnswer.Is (yawIn code)
 
-module _ {sf width most : ℕ} {s : Steps} {perUnit : ℕ} (code : ℕ) where
-  pub metres-met : rowOf sf ≡ row sf width most s perUnit metres → hasValue (valueOf sf code) ≡ true → InMetres sf code
+module _ (number : ℕ) {s : Steps} {perUnit : ℕ} (code : ℕ) where
+  pub metres-met : lineOf number .means ≡ counts s perUnit metres → hasValue (valueOf number code) ≡ true → InMetres number code
   unfolding inUnit
   metres-met is h =
-      let e : valueOf sf code ≡ meant metres s perUnit code = value-met sf width most s perUnit metres code is refl h in
+      let e : valueOf number code ≡ meant metres s perUnit code = value-met number s perUnit metres code is refl h in
       e ∙ ap Metres (sym (ap floatOf e))
 
-  pub degrees-met : rowOf sf ≡ row sf width most s perUnit degrees → hasValue (valueOf sf code) ≡ true → InDegrees sf code
+  pub degrees-met : lineOf number .means ≡ counts s perUnit degrees → hasValue (valueOf number code) ≡ true → InDegrees number code
   unfolding inUnit
   degrees-met is h =
-      let e : valueOf sf code ≡ meant degrees s perUnit code = value-met sf width most s perUnit degrees code is refl h in
+      let e : valueOf number code ≡ meant degrees s perUnit code = value-met number s perUnit degrees code is refl h in
       e ∙ ap Degrees (sym (ap floatOf e))
 
-  pub tecu-met : rowOf sf ≡ row sf width most s perUnit tecu → hasValue (valueOf sf code) ≡ true → InTecu sf code
+  pub tecu-met : lineOf number .means ≡ counts s perUnit tecu → hasValue (valueOf number code) ≡ true → InTecu number code
   unfolding inUnit
   tecu-met is h =
-      let e : valueOf sf code ≡ meant tecu s perUnit code = value-met sf width most s perUnit tecu code is refl h in
+      let e : valueOf number code ≡ meant tecu s perUnit code = value-met number s perUnit tecu code is refl h in
       e ∙ ap Tecu (sym (ap floatOf e))
 
-  pub count-met : rowOf sf ≡ row sf width most s perUnit values.count → hasValue (valueOf sf code) ≡ true → Counts sf code
+  pub count-met : lineOf number .means ≡ counts s perUnit fields.count → hasValue (valueOf number code) ≡ true → Counts number code
   unfolding countIn countOf
   count-met is h =
-      let e : valueOf sf code ≡ meant values.count s perUnit code = value-met sf width most s perUnit values.count code is refl h in
+      let e : valueOf number code ≡ meant fields.count s perUnit code = value-met number s perUnit fields.count code is refl h in
       ap countBy e ∙ ap (λ x. count.Is (numberIn x)) (sym (ap countBy e))
 
--- a code that the field takes, if the field and its row agree
-pub taken-has : (f : Field) (code : ℕ) → Agree f → judge f code ≡ Taken → hasValue (valueOf (f .sf) code) ≡ true
-taken-has f code a j = sym (a code) ∙ ap isTaken j
+-- a code that a field with a value takes
+pub taken-has : (number code : ℕ) {s : Steps} {perUnit : ℕ} {m : Meaning} → lineOf number .means ≡ counts s perUnit m → judge (sf number) code ≡ Taken
+    → hasValue (valueOf number code) ≡ true
+taken-has number code is j = sym (agree number is code) ∙ ap isTaken j
+
+module _ (number : ℕ) {s : Steps} {perUnit : ℕ} where
+  pub degrees-of : lineOf number .means ≡ counts s perUnit degrees → {code : ℕ} → Takes (sf number) code → InDegrees number code
+  degrees-of is {code} j = degrees-met number code is (taken-has number code is (j .is))
+
+  pub tecu-of : lineOf number .means ≡ counts s perUnit tecu → {code : ℕ} → Takes (sf number) code → InTecu number code
+  tecu-of is {code} j = tecu-met number code is (taken-has number code is (j .is))
+
+  pub count-of : lineOf number .means ≡ counts s perUnit fields.count → {code : ℕ} → Takes (sf number) code → Counts number code
+  count-of is {code} j = count-met number code is (taken-has number code is (j .is))
 
 -- ---- lists of blocks
-
-pub data EachOf {B : Type 0} (P : B → Type 0) : List B → Type 0 where
-  no-more : EachOf P []
-  one-more : {x : B} {xs : List B} → P x → EachOf P xs → EachOf P (x ∷ xs)
 
 -- at a place by the code's counting
 abbrev pub At : (P : ℕ → Type 0) (sheet : List ℕ) (at : ℕ) → Type 0
@@ -94,15 +114,6 @@ At P sheet at = P (getD sheet at 0)
 
 -- of each block, if of the one at hand
 module _ {A B : Type 0} {sheet : List ℕ} (P : B → Type 0) where
-  pub many-met : {part : (B → Layout A) → Layout A} (what : ℕ → B) (next : ℕ → ℕ)
-      → ((k : B → Layout A) (at : ℕ) → Reaches sheet (k (what at)) (next at) (part k) at)
-      → ((k : B → Layout A) (at : ℕ) → Holds (part k) sheet at → P (what at))
-      → (n : ℕ) (k : List B → Layout A) (at : ℕ) → Holds (times n part k) sheet at → EachOf P (many what next n at)
-  many-met what next walks met zero k at h = no-more
-  many-met {part} what next walks met (suc n) k at h =
-      let after : B → Layout A = λ x. times n part (λ xs. k (x ∷ xs)) in
-      one-more (met after at h) (many-met what next walks met n (λ xs. k (what at ∷ xs)) (next at) (reaches-holds (walks after at) h))
-
   pub each-met : {part : ℕ → (B → Layout A) → Layout A} (what : ℕ → ℕ → B) (next : ℕ → ℕ)
       → ((m : ℕ) (k : B → Layout A) (at : ℕ) → Reaches sheet (k (what m at)) (next at) (part m k) at)
       → ((m : ℕ) (k : B → Layout A) (at : ℕ) → Holds (part m k) sheet at → P (what m at))

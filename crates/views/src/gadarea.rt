@@ -1,19 +1,18 @@
 // Areas of GAD by their ID, SF031. The first block with the ID is the one that is found.
 ghost use mathlib.Core.Path.{_≡_};
-ghost use Prim.Native.Nat.{_≤_};
-ghost use lib.ListN.{length};
-ghost use Rattle.layout.specs.Reaches.{Holds};
-ghost use Rattle.message.specs.Messages.{gadLayout};
-ghost use Rattle.views.specs.Gads.{gadArea, firstGad, gadBlocks, gadAnswerOf, numberOfGad};
-ghost use Rattle.views.specs.GadPlaces.{blockAt};
-use crate::units::count_in;
-use crate::units::entry;
-use crate::units::in_unit;
+ghost use Rattle.views.specs.AlongGad.{gadSeen, gadFound};
+ghost use Rattle.views.specs.Gads.{gadAnswerOf, numberOfGad};
+ghost use Rattle.views.specs.Places.{codeAt, found};
+use crate::places::Found;
+use crate::places::Opened;
+use crate::places::Place;
+use crate::places::count_of;
+use crate::places::find;
+use crate::places::open;
+use crate::places::unit_of;
 use crate::units::wide;
 use answer::Refusal;
 use area::AreaId;
-use sheet::WriteAnswer;
-use sheet::judge_sheet;
 
 // An area of GAD: its reference corner and its spacings in degrees, its counts of nodes.
 pub struct GadArea {
@@ -33,36 +32,26 @@ pub enum GadAnswer {
 }
 
 // The block that starts at a place.
-fn gad_block(sheet: &[u64], at: usize) -> GadArea
-    requires { ⌜ at ≤ length (now sheet) ⌝ }
-    ensures { λ r. ⌜ r ≡ gadArea (blockAt (now (sheet .entry)) at) ⌝ }
+fn gad_block(place: Place, sheet: &[u64]) -> GadArea
+    ensures { λ r. ⌜ r ≡ gadSeen (codeAt (now (sheet .entry)) place) ⌝ }
 {
     GadArea {
-        latitude: in_unit(32, entry(sheet, at + 1)),
-        longitude: in_unit(33, entry(sheet, at + 2)),
-        rows: count_in(34, entry(sheet, at + 3)),
-        columns: count_in(35, entry(sheet, at + 4)),
-        latitude_spacing: in_unit(36, entry(sheet, at + 5)),
-        longitude_spacing: in_unit(37, entry(sheet, at + 6)),
+        latitude: unit_of(place, sheet, 32),
+        longitude: unit_of(place, sheet, 33),
+        rows: count_of(place, sheet, 34),
+        columns: count_of(place, sheet, 35),
+        latitude_spacing: unit_of(place, sheet, 36),
+        longitude_spacing: unit_of(place, sheet, 37),
     }
 }
 
-// The first block with the ID. The header has four entries, a block seven.
-fn find_gad(id: u64, sheet: &[u64]) -> GadAnswer
-    requires { ⌜ Holds gadLayout (now sheet) 0 ⌝ }
-    ensures { λ r. ⌜ r ≡ firstGad id (gadBlocks (now (sheet .entry))) ⌝ }
+// The first block with the ID.
+fn gad_from(start: Place, id: u64, sheet: &[u64]) -> GadAnswer
+    ensures { λ r. ⌜ r ≡ gadFound (now (sheet .entry)) (found 31 id (now (sheet .entry)) start) ⌝ }
 {
-    let mut left = entry(sheet, 3);
-    let mut at: usize = 4;
-    loop {
-        if entry(sheet, at) == id {
-            return GadAnswer::Is(gad_block(sheet, at));
-        }
-        if left == 0 {
-            return GadAnswer::Absent;
-        }
-        left -= 1;
-        at += 7;
+    match find(start, sheet, 31, id) {
+        Found::Nothing => GadAnswer::Absent,
+        Found::At(place) => GadAnswer::Is(gad_block(place, sheet)),
     }
 }
 
@@ -70,9 +59,9 @@ fn find_gad(id: u64, sheet: &[u64]) -> GadAnswer
 pub fn gad_area(id: AreaId, sheet: &[u64]) -> GadAnswer
     ensures { λ r. ⌜ r ≡ gadAnswerOf (id .0) (now (sheet .entry)) ⌝ }
 {
-    match judge_sheet(2, 0, sheet) {
-        WriteAnswer::Refused(why) => GadAnswer::Refused(why),
-        WriteAnswer::Written { bits: _, bytes: _ } => find_gad(wide(id.0), sheet),
+    match open(2, 0, sheet) {
+        Opened::Refused(why) => GadAnswer::Refused(why),
+        Opened::At(start) => gad_from(start, wide(id.0), sheet),
     }
 }
 

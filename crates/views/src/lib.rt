@@ -2,5 +2,6 @@
 pub mod bpacarea;
 pub mod gadarea;
 pub mod hpacarea;
+mod places;
 pub mod satellites;
 mod units;

@@ -1,23 +1,23 @@
 -- `gad_area`: the sheet is judged, then looked at.
-use Rattle.views.proofs.Calls.{gad-refused, gad-taken, gad-said}
+use Rattle.views.proofs.Gads.{gad-refused, gad-said}
 use borrow.Author.Needs.{needs}
 use Rattle.views.proofs.gadarea.gad_area.Statement.{statement}
 use Rattle.views.proofs.gadarea.gad_area.Tie as tie
 
-judge-sheet-requires : tie.Need-judge-sheet-requires
-judge-sheet-requires c κs = search needs
+open-requires : tie.Need-open-requires
+open-requires c κs = search needs
 
 enum-known-why : tie.Need-enum-known-why
 enum-known-why c = search needs
 
-enum-told : tie.Need-enum-told
-enum-told c = search needs
+enum-known-start : tie.Need-enum-known-start
+enum-known-start c = search needs
 
 wide-requires : tie.Need-wide-requires
 wide-requires c κs = search needs
 
-find-gad-requires : tie.Need-find-gad-requires
-find-gad-requires c κs = search (gad-taken, needs)
+gad-from-requires : tie.Need-gad-from-requires
+gad-from-requires c κs = search needs
 
 returns : tie.Need-returns
 returns c = search (gad-refused, needs)
@@ -29,10 +29,10 @@ pub gad-area-spec : {M : Type 1} → statement M
 gad-area-spec =
     tie.close
     (tie.spec
-    judge-sheet-requires
+    open-requires
     enum-known-why
-    enum-told
+    enum-known-start
     wide-requires
-    find-gad-requires
+    gad-from-requires
     returns
     returns-2)
