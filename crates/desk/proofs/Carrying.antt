@@ -10,11 +10,11 @@ use Rattle.layout.specs.declared.Field.{Field}
 use Rattle.layout.specs.declared.Verdict.{Verdict}
 use Rattle.layout.specs.declared.Verdict.the-variants.{Taken, Fault}
 use Rattle.layout.specs.Layout.{Layout, done, field, judge, Outcome, accepted, refused, enough, judged, before, readL}
-use Rattle.layout.specs.Parts.{free, absent, present, optional, times, each}
+use Rattle.fields.specs.Fields.{sf}
+use Rattle.layout.specs.Parts.{absent, present, optional, times, each}
 use Rattle.codes.specs.declared.Constellation.{Constellation}
 use Rattle.codes.specs.Fields.{satellitesOf}
 use Rattle.hpac.specs.Hpac.{slopes, polynomial, grid, troposphereResidual, ionosphereResidual, troposphere, slant, ionosphere, area, hpac}
-use Rattle.gad.specs.Gad.{block, gad}
 
 -- the same fields, with f of what stands at each end
 pub data Carries {A B : Type 0} (f : A → B) : Layout A → Layout B → Type 0 where
@@ -65,18 +65,6 @@ module _ {A B C : Type 0} (f : A → B) {p : ℕ → (C → Layout A) → Layout
       h m (λ x. each ms p (λ xs. k (x ∷ xs))) (λ x. each ms q (λ xs. k′ (x ∷ xs))) (λ x. carries-each ms h (λ xs. k (x ∷ xs)) (λ xs. k′ (x ∷ xs)) (λ xs. r (x ∷ xs)))
 
 module _ {A B : Type 0} (f : A → B) where
-  carries-block : Part′ f block block
-  carries-block k k′ r =
-      past (λ id. past (λ latitude. past (λ longitude. past (λ rows. past (λ columns. past (λ latitudeSpacing. past (λ longitudeSpacing.
-      r (record { id = id; latitude = latitude; longitude = longitude; rows = rows; columns = columns; latitudeSpacing = latitudeSpacing; longitudeSpacing = longitudeSpacing }))))))))
-
-  pub carries-gad : Part′ f gad gad
-  carries-gad k k′ r =
-      past (λ siou. past (λ aiou. past (λ reserved. past (λ count. carries-times f (suc count) carries-block
-      (λ blocks. k (record { siou = siou; aiou = aiou; blocks = blocks }))
-      (λ blocks. k′ (record { siou = siou; aiou = aiou; blocks = blocks }))
-      (λ blocks. r (record { siou = siou; aiou = aiou; blocks = blocks }))))))
-
   carries-slopes : (linear : Field) → Part′ f (slopes linear) (slopes linear)
   carries-slopes linear k k′ r = past (λ latitude. past (λ longitude. r (record { latitude = latitude; longitude = longitude })))
 
@@ -93,13 +81,13 @@ module _ {A B : Type 0} (f : A → B) where
   carries-troposphere : (indicator points : ℕ) → Part′ f (troposphere indicator points) (troposphere indicator points)
   carries-troposphere indicator points k k′ r =
       past (λ equation. past (λ quality. past (λ delay. past (λ size. carries-polynomial _ _ _ equation _ _ (λ polynomial.
-      carries-optional f (leb 2 indicator) (carries-grid (free 51 1) troposphereResidual points) _ _ (λ grid.
+      carries-optional f (leb 2 indicator) (carries-grid (sf 51) troposphereResidual points) _ _ (λ grid.
       r (record { equation = equation; quality = quality; delay = delay; coefficientSize = size; polynomial = polynomial; grid = grid })))))))
 
   carries-slant : (indicator points equation number : ℕ) → Part′ f (slant indicator points equation number) (slant indicator points equation number)
   carries-slant indicator points equation number k k′ r =
       past (λ quality. past (λ size. carries-polynomial _ _ _ equation _ _ (λ polynomial.
-      carries-optional f (leb 2 indicator) (carries-grid (free 63 2) ionosphereResidual points) _ _ (λ grid.
+      carries-optional f (leb 2 indicator) (carries-grid (sf 63) ionosphereResidual points) _ _ (λ grid.
       r (record { number = number; quality = quality; coefficientSize = size; polynomial = polynomial; grid = grid })))))
 
   carries-ionosphere : (c : Constellation) (indicator points : ℕ) → Part′ f (ionosphere c indicator points) (ionosphere c indicator points)

@@ -7,6 +7,7 @@ use native.Mathlib.Omega.{arith}
 use lib.Dec.{ltb}
 use lib.ListN.{length}
 use borrow.Author.Tests.{le-ltb}
+use Rattle.answer.specs.Stop.{stop}
 use Rattle.answer.specs.declared.Refusal.{Refusal}
 use Rattle.answer.specs.declared.Refusal.the-variants as refusal
 use Rattle.layout.specs.Layout as layout
@@ -24,12 +25,12 @@ use Rattle.book.specs.declared.Book.{Book}
 use Rattle.book.specs.declared.Taken as took
 use Rattle.book.specs.declared.Taken.the-variants as gad
 use Rattle.desk.specs.Desk.{deskSound}
-use Rattle.desk.specs.Take.{Verdict, refused, defines, continues, stop, byBook, byMessage, byPayload, ours, isSealed, byHeader, byFrame, noRoom, hands, verdict, deskBy}
+use Rattle.desk.specs.Take.{Verdict, refused, defines, continues, byBook, byMessage, byPayload, ours, isSealed, byHeader, byFrame, noRoom, hands, verdict, deskBy}
 use Rattle.desk.specs.Fits.{sound-live}
 use Rattle.desk.specs.declared.Desk.{Desk}
 
 module _ (desk : Desk) (live run : List ℕ) (book : Book) (bytes : List ℕ) (w : deskSound (deskBy desk (defines book bytes)) bytes run ≡ true) (runBook : Book) (message : Hpac) where
-  past : (b : Bool) (why : Refusal) (rest : Verdict) → stop b why rest ≡ continues runBook message → (b ≡ false) × (rest ≡ continues runBook message)
+  past : (b : Bool) (why : Refusal) (rest : Verdict) → stop b (refused why) rest ≡ continues runBook message → (b ≡ false) × (rest ≡ continues runBook message)
   past true why rest e = let z : _≡_ {A = ℕ} 0 1 = cc in absurd (omega arith)
   past false why rest e = (refl, e)
 
@@ -54,10 +55,10 @@ module _ (desk : Desk) (live run : List ℕ) (book : Book) (bytes : List ℕ) (w
   unfolding byHeader
   on-header header payload e =
       let o : layout.Outcome Message = judging (header .«message_type») (header .subtype) payload in
-      let p = past (not (ours desk header)) refusal.NotOurs (stop (isSealed (header .seal)) refusal.Sealed (byPayload desk live header payload o)) e in
+      let p = past (not (ours desk header)) refusal.NotOurs (stop (isSealed (header .seal)) (refused refusal.Sealed) (byPayload desk live header payload o)) e in
       let q = past (isSealed (header .seal)) refusal.Sealed (byPayload desk live header payload o) (p .1) in
-      ap (λ b. stop b refusal.NotOurs (stop (isSealed (header .seal)) refusal.Sealed (byPayload (deskBy desk (defines book bytes)) bytes header payload o))) (p .0)
-      ∙ ap (λ b. stop b refusal.Sealed (byPayload (deskBy desk (defines book bytes)) bytes header payload o)) (q .0)
+      ap (λ b. stop b (refused refusal.NotOurs) (stop (isSealed (header .seal)) (refused refusal.Sealed) (byPayload (deskBy desk (defines book bytes)) bytes header payload o))) (p .0)
+      ∙ ap (λ b. stop b (refused refusal.Sealed) (byPayload (deskBy desk (defines book bytes)) bytes header payload o)) (q .0)
       ∙ on-payload header payload o (q .1)
 
   on-frame : (frame : List ℕ) (c : Checked) → byFrame desk live c frame ≡ continues runBook message → byFrame (deskBy desk (defines book bytes)) bytes c frame ≡ continues runBook message
@@ -80,9 +81,9 @@ module _ (desk : Desk) (live run : List ℕ) (book : Book) (bytes : List ℕ) (w
   unfolding verdict
   still-continues frame log e =
       let rest : Verdict = byFrame desk live (checked frame) frame in
-      let p = past (noRoom live run log) refusal.Room (stop (not (deskSound desk live run)) refusal.State rest) e in
+      let p = past (noRoom live run log) refusal.Room (stop (not (deskSound desk live run)) (refused refusal.State) rest) e in
       let q = past (not (deskSound desk live run)) refusal.State rest (p .1) in
       let rest′ : Verdict = byFrame (deskBy desk (defines book bytes)) bytes (checked frame) frame in
-      ap (λ b. stop b refusal.Room (stop (not (deskSound (deskBy desk (defines book bytes)) bytes run)) refusal.State rest′)) (room-stays log (p .0))
-      ∙ ap (λ b. stop (not b) refusal.State rest′) w
+      ap (λ b. stop b (refused refusal.Room) (stop (not (deskSound (deskBy desk (defines book bytes)) bytes run)) (refused refusal.State) rest′)) (room-stays log (p .0))
+      ∙ ap (λ b. stop (not b) (refused refusal.State) rest′) w
       ∙ on-frame frame (checked frame) (q .1)

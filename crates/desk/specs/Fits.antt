@@ -7,6 +7,7 @@ use native.Mathlib.Omega.{arith}
 use lib.Dec.{ltb, eqb}
 use lib.ListN.{length}
 use borrow.Author.Tests.{ltb-false, not-false}
+use Rattle.answer.specs.Stop.{stop}
 use Rattle.answer.specs.declared.Refusal.{Refusal}
 use Rattle.answer.specs.declared.Refusal.the-variants as refusal
 use Rattle.area.specs.Laws.{both-left, both-right}
@@ -27,7 +28,7 @@ use Rattle.book.specs.declared.Book.{Book}
 use Rattle.book.specs.declared.Taken as took
 use Rattle.book.specs.declared.Taken.the-variants as gad
 use Rattle.desk.specs.Desk.{sourceInRange, runSound, deskSound}
-use Rattle.desk.specs.Take.{Verdict, refused, defines, continues, opens, stop, byRun, badTag, tagOf, byBook, byMessage, byPayload, ours, isSealed, byHeader, byFrame, noRoom, hands, verdict, copied, noBookRoom, handsBook, bookVerdict}
+use Rattle.desk.specs.Take.{Verdict, refused, defines, continues, opens, byRun, badTag, tagOf, byBook, byMessage, byPayload, ours, isSealed, byHeader, byFrame, noRoom, hands, verdict, copied, noBookRoom, handsBook, bookVerdict}
 use Rattle.desk.specs.Copied.{copied-sound}
 use Rattle.desk.specs.declared.Desk.{Desk}
 use Rattle.desk.specs.declared.Run.{Run}
@@ -64,7 +65,7 @@ pub data Fits (desk : Desk) (live run : List ℕ) : Verdict → Type 0 where
   new-run : {tag : ℕ} {message : Hpac} → Ready desk live run → tag < tags → Fits desk live run (opens tag message)
 
 module _ (desk : Desk) (live run : List ℕ) where
-  fits-stop : (b : Bool) (why : Refusal) (rest : Verdict) → (b ≡ false → Fits desk live run rest) → Fits desk live run (stop b why rest)
+  fits-stop : (b : Bool) (why : Refusal) (rest : Verdict) → (b ≡ false → Fits desk live run rest) → Fits desk live run (stop b (refused why) rest)
   fits-stop true why rest h = not-taken
   fits-stop false why rest h = h refl
 
@@ -99,7 +100,7 @@ module _ (desk : Desk) (live run : List ℕ) where
     fits-header =
         let o : layout.Outcome Message = judging (header .«message_type») (header .subtype) payload in
         let rest : Verdict = byPayload desk live header payload o in
-        fits-stop (not (ours desk header)) refusal.NotOurs (stop (isSealed (header .seal)) refusal.Sealed rest) (λ e.
+        fits-stop (not (ours desk header)) refusal.NotOurs (stop (isSealed (header .seal)) (refused refusal.Sealed) rest) (λ e.
         fits-stop (isSealed (header .seal)) refusal.Sealed rest (λ f. fits-payload o))
 
   fits-frame : Ready desk live run → (frame : List ℕ) (c : Checked) → Fits desk live run (byFrame desk live c frame)
@@ -120,7 +121,7 @@ module _ (desk : Desk) (live run : List ℕ) where
   unfolding verdict
   fits frame log =
       let rest : Verdict = byFrame desk live (checked frame) frame in
-      fits-stop (noRoom live run log) refusal.Room (stop (not (deskSound desk live run)) refusal.State rest) (λ r.
+      fits-stop (noRoom live run log) refusal.Room (stop (not (deskSound desk live run)) (refused refusal.State) rest) (λ r.
       fits-stop (not (deskSound desk live run)) refusal.State rest (λ s.
       fits-frame (record { state = not-false (deskSound desk live run) s; room = room-run log r }) frame (checked frame)))
 
@@ -134,7 +135,7 @@ module _ (desk : Desk) (live run : List ℕ) where
   fits-kept book bytes =
       let rest : Verdict = defines book (copied book bytes live) in
       let both : Bool = deskSound desk live run && sound book bytes in
-      fits-stop (noBookRoom bytes live run) refusal.Room (stop (not both) refusal.State rest) (λ r.
+      fits-stop (noBookRoom bytes live run) refusal.Room (stop (not both) (refused refusal.State) rest) (λ r.
       fits-stop (not both) refusal.State rest (λ s.
       fits-book-in
       (record { state = both-left (deskSound desk live run) (sound book bytes) (not-false both s); room = last-room (ltb (length bytes) bookBytes) (ltb (length live) bookBytes) r })

@@ -6,6 +6,7 @@ use lib.Dec.{leb, ltb, eqb}
 use lib.ListN.{length, take, drop}
 use Rattle.sizes.specs.Sizes.{tags, bookBytes, logRoom}
 use Rattle.answer.specs.Number.{numberOf}
+use Rattle.answer.specs.Stop.{stop}
 use Rattle.answer.specs.declared.Refusal.{Refusal}
 use Rattle.answer.specs.declared.Refusal.the-variants as refusal
 use Rattle.codes.specs.Tables.{rowOf}
@@ -59,11 +60,6 @@ pub data Verdict : Type 0 where
   -- an HPAC message that opens a run with this tag
   opens : (tag : ℕ) (message : Hpac) → Verdict
 
--- the test holds: refused; else go on
-abbrev pub stop : Bool → Refusal → Verdict → Verdict
-stop true why rest = refused why
-stop false why rest = rest
-
 -- for HPAC: "A tag other than the open run's, earlier ones too, opens a run"
 abbrev pub byRun : Run → (tag : ℕ) → Hpac → Verdict
 byRun Closed tag message = opens tag message
@@ -84,7 +80,7 @@ byBook (gad.Refused why) bytes = refused why
 
 -- "then for HPAC TAG, for GAD the book's refusals (a GAD's tag does not count)"; no other payload comes as far as here
 abbrev pub byMessage : Desk → (live : List ℕ) → Frame → (payload : List ℕ) → Message → Verdict
-byMessage desk live header payload (hpacMessage constellation body) = stop (badTag header) refusal.Tag (byRun (desk .run) (tagOf header) body)
+byMessage desk live header payload (hpacMessage constellation body) = stop (badTag header) (refused refusal.Tag) (byRun (desk .run) (tagOf header) body)
 byMessage desk live header payload (gadMessage body) = byBook (takenOf (desk .book) live payload) (bytesAfter (desk .book) live payload)
 byMessage desk live header payload (ocbMessage constellation body) = refused refusal.NotOurs
 byMessage desk live header payload (bpacMessage body) = refused refusal.NotOurs
@@ -112,8 +108,8 @@ isSealed (seal.Sealed sealing) = true
 -- "NOT_OURS, SEALED, payload refusals, .."
 unfoldable pub byHeader : Desk → (live : List ℕ) → Frame → (payload : List ℕ) → Verdict
 byHeader desk live header payload =
-    stop (not (ours desk header)) refusal.NotOurs
-    (stop (isSealed (header .seal)) refusal.Sealed
+    stop (not (ours desk header)) (refused refusal.NotOurs)
+    (stop (isSealed (header .seal)) (refused refusal.Sealed)
     (byPayload desk live header payload (judging (header .«message_type») (header .subtype) payload)))
 
 -- "the frame's own refusals, .."
@@ -129,8 +125,8 @@ noRoom live run log = ltb (length live) bookBytes || (ltb (length run) bookBytes
 -- "Order: ROOM, STATE, the frame's own refusals, NOT_OURS, SEALED, payload refusals, then for HPAC TAG, for GAD the book's refusals"
 unfoldable pub verdict : Handed → Verdict
 verdict handed =
-    stop (noRoom (handed .live) (handed .run) (handed .log)) refusal.Room
-    (stop (not (deskSound (handed .desk) (handed .live) (handed .run))) refusal.State
+    stop (noRoom (handed .live) (handed .run) (handed .log)) (refused refusal.Room)
+    (stop (not (deskSound (handed .desk) (handed .live) (handed .run))) (refused refusal.State)
     (byFrame (handed .desk) (handed .live) (checked (handed .frame)) (handed .frame)))
 
 -- ---- what a verdict leaves: "A refusal returns its number and the old state, .. and alters no lent byte"
@@ -236,8 +232,8 @@ noBookRoom bytes live run =
 
 unfoldable pub bookVerdict : BookHanded → Verdict
 bookVerdict handed =
-    stop (noBookRoom (handed .bytes) (handed .live) (handed .run)) refusal.Room
-    (stop (not (deskSound (handed .desk) (handed .live) (handed .run) && sound (handed .book) (handed .bytes))) refusal.State
+    stop (noBookRoom (handed .bytes) (handed .live) (handed .run)) (refused refusal.Room)
+    (stop (not (deskSound (handed .desk) (handed .live) (handed .run) && sound (handed .book) (handed .bytes))) (refused refusal.State)
     (defines (handed .book) (copied (handed .book) (handed .bytes) (handed .live))))
 
 -- the answer and the live book's bytes then

@@ -8,6 +8,7 @@ use lib.Dec.{ltb}
 use lib.ListN.{length, take}
 use borrow.Author.Tests.{ltb-false}
 use Rattle.sizes.specs.Sizes.{longestFrame}
+use Rattle.answer.specs.Stop.{stop}
 use Rattle.answer.specs.declared.Refusal.{Refusal}
 use Rattle.answer.specs.declared.Refusal.the-variants as refusal
 use Rattle.frame.specs.declared.Checked.the-variants.{Accepted}
@@ -209,7 +210,7 @@ module _ (bytes : List ℕ) (tray : Tray) (d : Desk) (live run log : List ℕ) (
           let s = passed-sound bytes d live run log (sym e ∙ p) in
           rw (rest .0, rest .1, s) (go (stream.sound bytes tray) refl)
         where
-          go : (b : Bool) → stream.sound bytes tray ≡ b → stream.stop (not b) refusal.State o ≡ o
+          go : (b : Bool) → stream.sound bytes tray ≡ b → stop (not b) (stream.refused refusal.State) o ≡ o
           go true q = refl
           go false q = sym (w .when-not (rooms bytes d live run log (sym e ∙ p) .0) q)
 

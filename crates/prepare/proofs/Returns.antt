@@ -24,6 +24,7 @@ use Rattle.desk.specs.Desk.{deskSound}
 use Rattle.desk.specs.Take as desk
 use Rattle.desk.specs.History.{heldBy}
 use Rattle.prepare.specs.declared.Answer.{Answer}
+use Rattle.prepare.specs.declared.Said.{Said}
 use Rattle.prepare.specs.declared.Said.the-variants as said
 use Rattle.answer.specs.declared.Refusal.{Refusal}
 use Rattle.answer.specs.declared.Refusal.the-variants as refusal
@@ -153,26 +154,9 @@ module _ (d : Desk) (live run log bytes : List ℕ) (heard : stream-answer.Answe
   step-frame f live′ run′ log′ m q = m ∙ ap moved-by (sym q)
 
   -- what is no frame does not reach the desk
-  step-other : (s : stream-said.Said) → results r bytes live run log ≡ moved-by s → heard .said ≡ s
+  pub step-other : (s : stream-said.Said) (x : Said) → heard .said ≡ s → r ≡ untaken heard x d → results (untaken heard x d) bytes live run log ≡ moved-by s
       → results r bytes live run log ≡ moved-by (heard .said)
-  step-other s m q = m ∙ ap moved-by (sym q)
-
-  pub step-noise : (n : ℕ) → r ≡ untaken heard (said.Noise n) d → heard .said ≡ hears.Noise n
-      → results r bytes live run log ≡ moved-by (heard .said)
-  step-noise n e = step-other (hears.Noise n) (ap (λ r. results r bytes live run log) e)
-
-  pub step-hungry : r ≡ untaken heard said.Hungry d → heard .said ≡ hears.Hungry
-      → results r bytes live run log ≡ moved-by (heard .said)
-  step-hungry e = step-other hears.Hungry (ap (λ r. results r bytes live run log) e)
-
-  pub step-done : r ≡ untaken heard said.Done d → heard .said ≡ hears.Done
-      → results r bytes live run log ≡ moved-by (heard .said)
-  step-done e = step-other hears.Done (ap (λ r. results r bytes live run log) e)
-
-  pub step-refused : (why : Refusal) → r ≡ untaken heard (said.Refused why) d
-      → heard .said ≡ hears.Refused why
-      → results r bytes live run log ≡ moved-by (heard .said)
-  step-refused why e = step-other (hears.Refused why) (ap (λ r. results r bytes live run log) e)
+  step-other s x q e m = ap (λ r. results r bytes live run log) e ∙ m ∙ ap moved-by (sym q)
 
 -- a frame that is told lies first
 pub frame-lies : (s : stream-said.Said) (f : Frame) (bytes : List ℕ) → Lies s bytes

@@ -5,10 +5,11 @@ use Prim.Native.Nat.{ℕ}
 use lib.Dec.{ltb}
 use lib.ListN.{length, drop}
 use Rattle.answer.specs.Number.{numberOf}
+use Rattle.answer.specs.Stop.{stop}
 use Rattle.answer.specs.declared.Refusal.the-variants as refusal
 use Rattle.sizes.specs.Sizes.{longestFrame}
 use Rattle.stream.specs.declared.Tray.{Tray}
-use Rattle.stream.specs.Tray.{sound, Outcome, refused, told, hungry, done, stop, called, finished, trayOf, bytesOf}
+use Rattle.stream.specs.Tray.{sound, Outcome, refused, told, hungry, done, called, finished, trayOf, bytesOf}
 use Rattle.desk.specs.declared.Desk.{Desk}
 use Rattle.desk.specs.Desk.{deskSound}
 use Rattle.desk.specs.Take as desk
@@ -45,8 +46,8 @@ isSound handed =
 
 abbrev pub guarded : Handed → Outcome → Outcome
 guarded handed step =
-    stop (noRoom (handed .bytes) (handed .books .live) (handed .books .run) (handed .log)) refusal.Room
-    (stop (not (isSound handed)) refusal.State
+    stop (noRoom (handed .bytes) (handed .books .live) (handed .books .run) (handed .log)) (refused refusal.Room)
+    (stop (not (isSound handed)) (refused refusal.State)
     step)
 
 -- what the stream comes to: a refusal, an event, hungry or done

@@ -5,21 +5,20 @@ use mathlib.Core.Bool.{Bool, true, false, cond}
 use Prim.Native.Nat.{ℕ, zero, suc, _+_, _-_, _*_, _≤_, _<_, min}
 use native.Mathlib.Nat.{min-le-left, min-le-right, le-min, le-refl, le-trans, sub-self}
 use native.Mathlib.Omega.{arith}
-use lib.ListN.{length, getD, take, drop, length-append, length-drop, take-append-drop, drop-of-length-le}
+use lib.ListN.{length, getD, take, drop, length-drop, take-append-drop, drop-of-length-le}
 use lib.Seq.{take-add, drop-append-le, drop-drop, drop-cons, length-take-le, slice-empty, length-slice}
 use lib.Dec.{ltb}
-use borrow.Author.Tests.{ltb-true, ltb-false, le-ltb}
+use borrow.Author.Tests.{ltb-false, le-ltb}
 use Rattle.sizes.specs.Sizes.{longestFrame, mostNoise}
 use Rattle.bytes.specs.Bytes as Bytes
 use Rattle.bytes.specs.Bytes.{indexOf}
 use Rattle.frame.specs.declared.Checked.the-variants.{Short}
 use Rattle.frame.specs.Check.{checked}
-use Rattle.frame.specs.Fields.{preamble}
 use Rattle.frame.specs.Laws.{short-wants}
 use Rattle.stream.specs.declared.Place.{Place}
-use Rattle.stream.specs.Tray.{Outcome, feed}
+use Rattle.stream.specs.Tray.{feed}
 use Rattle.stream.specs.Check.{none-short, preamble-short}
-use Rattle.stream.specs.Walk.{plus, fedFrom, liveAt, Seen, toEnd, Along, reached}
+use Rattle.stream.specs.Walk.{plus, liveAt, Seen, toGo, Along, reached}
 use Rattle.stream.proofs.Feeding.{plus-plus, IsShort, feed-all, short-on, feed-quiet}
 use Rattle.stream.proofs.Parts.{part-is}
 use Rattle.stream.proofs.Turns.{fed-at}
@@ -36,8 +35,8 @@ fits-noise k l a b = omega arith
 passed-in : (f u l n : ℕ) → f ≤ u + l → l ≤ n - u → u ≤ n → f ≤ n
 passed-in f u l n a b c = omega arith
 
-passed-on : (f u i n w : ℕ) → f ≡ u + i → 2 * (n - f) + (f - f) ≤ 2 * (n - u) + w
-passed-on f u i n w e = omega arith
+passed-on : (f u i n w h : ℕ) → f ≡ u + i → f ≤ n → h ≡ u → 3 * (n - f) + (f - f) + f ≤ 3 * (n - u) + w + h
+passed-on f u i n w h e a b = omega arith
 
 pub along-same : (place : Place) (input : List ℕ) → Seen place input → Along place input place
 along-same place input s = record { seen = s; on = refl; no-further = omega arith }
@@ -113,7 +112,7 @@ module _ (place : Place) (input : List ℕ) (s : Seen place input) where
         let lp : length (drop (place .used) input) ≡ length input - place .used = length-drop (place .used) input in
         along-reached wanted (w .1) (λ i h u. short-on (liveAt place input) (drop (place .used) input) wanted e i (omega (arith, length-seen)) (omega arith)) r q
 
-    pub short-nearer : (place .held ≡ length input → ⊥) → toEnd r input < toEnd place input
+    pub short-nearer : (place .held ≡ length input → ⊥) → toGo r input < toGo place input
     short-nearer n =
         let w : place .held - place .start < wanted = omega (arith, short-wants (liveAt place input) wanted e .0, length-seen) in
         let a : suc (place .held - place .start) ≤ min wanted (length input - place .start) = le-min w (omega arith) in
@@ -121,7 +120,7 @@ module _ (place : Place) (input : List ℕ) (s : Seen place input) where
         let f : ltb (place .start + min wanted (length input - place .start)) (place .held) ≡ false = le-ltb (place .start + min wanted (length input - place .start)) (place .held) (omega arith) in
         rw (q, f) (further (length input) (place .used) (place .held) (place .start) (min wanted (length input - place .start)) a b (s .held-used) (s .start-in))
       where
-        further : (n u h b m : ℕ) → suc (h - b) ≤ m → m ≤ n - b → h ≡ u → b ≤ h → 2 * (n - (b + m)) + (b + m - b) < 2 * (n - u) + (h - b)
+        further : (n u h b m : ℕ) → suc (h - b) ≤ m → m ≤ n - b → h ≡ u → b ≤ h → 3 * (n - (b + m)) + (b + m - b) + (b + m) < 3 * (n - u) + (h - b) + h
         further n u h b m p q r o = omega arith
 
   -- ---- one byte, or four where the first is a preamble
@@ -196,5 +195,7 @@ module _ (place : Place) (input : List ℕ) (s : Seen place input) where
                 ∙ ap (λ x. plus x (feed (drop (indexOf 0x73 seg) (drop (place .used) input)) [] (place .noise + indexOf 0x73 seg))) q
                 ∙ sym (plus-plus (place .used) (indexOf 0x73 seg) (feed (drop (indexOf 0x73 seg) (drop (place .used) input)) [] (place .noise + indexOf 0x73 seg)))
                 ∙ ap (plus (place .used)) (sym f′) ∙ sym (fed-at input [] input place none-live);
-            no-further = passed-on found (place .used) (indexOf 0x73 seg) (length input) (place .held - place .start) q;
+            no-further =
+                passed-on found (place .used) (indexOf 0x73 seg) (length input) (place .held - place .start) (place .held) q
+                (passed-in found (place .used) limit (length input) b (i .1) (s .used-in)) (s .held-used);
           }

@@ -1,15 +1,12 @@
 -- The returns of `call` and `finish`, in plain values: ROOM, STATE, and past them the shown frame is dropped and the loop's outcome is that of the definition.
-use mathlib.Core.Path.{_≡_, refl, sym, ap, _∙_, subst}
-use mathlib.Core.List.{List, []}
+use mathlib.Core.Path.{_≡_, refl, sym, ap, _∙_}
+use mathlib.Core.List.{List}
 use mathlib.Core.Bool.{Bool, true, false, not}
-use Prim.Native.Nat.{ℕ, zero, _+_, _-_, _≤_, _<_}
+use Prim.Native.Nat.{ℕ, _-_, _≤_, _<_}
 use native.Mathlib.Omega.{arith}
 use lib.ListN.{length, take, drop}
-use lib.Seq.{length-take-le}
-use lib.Dec.{ltb}
 use borrow.Author.Tests.{lt-ltb, le-ltb, not-true, not-false}
 use Rattle.sizes.specs.Sizes.{longestFrame}
-use Rattle.answer.specs.declared.Refusal.{Refusal}
 use Rattle.answer.specs.declared.Refusal.the-variants.{Room, State}
 use Rattle.stream.specs.declared.Tray.{Tray}
 use Rattle.stream.specs.declared.Answer.{Answer}
@@ -17,14 +14,13 @@ use Rattle.stream.specs.declared.Place.{Place}
 use Rattle.stream.specs.Tray.{sound, Outcome, refused, told, hungry, done, feed, close, closeEnd, called, finished, freshTray, answerOf, laid, bytesOf, callAnswer, callBytes, finishAnswer, finishBytes}
 use Rattle.stream.specs.Driver.{Ready}
 use Rattle.stream.specs.Kept.{Good}
-use Rattle.stream.specs.Sound.{sound-parts, laid-self, take-laid, drop-laid}
+use Rattle.stream.specs.Sound.{sound-parts, laid-self, laid-same, take-laid, drop-laid}
 use Rattle.stream.specs.Steps.{liveOf, called-is, finished-is, call-kept, end-kept}
-use Rattle.stream.specs.Walk.{shifted, Standing, plus, fedFrom, closedFrom, droppedPlace}
+use Rattle.stream.specs.Walk.{shifted, Standing, fedFrom, closedFrom, heldBy, Answered, droppedPlace}
 use Rattle.stream.proofs.Parts.{length-part}
 use Rattle.stream.proofs.Places.{held-in, shown-in}
 use Rattle.stream.proofs.Feeding.{plus-zero}
 use Rattle.stream.proofs.Turns.{shifted-laid, stand-laid}
-use Rattle.stream.proofs.Loop.{same-bytes}
 
 -- ---- ROOM, STATE
 
@@ -71,11 +67,18 @@ module _ (bytes : List ℕ) (tray : Tray) (h : longestFrame ≤ length bytes) (s
 
 -- ---- past them
 
-same-answer : (t t′ : Tray) (o : Outcome) → Good o → answerOf t o ≡ answerOf t′ o
-same-answer t t′ (refused r) g = absurd g
-same-answer t t′ (told e c n) g = refl
-same-answer t t′ (hungry c n) g = refl
-same-answer t t′ (done c) g = refl
+-- the loops answer with a fresh tray where a refusal would hand the tray back; none of them refuses
+answer-kept : (tray : Tray) (o : Outcome) → Good o → answerOf freshTray o ≡ answerOf tray o
+answer-kept tray (refused r) g = absurd g
+answer-kept tray (told e c n) g = refl
+answer-kept tray (hungry c n) g = refl
+answer-kept tray (done c) g = refl
+
+bytes-kept : (bytes : List ℕ) (o : Outcome) → Good o → laid bytes (heldBy o) ≡ bytesOf bytes o
+bytes-kept bytes (refused r) g = absurd g
+bytes-kept bytes (told e c n) g = refl
+bytes-kept bytes (hungry c n) g = refl
+bytes-kept bytes (done c) g = refl
 
 module _ (bytes : List ℕ) (tray : Tray) (r : Ready bytes tray) (bytes₁ : List ℕ) (place : Place)
     (d : bytes₁ ≡ shifted bytes (tray .held) (tray .shown)) (p : place ≡ droppedPlace tray) where
@@ -102,7 +105,14 @@ module _ (bytes : List ℕ) (tray : Tray) (r : Ready bytes tray) (bytes₁ : Lis
   beyond : drop longestFrame bytes₁ ≡ drop longestFrame bytes
   beyond = rw dropped (drop-laid bytes (liveOf bytes tray) live-fits)
 
-  fed : (input : List ℕ) → fedFrom bytes₁ place input ≡ called bytes tray input
+  module _ (o o′ : Outcome) (e : o ≡ o′) (g : Good o′) (a : Answer) (now : List ℕ) (w : Answered o bytes₁ a now) where
+    answered : a ≡ answerOf tray o′
+    answered = w .says ∙ ap (answerOf freshTray) e ∙ answer-kept tray o′ g
+
+    left : now ≡ bytesOf bytes o′
+    left = w .leaves ∙ laid-same bytes₁ bytes (heldBy o) beyond ∙ ap (λ x. laid bytes (heldBy x)) e ∙ bytes-kept bytes o′ g
+
+  fed : (input : List ℕ) → fedFrom input bytes₁ place ≡ called bytes tray input
   unfolding fedFrom
   fed input = rw (p, live-now) (plus-zero (feed input (liveOf bytes tray) (tray .noise)) ∙ sym (called-is bytes tray input r))
 
@@ -110,14 +120,15 @@ module _ (bytes : List ℕ) (tray : Tray) (r : Ready bytes tray) (bytes₁ : Lis
   unfolding closedFrom
   closed = rw (p, live-now) (plus-zero (closeEnd (close (liveOf bytes tray) (tray .noise))) ∙ sym (finished-is bytes tray r))
 
-  pub fed-answer : (input : List ℕ) (a : Answer) → a ≡ answerOf freshTray (fedFrom bytes₁ place input) → a ≡ callAnswer bytes tray input
-  fed-answer input a e = e ∙ ap (answerOf freshTray) (fed input) ∙ same-answer freshTray tray (called bytes tray input) (call-kept bytes tray input r)
+  module _ (a : Answer) (now : List ℕ) where
+    pub fed-answer : (input : List ℕ) → Answered (fedFrom input bytes₁ place) bytes₁ a now → a ≡ callAnswer bytes tray input
+    fed-answer input w = answered (fedFrom input bytes₁ place) (called bytes tray input) (fed input) (call-kept bytes tray input r) a now w
 
-  pub fed-bytes : (input now : List ℕ) → now ≡ bytesOf bytes₁ (fedFrom bytes₁ place input) → now ≡ callBytes bytes tray input
-  fed-bytes input now e = e ∙ ap (bytesOf bytes₁) (fed input) ∙ same-bytes bytes₁ bytes beyond (called bytes tray input) (call-kept bytes tray input r)
+    pub fed-bytes : (input : List ℕ) → Answered (fedFrom input bytes₁ place) bytes₁ a now → now ≡ callBytes bytes tray input
+    fed-bytes input w = left (fedFrom input bytes₁ place) (called bytes tray input) (fed input) (call-kept bytes tray input r) a now w
 
-  pub closed-answer : (a : Answer) → a ≡ answerOf freshTray (closedFrom bytes₁ place) → a ≡ finishAnswer bytes tray
-  closed-answer a e = e ∙ ap (answerOf freshTray) closed ∙ same-answer freshTray tray (finished bytes tray) (end-kept bytes tray r)
+    pub closed-answer : Answered (closedFrom bytes₁ place) bytes₁ a now → a ≡ finishAnswer bytes tray
+    closed-answer w = answered (closedFrom bytes₁ place) (finished bytes tray) closed (end-kept bytes tray r) a now w
 
-  pub closed-bytes : (now : List ℕ) → now ≡ bytesOf bytes₁ (closedFrom bytes₁ place) → now ≡ finishBytes bytes tray
-  closed-bytes now e = e ∙ ap (bytesOf bytes₁) closed ∙ same-bytes bytes₁ bytes beyond (finished bytes tray) (end-kept bytes tray r)
+    pub closed-bytes : Answered (closedFrom bytes₁ place) bytes₁ a now → now ≡ finishBytes bytes tray
+    closed-bytes w = left (closedFrom bytes₁ place) (finished bytes tray) closed (end-kept bytes tray r) a now w

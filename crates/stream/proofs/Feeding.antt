@@ -1,15 +1,15 @@
 -- The laws of the definition `feed`: one for each way that a turn of the loop goes. Bytes are taken, and noise is passed over, many at a time.
-use mathlib.Core.Path.{_≡_, refl, sym, ap, ap₂, _∙_, subst}
+use mathlib.Core.Path.{_≡_, refl, sym, ap, _∙_}
 use mathlib.Core.List.{List, [], _∷_, _++_, append-assoc, append-nil}
 use mathlib.Core.Bool.{Bool, true, false}
 use Prim.Native.Nat.{ℕ, zero, suc, _+_, _-_, _≤_, _<_}
 use native.Mathlib.Nat.{add-zero, zero-add}
 use native.Mathlib.Numerals.{add-one}
 use native.Mathlib.Omega.{arith}
-use lib.ListN.{length, take, drop, length-append}
+use lib.ListN.{length, take, drop, length-append, drop-of-length-le}
 use lib.Seq.{length-take-le}
-use lib.Dec.{ltb, eqb}
-use borrow.Author.Tests.{lt-ltb, le-ltb, eqb-true, eqb-false}
+use lib.Dec.{eqb}
+use borrow.Author.Tests.{lt-ltb, le-ltb, eqb-false}
 use Rattle.sizes.specs.Sizes.{mostNoise}
 use Rattle.bytes.specs.Bytes.{indexOf, indexAfter}
 use Rattle.answer.specs.declared.Refusal.{Refusal}
@@ -20,8 +20,8 @@ use Rattle.frame.specs.declared.Checked.the-variants.{Accepted, Short, Refused}
 use Rattle.frame.specs.Check.{checked}
 use Rattle.frame.specs.Fields.{preamble}
 use Rattle.frame.specs.Laws.{Still, still, short-stays}
-use Rattle.stream.specs.Scan.{Event, frame, noise, Count, full, some, oneMore}
-use Rattle.stream.specs.Tray.{Contents, Decision, event, none, accept, decide, Outcome, refused, told, hungry, done, taken, feedEnd, feed}
+use Rattle.stream.specs.Scan.{Event, noise, full, some, oneMore}
+use Rattle.stream.specs.Tray.{Contents, event, none, accept, decide, Outcome, refused, told, hungry, done, taken, feedEnd, feed}
 use Rattle.stream.specs.Check.{none-short, no-preamble}
 use Rattle.stream.specs.Walk.{plus}
 
@@ -53,30 +53,30 @@ more-full k h = rw (le-ltb (suc k) mostNoise (omega arith))
 
 -- ---- deciding on the bytes held
 
-pub decide-accept : (s : List ℕ) (f : Frame) (k : ℕ) → checked s ≡ Accepted f → decide s k ≡ accept f s k
+decide-accept : (s : List ℕ) (f : Frame) (k : ℕ) → checked s ≡ Accepted f → decide s k ≡ accept f s k
 unfolding decide
 decide-accept [] f k e = cc none-short
 decide-accept (x ∷ xs) f k e = rw (e, decide)
 
-pub decide-full : (s : List ℕ) (r : Refusal) (k : ℕ) → checked s ≡ Refused r → k + 1 ≡ mostNoise
+decide-full : (s : List ℕ) (r : Refusal) (k : ℕ) → checked s ≡ Refused r → k + 1 ≡ mostNoise
     → decide s k ≡ event (noise mostNoise) (record { held = drop 1 s; shown = 0; noise = 0 })
 unfolding decide
 decide-full [] r k e h = cc none-short
 decide-full (x ∷ xs) r k e h = rw (e, decide, more-full k h)
 
-pub decide-noise : (s : List ℕ) (r : Refusal) (k : ℕ) → checked s ≡ Refused r → k + 1 < mostNoise → decide s k ≡ decide (drop 1 s) (k + 1)
+decide-noise : (s : List ℕ) (r : Refusal) (k : ℕ) → checked s ≡ Refused r → k + 1 < mostNoise → decide s k ≡ decide (drop 1 s) (k + 1)
 unfolding decide
 decide-noise [] r k e h = cc none-short
 decide-noise (x ∷ xs) r k e h = rw (e, decide, more-some k h)
 
-pub decide-short : (s : List ℕ) (n k : ℕ) → checked s ≡ Short n → decide s k ≡ none s k
+decide-short : (s : List ℕ) (n k : ℕ) → checked s ≡ Short n → decide s k ≡ none s k
 unfolding decide
 decide-short [] n k e = refl
 decide-short (x ∷ xs) n k e = rw (e, decide)
 
 -- ---- taking bytes of the input
 
-pub feed-event : (p s : List ℕ) (k : ℕ) (e : Event) (c : Contents) → decide s k ≡ event e c → feed p s k ≡ told e c 0
+feed-event : (p s : List ℕ) (k : ℕ) (e : Event) (c : Contents) → decide s k ≡ event e c → feed p s k ≡ told e c 0
 unfolding feed
 feed-event [] s k e c q = rw q
 feed-event (x ∷ p) s k e c q = rw q
@@ -85,14 +85,26 @@ pub feed-accept : (p s : List ℕ) (f : Frame) (k : ℕ) → checked s ≡ Accep
 feed-accept p s f zero e = feed-event p s 0 _ _ (decide-accept s f 0 e)
 feed-accept p s f (suc k) e = feed-event p s (suc k) _ _ (decide-accept s f (suc k) e)
 
-pub feed-same : (p s s′ : List ℕ) (k k′ : ℕ) → decide s k ≡ decide s′ k′ → feed p s k ≡ feed p s′ k′
+feed-same : (p s s′ : List ℕ) (k k′ : ℕ) → decide s k ≡ decide s′ k′ → feed p s k ≡ feed p s′ k′
 unfolding feed
 feed-same [] s s′ k k′ q = rw q
 feed-same (x ∷ p) s s′ k k′ q = rw q
 
-pub feed-hungry : (s : List ℕ) (n k : ℕ) → checked s ≡ Short n → feed [] s k ≡ hungry (record { held = s; shown = 0; noise = k }) 0
+feed-hungry : (s : List ℕ) (n k : ℕ) → checked s ≡ Short n → feed [] s k ≡ hungry (record { held = s; shown = 0; noise = k }) 0
 unfolding feed
 feed-hungry s n k e = rw (decide-short s n k e)
+
+-- .. where all of the input is used
+pub feed-starved : (input s : List ℕ) (u n k : ℕ) → checked s ≡ Short n → u ≡ length input → feed (drop u input) s k ≡ hungry (record { held = s; shown = 0; noise = k }) 0
+feed-starved input s u n k e h = ap (λ l. feed l s k) (drop-of-length-le input {i = u} (omega arith)) ∙ feed-hungry s n k e
+
+-- the first byte is noise
+pub feed-noise : (p s : List ℕ) (r : Refusal) (k : ℕ) → checked s ≡ Refused r → k + 1 < mostNoise → feed p s k ≡ feed p (drop 1 s) (k + 1)
+feed-noise p s r k e h = feed-same p s (drop 1 s) k (k + 1) (decide-noise s r k e h)
+
+pub feed-full : (p s : List ℕ) (r : Refusal) (k : ℕ) → checked s ≡ Refused r → k + 1 ≡ mostNoise
+    → feed p s k ≡ told (noise mostNoise) (record { held = drop 1 s; shown = 0; noise = 0 }) 0
+feed-full p s r k e h = feed-event p s k (noise mostNoise) (record { held = drop 1 s; shown = 0; noise = 0 }) (decide-full s r k e h)
 
 feed-take : (x : ℕ) (p s : List ℕ) (n k : ℕ) → checked s ≡ Short n → feed (x ∷ p) s k ≡ taken (feed p (s ++ x ∷ []) k)
 unfolding feed

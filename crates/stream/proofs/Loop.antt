@@ -1,14 +1,11 @@
--- The turns and the returns of the loop of `feed`, in plain values.
-use mathlib.Core.Path.{_≡_, refl, sym, ap, ap₂, _∙_, subst}
-use mathlib.Core.List.{List, [], _∷_, _++_}
-use mathlib.Core.Bool.{cond}
-use Prim.Native.Nat.{ℕ, zero, suc, _+_, _-_, _*_, _≤_, _<_}
-use native.Mathlib.Nat.{add-zero, le-refl, sub-self}
+-- The loop of `feed`, in plain values; a turn of it is one of `feed_input` too, wherever the live bytes lie, and its invariant is that of `close`.
+use mathlib.Core.Path.{_≡_, refl, sym, ap, _∙_}
+use mathlib.Core.List.{List, []}
+use Prim.Native.Nat.{ℕ, _-_, _≤_, _<_}
+use native.Mathlib.Nat.{le-refl, sub-self}
 use native.Mathlib.Omega.{arith}
-use lib.ListN.{length, take, drop, length-drop, drop-of-length-le}
-use lib.Seq.{drop-drop, length-take-le, length-slice, slice-empty}
-use lib.Dec.{ltb}
-use borrow.Author.Tests.{lt-ltb, le-ltb}
+use lib.ListN.{length, take, drop, drop-of-length-le}
+use lib.Seq.{length-take-le, slice-empty}
 use Rattle.sizes.specs.Sizes.{longestFrame, mostNoise}
 use Rattle.answer.specs.declared.Refusal.{Refusal}
 use Rattle.frame.specs.declared.Frame.{Frame}
@@ -18,130 +15,116 @@ use Rattle.frame.specs.Check.{checked}
 use Rattle.stream.specs.declared.Said.{Said}
 use Rattle.stream.specs.declared.Answer.{Answer}
 use Rattle.stream.specs.declared.Place.{Place}
-use Rattle.stream.specs.Scan.{Event, frame, noise}
-use Rattle.stream.specs.Tray.{accept, Outcome, refused, told, hungry, done, feedEnd, feed, freshTray, answerOf, bytesOf, laid}
-use Rattle.stream.specs.Kept.{Good, feed-kept}
+use Rattle.stream.specs.Tray.{Outcome, feed, freshTray, answerOf, laid}
 use Rattle.stream.specs.Sound.{laid-same, laid-again, length-laid, drop-laid}
-use Rattle.stream.specs.Check.{none-short}
-use Rattle.stream.specs.Walk.{shifted, Standing, plus, fedFrom, toGo, Onward, liveAt, Wanting, Seen, Empty, noised, settled, shownAnswer}
-use Rattle.stream.proofs.Parts.{part-is, length-part}
-use Rattle.stream.proofs.Feeding.{decide-full, decide-noise, feed-accept, feed-event, feed-same, feed-hungry}
-use Rattle.stream.proofs.Turns.{length-live, fed-at}
-use Rattle.stream.proofs.Returns.{Closing, back, told-answer, starved-answer, accept-answer, told-bytes, starved-bytes, accept-bytes}
+use Rattle.stream.specs.Walk.{shifted, Standing, plus, fedFrom, Onward, heldBy, Answered, liveAt, Wanting, Seen, Empty, noised, settled, shownAnswer}
+use Rattle.stream.proofs.Parts.{part-is}
+use Rattle.stream.proofs.Feeding.{feed-accept, feed-starved, feed-noise, feed-full}
+use Rattle.stream.proofs.Turns.{length-live, fed-at, back, behind-noise}
+use Rattle.stream.proofs.Places.{noised-old}
+use Rattle.stream.proofs.Returns.{shows, starves, goes-on, fills}
 
--- the tray's bytes where nothing is refused depend on the bytes beyond 1,103 alone
-pub same-bytes : (b b′ : List ℕ) → drop longestFrame b ≡ drop longestFrame b′ → (o : Outcome) → Good o → bytesOf b o ≡ bytesOf b′ o
-same-bytes b b′ q (refused r) g = absurd g
-same-bytes b b′ q (told e c n) g = laid-same b b′ (c .held) q
-same-bytes b b′ q (hungry c n) g = laid-same b b′ (c .held) q
-same-bytes b b′ q (done c) g = laid-same b b′ (c .held) q
+-- ---- a turn on live bytes that lie in a list
 
-good-plus : (u : ℕ) (o : Outcome) → Good o → Good (plus u o)
-good-plus u (refused r) g = g
-good-plus u (told e c n) g = g
-good-plus u (hungry c n) g = g
-good-plus u (done c) g = g
+module _ (input lies : List ℕ) (place : Place) (l : length (liveAt place lies) ≡ place .held - place .start) (o : Outcome) (on : fedFrom input lies place ≡ o)
+    (v : Checked) (q : v ≡ checked (take (place .held - place .start) (drop (place .start) lies))) where
+  pub verdict : checked (liveAt place lies) ≡ v
+  verdict = sym (q ∙ ap checked (part-is lies (place .start) (place .held)))
 
--- the loop's invariant: what the call comes to from here is what it came to where the loop began
-pub record Far (bytes₀ : List ℕ) (place₀ : Place) (input bytes : List ℕ) (place : Place) : Type 0 where
+  comes : plus (place .used) (feed (drop (place .used) input) (liveAt place lies) (place .noise)) ≡ o
+  unfolding fedFrom
+  comes = on
+
+  module _ (bytes₀ now : List ℕ) (r : Answer) where
+    pub fed-shows : (f : Frame) → v ≡ Accepted f → r ≡ shownAnswer place f → now ≡ laid bytes₀ (liveAt place lies) → Answered o bytes₀ r now
+    fed-shows f e a s =
+        shows (feed (drop (place .used) input)) (liveAt place lies) place l o comes bytes₀ now s r f
+        (feed-accept (drop (place .used) input) (liveAt place lies) f (place .noise) (verdict ∙ e)) a
+
+    pub fed-starves : (wanted : ℕ) → v ≡ Short wanted → place .used ≡ length input → r ≡ settled place Said.Hungry 0 (place .noise)
+        → now ≡ laid bytes₀ (liveAt place lies) → Answered o bytes₀ r now
+    fed-starves wanted e n a s =
+        starves (feed (drop (place .used) input)) (liveAt place lies) place l o comes bytes₀ now s r
+        (feed-starved input (liveAt place lies) (place .used) wanted (place .noise) (verdict ∙ e) n) a
+
+  module _ (x : Refusal) (e : v ≡ Refused x) (place′ : Place) (p : place′ ≡ noised place) where
+    pub fed-goes-on : place .noise < mostNoise → (place′ .noise ≡ mostNoise → ⊥) → fedFrom input lies place′ ≡ o
+    unfolding fedFrom
+    fed-goes-on h n =
+        rw p
+        (goes-on (feed (drop (place .used) input)) (liveAt place lies) place l o comes (noised place) refl (liveAt (noised place) lies) (behind-noise lies place (noised place) refl)
+        (feed-noise (drop (place .used) input) (liveAt place lies) x (place .noise) (verdict ∙ e)) h (λ k. n (ap (λ z. z .noise) p ∙ k)))
+
+    pub fed-fills : place′ .noise ≡ mostNoise → (bytes₀ now : List ℕ) (r : Answer) → r ≡ settled place′ (Said.Noise mostNoise) 0 0
+        → now ≡ laid bytes₀ (drop (place′ .start) (take (place .held) lies)) → Answered o bytes₀ r now
+    fed-fills =
+        fills (feed (drop (place .used) input)) (liveAt place lies) place l o comes place′ p (drop (place′ .start) (take (place .held) lies)) (behind-noise lies place place′ p)
+        (feed-full (drop (place .used) input) (liveAt place lies) x (place .noise) (verdict ∙ e))
+
+-- ---- the invariant: what all comes to from here, which is G of tray and place, is what it came to where the loop began
+
+pub record Far (G : List ℕ → Place → Outcome) (bytes₀ : List ℕ) (place₀ : Place) (input bytes : List ℕ) (place : Place) : Type 0 where
   pub standing : Standing place bytes input
   pub same : length bytes ≡ length bytes₀
   pub beyond : drop longestFrame bytes ≡ drop longestFrame bytes₀
-  pub on : fedFrom bytes place input ≡ fedFrom bytes₀ place₀ input
+  pub on : G bytes place ≡ G bytes₀ place₀
 
-pub far-first : (bytes : List ℕ) (place : Place) (input : List ℕ) → Standing place bytes input → Far bytes place input bytes place
-far-first bytes place input st = record { standing = st; same = refl; beyond = refl; on = refl }
+module _ (G : List ℕ → Place → Outcome) where
+  pub far-first : (bytes : List ℕ) (place : Place) (input : List ℕ) → Standing place bytes input → Far G bytes place input bytes place
+  far-first bytes place input st = record { standing = st; same = refl; beyond = refl; on = refl }
 
-module _ (bytes₀ : List ℕ) (place₀ : Place) (input bytes : List ℕ) (place : Place) (t : Far bytes₀ place₀ input bytes place) where
-  pub far-onward : (place′ : Place) (bytes′ : List ℕ) → Onward place bytes input place′ bytes′ → length bytes′ ≡ length bytes → Far bytes₀ place₀ input bytes′ place′
-  far-onward place′ bytes′ o l = record { standing = o .standing; same = omega arith; beyond = o .beyond ∙ t .beyond; on = o .on ∙ t .on }
+  module _ (bytes₀ : List ℕ) (place₀ : Place) (input bytes : List ℕ) (place : Place) (t : Far G bytes₀ place₀ input bytes place) where
+    pub far-onward : (place′ : Place) (bytes′ : List ℕ) → Onward G place bytes input place′ bytes′ → length bytes′ ≡ length bytes → Far G bytes₀ place₀ input bytes′ place′
+    far-onward place′ bytes′ o l = record { standing = o .standing; same = l ∙ t .same; beyond = o .beyond ∙ t .beyond; on = o .on ∙ t .on }
 
-  closing : Closing bytes₀ bytes place
-  closing = record { start-in = omega (arith, t .standing .within); held-most = omega (arith, t .standing .within); room = omega (arith, t .standing .within); padded = t .standing .padded; beyond = t .beyond }
+    pub far-answered : (r : Answer) (now : List ℕ) → Answered (G bytes place) bytes r now → Answered (G bytes₀ place₀) bytes₀ r now
+    far-answered r now c =
+        record {
+          says = c .says ∙ ap (answerOf freshTray) (t .on);
+          leaves = c .leaves ∙ laid-same bytes bytes₀ (heldBy (G bytes place)) (t .beyond) ∙ ap (λ o. laid bytes₀ (heldBy o)) (t .on);
+        }
+
+-- ---- `feed`
+
+module _ (bytes₀ : List ℕ) (place₀ : Place) (input bytes : List ℕ) (place : Place) (t : Far (fedFrom input) bytes₀ place₀ input bytes place) where
+  front : (start : ℕ) → start ≤ place .held → (now : List ℕ) → now ≡ shifted bytes (place .held) start → now ≡ laid bytes₀ (drop start (take (place .held) bytes))
+  front = back bytes₀ bytes input place (t .standing) (t .beyond)
+
+  live-length : length (liveAt place bytes) ≡ place .held - place .start
+  live-length = length-live place bytes input (t .standing)
 
   module _ (v : Checked) (q : v ≡ checked (take (place .held - place .start) (drop (place .start) bytes))) where
-    verdict : checked (liveAt place bytes) ≡ v
-    verdict = sym (q ∙ ap checked (part-is bytes (place .start) (place .held)))
+    module _ (r : Answer) (now : List ℕ) (s : now ≡ shifted bytes (place .held) (place .start)) where
+      here : now ≡ laid bytes₀ (liveAt place bytes)
+      here = front (place .start) (t .standing .within .start-in) now s
 
-    live-length : length (liveAt place bytes) ≡ place .held - place .start
-    live-length = length-live place bytes input (t .standing)
+      pub shown-said : (f : Frame) → v ≡ Accepted f → r ≡ shownAnswer place f → Answered (fedFrom input bytes₀ place₀) bytes₀ r now
+      shown-said f e a = fed-shows input bytes place live-length (fedFrom input bytes₀ place₀) (t .on) v q bytes₀ now r f e a here
 
-    comes-to : (o : Outcome) → feed (drop (place .used) input) (liveAt place bytes) (place .noise) ≡ o → fedFrom bytes₀ place₀ input ≡ plus (place .used) o
-    unfolding fedFrom
-    comes-to o e = sym (t .on) ∙ ap (plus (place .used)) e
+      pub hungry-said : (wanted : ℕ) → v ≡ Short wanted → place .used ≡ length input → r ≡ settled place Said.Hungry 0 (place .noise)
+          → Answered (fedFrom input bytes₀ place₀) bytes₀ r now
+      hungry-said wanted e n a = fed-starves input bytes place live-length (fedFrom input bytes₀ place₀) (t .on) v q bytes₀ now r wanted e n a here
 
-    -- ---- accepted
+    pub is-wanting : (wanted : ℕ) → v ≡ Short wanted → (place .used ≡ length input → ⊥) → Wanting place bytes input wanted
+    is-wanting wanted e n =
+        record { short = verdict input bytes place live-length (fedFrom input bytes₀ place₀) (t .on) v q ∙ e; some-left = omega (arith, t .standing .within) }
 
-    module _ (f : Frame) (e : v ≡ Accepted f) where
-      shown : fedFrom bytes₀ place₀ input ≡ plus (place .used) (feedEnd (accept f (liveAt place bytes) (place .noise)))
-      shown = comes-to _ (feed-accept (drop (place .used) input) (liveAt place bytes) f (place .noise) (verdict ∙ e))
-
-      pub shown-answer : (r : Answer) → r ≡ shownAnswer place f → r ≡ answerOf freshTray (fedFrom bytes₀ place₀ input)
-      shown-answer r s = accept-answer (liveAt place bytes) place live-length (fedFrom bytes₀ place₀ input) f shown r s
-
-      pub shown-bytes : (now : List ℕ) → now ≡ shifted bytes (place .held) (place .start) → now ≡ bytesOf bytes₀ (fedFrom bytes₀ place₀ input)
-      shown-bytes now s =
-          accept-bytes bytes₀ (liveAt place bytes) now (back bytes₀ bytes place closing now s) (fedFrom bytes₀ place₀ input) f (place .noise) (place .used) shown
-
-    -- ---- SHORT
-
-    module _ (wanted : ℕ) (e : v ≡ Short wanted) where
-      pub is-wanting : (place .used ≡ length input → ⊥) → Wanting place bytes input wanted
-      is-wanting n = record { short = verdict ∙ e; some-left = omega (arith, t .standing .within) }
-
-      module _ (n : place .used ≡ length input) where
-        starved : fedFrom bytes₀ place₀ input ≡ hungry (record { held = liveAt place bytes; shown = 0; noise = place .noise }) (place .used)
-        starved =
-            let z : drop (place .used) input ≡ [] = drop-of-length-le input {i = place .used} (omega arith) in
-            comes-to _ (ap (λ l. feed l (liveAt place bytes) (place .noise)) z ∙ feed-hungry (liveAt place bytes) wanted (place .noise) (verdict ∙ e)) ∙ rw (add-zero (place .used))
-
-        pub hungry-answer : (r : Answer) → r ≡ settled place Said.Hungry 0 (place .noise) → r ≡ answerOf freshTray (fedFrom bytes₀ place₀ input)
-        hungry-answer r s = starved-answer (liveAt place bytes) place live-length (fedFrom bytes₀ place₀ input) (place .noise) starved r s
-
-        pub hungry-bytes : (now : List ℕ) → now ≡ shifted bytes (place .held) (place .start) → now ≡ bytesOf bytes₀ (fedFrom bytes₀ place₀ input)
-        hungry-bytes now s =
-            starved-bytes bytes₀ (liveAt place bytes) now (back bytes₀ bytes place closing now s) (fedFrom bytes₀ place₀ input) (place .noise) (place .used) starved
-
-    -- ---- PREAMBLE to MESSAGE_CRC
-
-    module _ (r : Refusal) (e : v ≡ Refused r) (h : place .start < place .held) (place′ : Place) (s : place′ ≡ noised place) where
-      pub less-noised : toGo place′ input < toGo place input
-      less-noised = rw s (omega arith)
-
-      pub far-noised : (place′ .noise ≡ mostNoise → ⊥) → Far bytes₀ place₀ input bytes place′
-      unfolding fedFrom
+    module _ (x : Refusal) (e : v ≡ Refused x) (h : place .start < place .held) (place′ : Place) (p : place′ ≡ noised place) where
+      pub far-noised : (place′ .noise ≡ mostNoise → ⊥) → Far (fedFrom input) bytes₀ place₀ input bytes place′
       far-noised n =
-          let less : place .noise + 1 < mostNoise = omega (arith, t .standing .within, ap (λ p. p .noise) s) in
-          rw s (record {
-            standing = record { within = omega (arith, t .standing .within); padded = t .standing .padded };
+          let w = t .standing .within in
+          record {
+            standing = rw p (record { within = record { start-in = omega arith; held-most = w .held-most; room = w .room; noise-less = omega (arith, w, ap (λ z. z .noise) p); used-in = w .used-in }; padded = t .standing .padded });
             same = t .same;
             beyond = t .beyond;
-            on =
-                ap (plus (place .used))
-                (ap (λ l. feed (drop (place .used) input) l (place .noise + 1)) (sym (drop-drop 1 (place .start) (take (place .held) bytes)))
-                ∙ sym (feed-same (drop (place .used) input) (liveAt place bytes) (drop 1 (liveAt place bytes)) (place .noise) (place .noise + 1)
-                (decide-noise (liveAt place bytes) r (place .noise) (verdict ∙ e) less)))
-                ∙ t .on;
-          })
+            on = fed-goes-on input bytes place live-length (fedFrom input bytes₀ place₀) (t .on) v q x e place′ p (w .noise-less) n;
+          }
 
-      module _ (n : place′ .noise ≡ mostNoise) where
-        full-told : fedFrom bytes₀ place₀ input ≡ told (noise mostNoise) (record { held = liveAt place′ bytes; shown = 0; noise = 0 }) (place′ .used)
-        full-told =
-            let k : place .noise + 1 ≡ mostNoise = sym (ap (λ p. p .noise) s) ∙ n in
-            let d = decide-full (liveAt place bytes) r (place .noise) (verdict ∙ e) k in
-            rw (s, ← drop-drop 1 (place .start) (take (place .held) bytes))
-            (comes-to _ (feed-event (drop (place .used) input) (liveAt place bytes) (place .noise) _ _ d) ∙ rw (add-zero (place .used)))
-
-        pub full-answer : (x : Answer) → x ≡ settled place′ (Said.Noise mostNoise) 0 0 → x ≡ answerOf freshTray (fedFrom bytes₀ place₀ input)
-        full-answer x w =
-            let l : length (liveAt place′ bytes) ≡ place′ .held - place′ .start = rw s (length-slice (place .start + 1) (place .held) bytes (omega (arith, t .standing .within))) in
-            told-answer (liveAt place′ bytes) place′ l (fedFrom bytes₀ place₀ input) (noise mostNoise) 0 0 full-told x w
-
-        pub full-bytes : (now : List ℕ) → now ≡ shifted bytes (place .held) (place′ .start) → now ≡ bytesOf bytes₀ (fedFrom bytes₀ place₀ input)
-        full-bytes now w =
-            let c : Closing bytes₀ bytes place′ = rw s (record { start-in = omega arith; held-most = closing .held-most; room = closing .room; padded = closing .padded; beyond = closing .beyond }) in
-            let w′ : now ≡ shifted bytes (place′ .held) (place′ .start) = w ∙ ap (λ k. shifted bytes k (place′ .start)) (sym (ap (λ p. p .held) s)) in
-            told-bytes bytes₀ (liveAt place′ bytes) now (back bytes₀ bytes place′ c now w′) (fedFrom bytes₀ place₀ input) (noise mostNoise) 0 0 (place′ .used) full-told
+      pub full-said : place′ .noise ≡ mostNoise → (r : Answer) (now : List ℕ) → r ≡ settled place′ (Said.Noise mostNoise) 0 0 → now ≡ shifted bytes (place .held) (place′ .start)
+          → Answered (fedFrom input bytes₀ place₀) bytes₀ r now
+      full-said n r now a s =
+          fed-fills input bytes place live-length (fedFrom input bytes₀ place₀) (t .on) v q x e place′ p n bytes₀ now r a
+          (front (place′ .start) (noised-old place place′ p h) now s)
 
   -- ---- no byte is live in the tray any more
 
@@ -154,25 +137,20 @@ module _ (bytes₀ : List ℕ) (place₀ : Place) (input bytes : List ℕ) (plac
 
     module _ (now : List ℕ) (s : now ≡ shifted bytes (place .held) (place .start)) where
       cleared : now ≡ laid bytes₀ []
-      cleared = back bytes₀ bytes place closing now s ∙ ap (laid bytes₀) none-live
+      cleared = front (place .start) (t .standing .within .start-in) now s ∙ ap (laid bytes₀) none-live
 
       pub is-empty : Empty now
       is-empty =
           rw cleared
           (record { room = omega (arith, length-laid bytes₀ [] (omega arith) (omega (arith, t .same, t .standing .within)), t .same, t .standing .within); padded = sym (laid-again bytes₀ [] (omega arith) []) })
 
-      same-outcome : fedFrom input (record { start = place .used; held = place .used; noise = place .noise; used = place .used }) input ≡ fedFrom bytes₀ place₀ input
-      same-outcome = fed-at input [] input _ (slice-empty (place .used) input) ∙ sym (fed-at bytes [] input place none-live) ∙ t .on
-
-      pub rest-answer : (r : Answer) → r ≡ answerOf freshTray (fedFrom input (record { start = place .used; held = place .used; noise = place .noise; used = place .used }) input)
-          → r ≡ answerOf freshTray (fedFrom bytes₀ place₀ input)
-      rest-answer r e = e ∙ ap (answerOf freshTray) same-outcome
-
-      pub rest-bytes : (last : List ℕ) → last ≡ bytesOf now (fedFrom input (record { start = place .used; held = place .used; noise = place .noise; used = place .used }) input)
-          → last ≡ bytesOf bytes₀ (fedFrom bytes₀ place₀ input)
-      unfolding fedFrom
-      rest-bytes last e =
-          let o = feed (drop (place .used) input) [] (place .noise) in
-          let g = good-plus (place .used) o (feed-kept (drop (place .used) input) [] (place .noise) (omega arith) (t .standing .within .noise-less)) in
-          let w : fedFrom bytes₀ place₀ input ≡ plus (place .used) o = sym (sym (fed-at bytes [] input place none-live) ∙ t .on) in
-          e ∙ ap (bytesOf now) (same-outcome ∙ w) ∙ same-bytes now bytes₀ (rw cleared (drop-laid bytes₀ [] (omega arith))) (plus (place .used) o) g ∙ ap (bytesOf bytes₀) (sym w)
+      pub rest-said : (r : Answer) (last : List ℕ)
+          → Answered (fedFrom input input (record { start = place .used; held = place .used; noise = place .noise; used = place .used })) now r last
+          → Answered (fedFrom input bytes₀ place₀) bytes₀ r last
+      rest-said r last c =
+          let e : fedFrom input input (record { start = place .used; held = place .used; noise = place .noise; used = place .used }) ≡ fedFrom input bytes₀ place₀
+          = fed-at input [] input _ (slice-empty (place .used) input) ∙ sym (fed-at bytes [] input place none-live) ∙ t .on in
+          record {
+            says = c .says ∙ ap (answerOf freshTray) e;
+            leaves = c .leaves ∙ laid-same now bytes₀ _ (rw cleared (drop-laid bytes₀ [] (omega arith))) ∙ ap (λ o. laid bytes₀ (heldBy o)) e;
+          }

@@ -1,16 +1,16 @@
 -- The turns of the small loops, in plain values: bytes that are all zero, bytes that are cleared, bytes that move to the front.
-use mathlib.Core.Path.{_≡_, refl, sym, ap, ap₂, _∙_, subst}
-use mathlib.Core.List.{List, [], _∷_, _++_, append-assoc, append-nil}
-use mathlib.Core.Bool.{Bool, true, false, _&&_, and-assoc, and-true}
+use mathlib.Core.Path.{_≡_, refl, sym, ap, _∙_, subst}
+use mathlib.Core.List.{List, [], _∷_, _++_, append-nil}
+use mathlib.Core.Bool.{_&&_, and-assoc, and-true}
 use Prim.Native.Nat.{ℕ, zero, suc, _+_, _-_, _≤_, _<_}
-use native.Mathlib.Nat.{not-suc-le-zero, le-of-suc-le-suc, add-comm, zero-add, add-zero, sub-zero, sub-self}
+use native.Mathlib.Nat.{not-suc-le-zero, le-of-suc-le-suc, add-comm}
 use native.Mathlib.Numerals.{add-one}
 use native.Mathlib.Omega.{arith}
-use lib.ListN.{length, getD, set, take, drop, replicate, length-append, length-take, length-drop, length-set, length-replicate, getD-replicate, drop-of-length-le, take-append-drop, replicate-append-replicate}
-use lib.Seq.{length-take-le, getD-append-add, getD-drop, take-all, take-at, drop-at, drop-cons, drop-length, drop-drop, take-length}
+use lib.ListN.{length, getD, set, take, drop, replicate, length-drop, length-set, length-replicate, getD-replicate, drop-of-length-le}
+use lib.Seq.{length-take-le, getD-append-add, getD-drop, drop-cons, take-length}
 use lib.Bits.{bitOr, or-zero-l, or-add-and, and-le-r}
 use lib.Dec.{eqb, eqb·suc-zero}
-use borrow.Author.Tests.{eq-eqb, ne-eqb}
+use borrow.Author.Tests.{ne-eqb}
 use Rattle.stream.specs.Tray.{zeros}
 
 -- ---- all zero

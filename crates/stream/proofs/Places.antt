@@ -1,14 +1,12 @@
 -- The returns of the functions that move a place, in plain values.
-use mathlib.Core.Path.{_≡_, refl, sym, ap, ap₂, _∙_}
+use mathlib.Core.Path.{_≡_, _∙_}
 use mathlib.Core.Logic.{⊎-elim}
-use mathlib.Core.List.{List, [], _∷_, _++_}
-use mathlib.Core.Bool.{cond}
-use Prim.Native.Nat.{ℕ, zero, suc, _+_, _-_, _≤_, _<_, min}
+use mathlib.Core.List.{List}
+use Prim.Native.Nat.{ℕ, _+_, _-_, _*_, _≤_, _<_, min}
 use native.Mathlib.Omega.{arith}
-use lib.ListN.{length, take, drop, length-drop}
-use lib.Seq.{take-all, drop-drop, length-take-le}
-use lib.Dec.{ltb, eqb}
-use borrow.Author.Tests.{lt-ltb, le-ltb, eq-eqb, ne-eqb}
+use lib.ListN.{length, take}
+use lib.Seq.{length-take-le}
+use borrow.Author.Tests.{lt-ltb, le-ltb}
 use Rattle.frame.specs.declared.Frame.{Frame}
 use Rattle.frame.specs.Laws.{accepted-length}
 use Rattle.stream.specs.declared.Tray.{Tray}
@@ -17,7 +15,7 @@ use Rattle.stream.specs.declared.Answer.{Answer}
 use Rattle.stream.specs.declared.Place.{Place}
 use Rattle.stream.specs.Driver.{Ready}
 use Rattle.stream.specs.Sound.{sound-parts}
-use Rattle.stream.specs.Walk.{shifted, Standing, reached, noised, settled, shownAnswer}
+use Rattle.stream.specs.Walk.{toGo, reached, noised, settled, shownAnswer}
 
 -- ---- show
 
@@ -49,6 +47,12 @@ module _ (place place′ : Place) (s : place′ ≡ noised place) where
 
   pub noised-old : place .start < place .held → place′ .start ≤ place .held
   noised-old h = rw s (omega arith)
+
+  pub noised-nearer : (input : List ℕ) → place .start < place .held → toGo place′ input < toGo place input
+  noised-nearer input h = rw s (nearer (3 * (length input - place .used)) (place .held) (place .start) h)
+    where
+      nearer : (n h b : ℕ) → b < h → n + (h - (b + 1)) + h < n + (h - b) + h
+      nearer n h b l = omega arith
 
 -- ---- reach
 

@@ -1,30 +1,22 @@
 -- The steps of a call, in plain values: from each place on, what the call comes to is what it came to at the start.
-use mathlib.Core.Path.{_≡_, refl, sym, ap, ap₂, _∙_, subst}
-use mathlib.Core.List.{List, [], _∷_, _++_, append-assoc, append-nil}
-use mathlib.Core.Bool.{cond, Bool, true, false}
+use mathlib.Core.Path.{_≡_, refl, sym, ap, ap₂, _∙_}
+use mathlib.Core.List.{List, _++_, append-assoc, append-nil}
 use Prim.Native.Nat.{ℕ, zero, suc, _+_, _-_, _*_, _≤_, _<_, min}
-use native.Mathlib.Nat.{add-zero, min-le-left, min-le-right, sub-zero, zero-sub, suc-sub-suc, suc-min-suc}
+use native.Mathlib.Nat.{min-le-left, min-le-right, sub-zero, zero-sub, suc-sub-suc, suc-min-suc}
 use native.Mathlib.Omega.{arith}
-use lib.ListN.{length, take, drop, replicate, length-append, length-take, length-drop, length-replicate, take-append-drop, replicate-append-replicate, drop-of-length-le}
-use lib.Seq.{take-at, drop-at, take-all, take-append-seam, drop-append-le, take-append-le, drop-drop, length-take-le}
+use lib.ListN.{length, take, drop, replicate, length-append, length-take, length-drop, length-replicate, replicate-append-replicate, drop-of-length-le}
+use lib.Seq.{drop-at, take-all, drop-append-le, drop-drop, length-take-le}
 use mir.Val.{Fits}
 use mir.Syntax.{w64}
-use lib.Dec.{eqb}
-use borrow.Author.Tests.{eqb-true, eqb-false}
 use Rattle.sizes.specs.Sizes.{longestFrame, mostNoise}
-use Rattle.answer.specs.declared.Refusal.{Refusal}
-use Rattle.frame.specs.declared.Frame.{Frame}
-use Rattle.frame.specs.declared.Checked.{Checked}
-use Rattle.frame.specs.declared.Checked.the-variants.{Accepted, Short, Refused}
-use Rattle.frame.specs.Check.{checked}
 use Rattle.frame.specs.Laws.{short-wants}
 use Rattle.stream.specs.declared.Place.{Place}
-use Rattle.stream.specs.Scan.{Event, frame, noise}
-use Rattle.stream.specs.Tray.{Outcome, feed, laid}
+use Rattle.stream.specs.Scan.{noise}
+use Rattle.stream.specs.Tray.{feed, laid}
 use Rattle.stream.specs.Sound.{take-laid, drop-laid, length-laid, laid-same, laid-again}
-use Rattle.stream.specs.Walk.{shifted, Within, Standing, plus, fedFrom, toGo, Onward, liveAt, Wanting}
-use Rattle.stream.proofs.Parts.{part-is, length-part}
-use Rattle.stream.proofs.Feeding.{plus-zero, plus-plus, feed-block}
+use Rattle.stream.specs.Walk.{shifted, Standing, plus, fedFrom, Onward, liveAt, Wanting, noised}
+use Rattle.stream.proofs.Parts.{length-part}
+use Rattle.stream.proofs.Feeding.{plus-plus, feed-block}
 
 -- ---- the tray's bytes: those held, zeros, and what is beyond
 
@@ -65,6 +57,16 @@ module _ (bytes : List ℕ) (held : ℕ) (most-held : held ≤ longestFrame) (ro
       ∙ ap (λ t. t ++ drop longestFrame bytes) (drop-replicate (length part) (longestFrame - held) ∙ ap (λ k. replicate k 0) n) in
       ap (λ t. take held bytes ++ (part ++ t)) d ∙ sym (append-assoc (take held bytes) part _)
 
+-- the live bytes from a place on, moved to the front of a tray that is as it was beyond 1,103
+pub back : (bytes₀ bytes input : List ℕ) (place : Place) → Standing place bytes input → drop longestFrame bytes ≡ drop longestFrame bytes₀
+    → (start : ℕ) → start ≤ place .held → (now : List ℕ) → now ≡ shifted bytes (place .held) start → now ≡ laid bytes₀ (drop start (take (place .held) bytes))
+back bytes₀ bytes input place st b start h now s =
+    s ∙ shifted-laid bytes (place .held) (st .within .held-most) (st .within .room) (st .padded) start h ∙ laid-same bytes bytes₀ (drop start (take (place .held) bytes)) b
+
+-- a byte of noise, and the live bytes behind it
+pub behind-noise : (lies : List ℕ) (place place′ : Place) → place′ ≡ noised place → drop 1 (liveAt place lies) ≡ drop (place′ .start) (take (place .held) lies)
+behind-noise lies place place′ p = rw p (drop-drop 1 (place .start) (take (place .held) lies))
+
 -- a place in a tray so laid
 pub stand-laid : (bytes held input : List ℕ) (place : Place) → length held ≡ place .held → place .start ≤ place .held → place .held ≤ longestFrame → longestFrame ≤ length bytes
     → place .noise < mostNoise → place .used ≤ length input → Standing place (laid bytes held) input
@@ -76,9 +78,9 @@ stand-laid bytes held input place l s h r n u =
     }
 
 -- what the call comes to, where the live bytes are known
-pub fed-at : (bytes live input : List ℕ) (place : Place) → liveAt place bytes ≡ live → fedFrom bytes place input ≡ plus (place .used) (feed (drop (place .used) input) live (place .noise))
+pub fed-at : (lies live input : List ℕ) (place : Place) → liveAt place lies ≡ live → fedFrom input lies place ≡ plus (place .used) (feed (drop (place .used) input) live (place .noise))
 unfolding fedFrom
-fed-at bytes live input place e = ap (λ l. plus (place .used) (feed (drop (place .used) input) l (place .noise))) e
+fed-at lies live input place e = ap (λ l. plus (place .used) (feed (drop (place .used) input) l (place .noise))) e
 
 take-le : (n : ℕ) (l : List ℕ) → length (take n l) ≤ n
 take-le n l = rw length-take (min-le-left n (length l))
@@ -110,7 +112,7 @@ module _ (place : Place) (bytes input : List ℕ) (st : Standing place bytes inp
 
     -- the live bytes move to the front
     pub onward-shift : (now : List ℕ) → now ≡ shifted bytes (place .held) (place .start) → longestFrame < place .start + wanted
-        → Onward place bytes input (record { start = 0; held = place .held - place .start; noise = place .noise; used = place .used }) now
+        → Onward (fedFrom input) place bytes input (record { start = 0; held = place .held - place .start; noise = place .noise; used = place .used }) now
     onward-shift now e h =
         let L = liveAt place bytes in
         let l : length L ≡ place .held - place .start = length-live in
@@ -134,7 +136,7 @@ module _ (place : Place) (bytes input : List ℕ) (st : Standing place bytes inp
 
       -- bytes are taken
       pub onward-copy : (part : List ℕ) → part ≡ take (place .used + count - place .used) (drop (place .used) input)
-          → Onward place bytes input (record { start = place .start; held = place .held + count; noise = place .noise; used = place .used + count })
+          → Onward (fedFrom input) place bytes input (record { start = place .start; held = place .held + count; noise = place .noise; used = place .used + count })
           (take (place .held) bytes ++ (part ++ drop (place .held + count - place .held) (drop (place .held) bytes)))
       onward-copy part e =
           let L = liveAt place bytes in
@@ -174,7 +176,7 @@ module _ (place : Place) (bytes input : List ℕ) (st : Standing place bytes inp
           → part
           ≡ take (length (take (place .used + count - place .used) (drop (place .used) input))) (take (place .used + count - place .used) (drop (place .used) input))
           ++ drop (length (take (place .used + count - place .used) (drop (place .used) input))) (take (place .held + count - place .held) (drop (place .held) bytes))
-          → Onward place bytes input (record { start = place .start; held = place .held + count; noise = place .noise; used = place .used + count })
+          → Onward (fedFrom input) place bytes input (record { start = place .start; held = place .held + count; noise = place .noise; used = place .used + count })
           (take (place .held) bytes ++ (part ++ drop (place .held + count - place .held) (drop (place .held) bytes)))
       onward-taken part e =
           let f = count-fits in

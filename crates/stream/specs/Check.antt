@@ -1,11 +1,9 @@
 -- Three more laws of the frame's check. Serves proofs; proved.
 use mathlib.Core.Path.{_≡_, refl}
 use mathlib.Core.List.{List, [], _∷_}
-use mathlib.Core.Bool.{not}
 use Prim.Native.Nat.{ℕ, suc, _<_}
 use native.Mathlib.Omega.{arith}
 use lib.ListN.{length}
-use lib.Dec.{eqb}
 use borrow.Author.Tests.{lt-ltb, le-ltb, eq-eqb, ne-eqb}
 use Rattle.answer.specs.declared.Refusal.the-variants.{Preamble}
 use Rattle.frame.specs.declared.Checked.the-variants.{Short, Refused}

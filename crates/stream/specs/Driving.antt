@@ -1,6 +1,6 @@
 -- Reading a whole stream, call by call: what the theorems rest on. Serves proofs; proved.
-use mathlib.Core.Path.{_≡_, refl, sym, ap, _∙_, subst}
-use mathlib.Core.Logic.{_⊎_, inl, inr, ⊎-elim}
+use mathlib.Core.Path.{_≡_, refl, sym, ap, _∙_}
+use mathlib.Core.Logic.{_⊎_, inl, ⊎-elim}
 use mathlib.Core.List.{List, [], _∷_, _++_, append-assoc, append-nil, flatten}
 use mathlib.Core.Bool.{Bool, true, false, not}
 use Prim.Native.Nat.{ℕ, zero, suc, _+_, _-_, _≤_, _<_}
@@ -9,11 +9,12 @@ use lib.ListN.{length, take, drop, replicate, length-replicate}
 use lib.Seq.{length-take-le}
 use lib.Dec.{ltb}
 use Rattle.sizes.specs.Sizes.{longestFrame}
+use Rattle.answer.specs.Stop.{stop}
 use Rattle.answer.specs.declared.Refusal.the-variants.{Room, State}
 use Rattle.stream.specs.declared.Tray.{Tray}
 use Rattle.stream.specs.declared.Said.{Said}
 use Rattle.stream.specs.Scan.{Event, scanFrom, scan}
-use Rattle.stream.specs.Tray.{zeros, sound, contents, Decision, event, none, decide, Outcome, refused, told, hungry, done, taken, feedBy, feedEnd, feed, stop, called, finished}
+use Rattle.stream.specs.Tray.{zeros, sound, contents, Decision, event, none, decide, Outcome, refused, told, hungry, done, taken, feedBy, feedEnd, feed, called, finished}
 use Rattle.stream.specs.Tray.{freshTray, answerOf, laid, callAnswer, callBytes, finishAnswer, finishBytes}
 use Rattle.stream.specs.Driver.{Ready, Clear, Tells, Caller, waits, Feeds, Closes}
 use Rattle.stream.specs.Machine.{Reading, tells, onList, scan-reading}
@@ -44,10 +45,6 @@ feeds-ready Feeds.no-more r = r
 feeds-ready (Feeds.an-event {p = p} k f) r = feeds-ready f (call-ready r p)
 feeds-ready (Feeds.all-used {p = p} k f) r = feeds-ready f (call-ready r p)
 feeds-ready (Feeds.passed-over g f) r = feeds-ready f r
-
-pub closes-ready : {b b₁ : List ℕ} {t t₁ : Tray} {es : List Event} → Closes b t es b₁ t₁ → Ready b t → Ready b₁ t₁
-closes-ready (Closes.an-event k f) r = closes-ready f (finish-ready r)
-closes-ready (Closes.is-done k) r = finish-ready r
 
 -- ---- no more input is used than there is; hungry: all of it is used
 
@@ -80,7 +77,7 @@ call-used-by : (bytes : List ℕ) (tray : Tray) (input : List ℕ) → Used inpu
 unfolding called
 call-used-by bytes tray input = go (ltb (length bytes) longestFrame) (not (sound bytes tray))
   where
-    go : (a b : Bool) → Used input (stop a Room (stop b State (feed input (liveOf bytes tray) (tray .noise))))
+    go : (a b : Bool) → Used input (stop a (refused Room) (stop b (refused State) (feed input (liveOf bytes tray) (tray .noise))))
     go true b = tt
     go false true = tt
     go false false = feed-used input (liveOf bytes tray) (tray .noise)

@@ -1,20 +1,19 @@
 -- What the contents of a tray are after a call and after finish. Serves proofs; proved.
-use mathlib.Core.Path.{_≡_, refl, sym, ap, _∙_, subst}
+use mathlib.Core.Path.{_≡_, refl}
 use mathlib.Core.List.{List, [], _∷_, _++_}
 use mathlib.Core.Bool.{Bool, true, false}
 use Prim.Native.Nat.{ℕ, zero, suc, _+_, _≤_, _<_}
 use native.Mathlib.Omega.{arith}
-use lib.ListN.{length, take, drop, length-append}
+use lib.ListN.{length, take, length-append}
 use lib.Dec.{ltb}
-use borrow.Author.Tests.{ltb-true, ltb-false}
+use borrow.Author.Tests.{ltb-true}
 use Rattle.sizes.specs.Sizes.{longestFrame, mostNoise}
-use Rattle.answer.specs.declared.Refusal.{Refusal}
 use Rattle.frame.specs.declared.Frame.{Frame}
 use Rattle.frame.specs.declared.Checked.{Checked}
 use Rattle.frame.specs.declared.Checked.the-variants.{Accepted, Short, Refused}
 use Rattle.frame.specs.Check.{checked}
 use Rattle.stream.specs.Scan.{Event, frame, noise, Count, full, some, oneMore, pickCount}
-use Rattle.stream.specs.Tray.{Contents, live, Decision, event, none, accept, next, decideBy, decide}
+use Rattle.stream.specs.Tray.{Contents, Decision, event, none, accept, next, decideBy, decide}
 use Rattle.stream.specs.Tray.{Outcome, refused, told, hungry, done, taken, feedBy, feedEnd, feed, closeBy, close, closeEnd}
 use Rattle.frame.specs.Laws.{short-below}
 use Rattle.stream.specs.Machine.{empty}

@@ -1,9 +1,9 @@
 -- What a call and finish come to, of every reading of the bytes to come that goes as `scan` does. Serves proofs; proved.
 use mathlib.Core.Path.{_≡_, refl, sym, ap, _∙_, subst}
-use mathlib.Core.List.{List, [], _∷_, _++_, append-assoc, append-nil}
-use Prim.Native.Nat.{ℕ, zero, suc, pred, _+_, _≤_, _<_}
+use mathlib.Core.List.{List, [], _∷_, _++_, append-assoc}
+use Prim.Native.Nat.{ℕ, zero, suc, _+_, _≤_}
 use native.Mathlib.Omega.{arith}
-use lib.ListN.{length, take, drop, length-append, length-drop}
+use lib.ListN.{length, take, drop}
 use lib.Seq.{take-append-le, drop-append-le}
 use Rattle.sizes.specs.Sizes.{mostNoise}
 use Rattle.answer.specs.declared.Refusal.{Refusal}
@@ -11,7 +11,7 @@ use Rattle.frame.specs.declared.Frame.{Frame}
 use Rattle.frame.specs.declared.Checked.{Checked}
 use Rattle.frame.specs.declared.Checked.the-variants.{Accepted, Short, Refused}
 use Rattle.frame.specs.Check.{checked}
-use Rattle.stream.specs.Scan.{Event, frame, noise, Count, full, some, oneMore, tell, pass, scanBy, scanFrom, scan}
+use Rattle.stream.specs.Scan.{Event, frame, noise, Count, full, some, oneMore, tell, pass, scanFrom}
 use Rattle.stream.specs.Tray.{Contents, live, Decision, event, none, accept, next, decideBy, decide}
 use Rattle.stream.specs.Tray.{Outcome, refused, told, hungry, done, taken, feedBy, feedEnd, feed, closeBy, close, closeEnd}
 use Rattle.frame.specs.Laws.{accepted-length, keeps-accepted, keeps-refused}

@@ -1,26 +1,23 @@
 -- A tray's soundness in its parts; and what is laid out in a tray is read back from it, and is sound. Serves proofs; proved.
-use mathlib.Core.Path.{_≡_, refl, sym, ap, ap₂, _∙_, subst}
+use mathlib.Core.Path.{_≡_, refl, sym, ap, ap₂, _∙_}
 use mathlib.Core.Logic.{_⊎_, inl, inr, ⊎-elim}
 use mathlib.Core.List.{List, [], _∷_, _++_, append-assoc}
-use mathlib.Core.Bool.{Bool, true, false, not, _&&_, _||_, or-true}
+use mathlib.Core.Bool.{Bool, true, false, _&&_, _||_, or-true}
 use Prim.Native.Nat.{ℕ, zero, suc, _+_, _-_, _≤_, _<_}
 use native.Mathlib.Omega.{arith}
 use lib.ListN.{length, take, drop, replicate, length-append, length-drop, length-replicate, take-append-drop}
 use lib.Seq.{take-append-seam, drop-append-seam, take-at, drop-at, take-take, length-take-le}
-use lib.Dec.{ltb, leb, eqb}
-use borrow.Author.Tests.{lt-ltb, le-leb, eq-eqb, ltb-true, leb-true, eqb-true, eqb-false, le-ltb}
+use lib.Dec.{eqb}
+use borrow.Author.Tests.{lt-ltb, le-leb, eq-eqb, ltb-true, leb-true, eqb-true}
 use Rattle.sizes.specs.Sizes.{longestFrame, mostNoise}
-use Rattle.answer.specs.declared.Refusal.{Refusal}
 use Rattle.frame.specs.declared.Frame.{Frame}
 use Rattle.frame.specs.declared.Checked.{Checked}
 use Rattle.frame.specs.declared.Checked.the-variants.{Accepted, Short, Refused}
 use Rattle.frame.specs.Check.{checked}
 use Rattle.stream.specs.declared.Tray.{Tray}
-use Rattle.stream.specs.Scan.{Event, frame, noise}
-use Rattle.stream.specs.Tray.{zeros, isFrame, sound, Contents, contents, live, Outcome, refused, told, hungry, done, stop, feed, close, closeEnd, called, finished, freshTray, trayOf, laid}
-use Rattle.stream.specs.Driver.{Ready, Clear}
-use Rattle.stream.specs.Machine.{empty}
-use Rattle.stream.specs.Kept.{Kept, Waits}
+use Rattle.stream.specs.Scan.{noise}
+use Rattle.stream.specs.Tray.{zeros, isFrame, sound, Contents, contents, trayOf, laid}
+use Rattle.stream.specs.Driver.{Clear}
 
 -- ---- zeros
 

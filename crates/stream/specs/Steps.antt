@@ -2,14 +2,12 @@
 use mathlib.Core.Path.{_≡_, refl, sym, ap, ap₂, _∙_, subst}
 use mathlib.Core.Logic.{_⊎_, inl, inr}
 use mathlib.Core.List.{List, [], _∷_, _++_}
-use mathlib.Core.Bool.{true, false}
-use Prim.Native.Nat.{ℕ, zero, suc, _+_, _-_, _≤_, _<_}
+use Prim.Native.Nat.{ℕ, _+_, _-_, _≤_, _<_}
 use native.Mathlib.Omega.{arith}
-use lib.ListN.{length, take, drop, length-drop, replicate}
+use lib.ListN.{length, take, drop, length-drop}
 use lib.Seq.{take-append-le, length-take-le}
 use borrow.Author.Tests.{le-ltb}
 use Rattle.sizes.specs.Sizes.{longestFrame, mostNoise}
-use Rattle.answer.specs.declared.Refusal.{Refusal}
 use Rattle.frame.specs.declared.Frame.{Frame}
 use Rattle.frame.specs.declared.Checked.the-variants.{Accepted}
 use Rattle.frame.specs.Check.{checked}
@@ -21,7 +19,7 @@ use Rattle.stream.specs.Driver.{Ready, Tells}
 use Rattle.frame.specs.Laws.{accepted-length}
 use Rattle.stream.specs.Machine.{Fed, Reading, Ended, empty, feed-good, finish-good}
 use Rattle.stream.specs.Kept.{Kept, Waits, Good, feed-kept, finish-kept}
-use Rattle.stream.specs.Sound.{Sound, sound-parts, sound-whole, take-laid, drop-laid, length-laid, zeros-laid, contents-laid}
+use Rattle.stream.specs.Sound.{sound-parts, sound-whole, take-laid, drop-laid, length-laid, zeros-laid, contents-laid}
 
 abbrev pub liveOf : List ℕ → Tray → List ℕ
 liveOf b t = live (contents b t)

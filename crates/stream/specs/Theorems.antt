@@ -1,6 +1,6 @@
 -- The theorems of the stream, about the definitions that the contracts of `call` and `finish` cite. The proofs rest on Driving.antt.
 use mathlib.Core.Path.{_≡_}
-use mathlib.Core.List.{List, [], _∷_, _++_, flatten}
+use mathlib.Core.List.{List, _++_, flatten}
 use Prim.Native.Nat.{ℕ, _≤_}
 use lib.ListN.{length, replicate}
 use Rattle.sizes.specs.Sizes.{longestFrame}
@@ -8,7 +8,7 @@ use Rattle.stream.specs.declared.Tray.{Tray}
 use Rattle.stream.specs.declared.Said.{Said}
 use Rattle.stream.specs.Scan.{Event, scan}
 use Rattle.stream.specs.Tray.{freshTray, callAnswer, callBytes, finishAnswer, finishBytes}
-use Rattle.stream.specs.Driver.{Ready, Clear, Caller, waits, Feeds, Closes, Whole}
+use Rattle.stream.specs.Driver.{Ready, Clear, Caller, waits, Feeds, Whole}
 use Rattle.stream.specs.Driving as Driving
 
 -- However a stream is cut into portions, some of them empty: calling on each until hungry, or until it is used up, and then finishing until done tells exactly the

@@ -6,6 +6,7 @@ use lib.ListN.{length, take, drop, replicate}
 use lib.Dec.{ltb, leb, eqb}
 use Rattle.sizes.specs.Sizes.{longestFrame, mostNoise}
 use Rattle.answer.specs.Number.{numberOf}
+use Rattle.answer.specs.Stop.{stop}
 use Rattle.answer.specs.declared.Refusal.{Refusal}
 use Rattle.answer.specs.declared.Refusal.the-variants.{Room, State}
 use Rattle.frame.specs.declared.Frame.{Frame}
@@ -121,20 +122,16 @@ closeEnd (none held count) = done (record { held = held; shown = 0; noise = coun
 
 -- ---- "A call or finish checks ROOM, STATE, drops the shown frame, then decides on the bytes held"
 
-abbrev pub stop : Bool → Refusal → Outcome → Outcome
-stop true r rest = refused r
-stop false r rest = rest
-
 unfoldable pub called : List ℕ → Tray → List ℕ → Outcome
 called bytes tray input =
-    stop (ltb (length bytes) longestFrame) Room (
-    stop (not (sound bytes tray)) State (
+    stop (ltb (length bytes) longestFrame) (refused Room) (
+    stop (not (sound bytes tray)) (refused State) (
     feed input (live (contents bytes tray)) (tray .noise)))
 
 unfoldable pub finished : List ℕ → Tray → Outcome
 finished bytes tray =
-    stop (ltb (length bytes) longestFrame) Room (
-    stop (not (sound bytes tray)) State (
+    stop (ltb (length bytes) longestFrame) (refused Room) (
+    stop (not (sound bytes tray)) (refused State) (
     closeEnd (close (live (contents bytes tray)) (tray .noise))))
 
 -- ---- what the caller sees: the answer, and the tray's bytes afterwards

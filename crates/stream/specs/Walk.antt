@@ -1,8 +1,8 @@
 -- What the code's own steps compute. Serves proofs: no contract of a public function cites these.
 use mathlib.Core.Path.{_≡_}
-use mathlib.Core.List.{List, [], _∷_, _++_}
-use mathlib.Core.Bool.{Bool, true, false, cond}
-use Prim.Native.Nat.{ℕ, zero, suc, _+_, _-_, _*_, _≤_, _<_, min}
+use mathlib.Core.List.{List, [], _++_}
+use mathlib.Core.Bool.{cond}
+use Prim.Native.Nat.{ℕ, _+_, _-_, _*_, _≤_, _<_, min}
 use lib.ListN.{length, take, drop, replicate}
 use lib.Dec.{ltb}
 use Rattle.sizes.specs.Sizes.{longestFrame, mostNoise}
@@ -15,7 +15,7 @@ use Rattle.stream.specs.declared.Answer.{Answer}
 use Rattle.stream.specs.declared.Place.{Place}
 use Rattle.stream.specs.declared.Turn.{Turn}
 use Rattle.stream.specs.declared.Turn.the-variants as turn
-use Rattle.stream.specs.Tray.{Outcome, refused, told, hungry, done, feed, close, closeEnd, freshTray, answerOf, bytesOf, laid}
+use Rattle.stream.specs.Tray.{Outcome, refused, told, hungry, done, feed, close, closeEnd, freshTray, answerOf, laid}
 
 -- the first `start` of the bytes held go, the rest moves to the front, and zeros fill the end
 unfoldable pub shifted : List ℕ → ℕ → ℕ → List ℕ
@@ -41,44 +41,44 @@ plus u (told e c n) = told e c (u + n)
 plus u (hungry c n) = hungry c (u + n)
 plus u (done c) = done c
 
+-- the live bytes of a place: of the tray, or of the input
+abbrev pub liveAt : Place → List ℕ → List ℕ
+liveAt place lies = drop (place .start) (take (place .held) lies)
+
 -- what a call comes to from a place on
-unfoldable pub fedFrom : List ℕ → Place → List ℕ → Outcome
-fedFrom bytes place input = plus (place .used) (feed (drop (place .used) input) (drop (place .start) (take (place .held) bytes)) (place .noise))
+unfoldable pub fedFrom : (input lies : List ℕ) → Place → Outcome
+fedFrom input lies place = plus (place .used) (feed (drop (place .used) input) (liveAt place lies) (place .noise))
 
 -- what finish comes to from a place on
 unfoldable pub closedFrom : List ℕ → Place → Outcome
-closedFrom bytes place = plus (place .used) (closeEnd (close (drop (place .start) (take (place .held) bytes)) (place .noise)))
+closedFrom bytes place = plus (place .used) (closeEnd (close (liveAt place bytes) (place .noise)))
 
--- a step of finish: what it comes to stays the same
-pub record Nearer (bytes : List ℕ) (place : Place) (bytes′ : List ℕ) (place′ : Place) : Type 0 where
-  pub standing : Standing place′ bytes′ []
-  pub same : bytes′ ≡ bytes
-  pub on : closedFrom bytes′ place′ ≡ closedFrom bytes place
-  pub less : place′ .held - place′ .start < place .held - place .start
-
--- what finish comes to is said, and the tray is as it leaves it
-pub record Closed (bytes : List ℕ) (place : Place) (answer : Answer) (bytes′ : List ℕ) : Type 0 where
-  pub says : answer ≡ answerOf freshTray (closedFrom bytes place)
-  pub leaves : bytes′ ≡ bytesOf bytes (closedFrom bytes place)
-
-abbrev pub CloseTurn : List ℕ → Place → Turn → List ℕ → Type 0
-CloseTurn bytes place (turn.On place′) bytes′ = Nearer bytes place bytes′ place′
-CloseTurn bytes place (turn.Ended answer) bytes′ = Closed bytes place answer bytes′
-
--- how far a place is from the end: each turn of the loop comes nearer
+-- how far a place is from the end: each turn of a loop comes nearer
 abbrev pub toGo : Place → List ℕ → ℕ
 toGo place input = 3 * (length input - place .used) + (place .held - place .start) + place .held
 
--- a step from a place on: what the call comes to stays the same
-pub record Onward (place : Place) (bytes input : List ℕ) (place′ : Place) (bytes′ : List ℕ) : Type 0 where
+-- a step from a place on: what all comes to, which is G of tray and place, stays the same
+pub record Onward (G : List ℕ → Place → Outcome) (place : Place) (bytes input : List ℕ) (place′ : Place) (bytes′ : List ℕ) : Type 0 where
   pub standing : Standing place′ bytes′ input
   pub beyond : drop longestFrame bytes′ ≡ drop longestFrame bytes
-  pub on : fedFrom bytes′ place′ input ≡ fedFrom bytes place input
+  pub on : G bytes′ place′ ≡ G bytes place
   pub nearer : toGo place′ input < toGo place input
 
--- the live bytes
-abbrev pub liveAt : Place → List ℕ → List ℕ
-liveAt place bytes = drop (place .start) (take (place .held) bytes)
+-- the bytes that are held then
+abbrev pub heldBy : Outcome → List ℕ
+heldBy (refused r) = []
+heldBy (told e c n) = c .held
+heldBy (hungry c n) = c .held
+heldBy (done c) = c .held
+
+-- what all comes to is said, and the tray is as that leaves it
+pub record Answered (o : Outcome) (bytes : List ℕ) (answer : Answer) (bytes′ : List ℕ) : Type 0 where
+  pub says : answer ≡ answerOf freshTray o
+  pub leaves : bytes′ ≡ laid bytes (heldBy o)
+
+abbrev pub CloseTurn : List ℕ → Place → Turn → List ℕ → Type 0
+CloseTurn bytes place (turn.On place′) bytes′ = Onward closedFrom place bytes [] place′ bytes′
+CloseTurn bytes place (turn.Ended answer) bytes′ = Answered (closedFrom bytes place) bytes answer bytes′
 
 -- SHORT, and there is input left
 pub record Wanting (place : Place) (bytes input : List ℕ) (wanted : ℕ) : Type 0 where
@@ -93,15 +93,11 @@ pub record Seen (place : Place) (input : List ℕ) : Type 0 where
   pub noise-less : place .noise < mostNoise
   pub used-in : place .used ≤ length input
 
--- how far such a place is from the end
-abbrev pub toEnd : Place → List ℕ → ℕ
-toEnd place input = 2 * (length input - place .used) + (place .held - place .start)
-
 -- a step along the input: what the call comes to stays the same
 pub record Along (place : Place) (input : List ℕ) (place′ : Place) : Type 0 where
   pub seen : Seen place′ input
-  pub on : fedFrom input place′ input ≡ fedFrom input place input
-  pub no-further : toEnd place′ input ≤ toEnd place input
+  pub on : fedFrom input input place′ ≡ fedFrom input input place
+  pub no-further : toGo place′ input ≤ toGo place input
 
 -- where so many bytes are wanted, the input is used up to there
 abbrev pub reached : Place → List ℕ → ℕ → Place

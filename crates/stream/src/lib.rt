@@ -4,9 +4,9 @@ ghost use mathlib.Core.List.{[], _++_};
 ghost use Prim.Native.Nat.{ℕ, _+_, _-_, _≤_, _<_, min};
 ghost use lib.ListN.{length, take, drop, replicate};
 ghost use Rattle.sizes.specs.Sizes.{longestFrame, mostNoise};
-ghost use Rattle.stream.specs.Tray.{zeros, isFrame, sound, freshTray, numberOfSaid, refused, answerOf, bytesOf, callAnswer, callBytes, finishAnswer, finishBytes};
+ghost use Rattle.stream.specs.Tray.{zeros, isFrame, sound, freshTray, numberOfSaid, refused, answerOf, callAnswer, callBytes, finishAnswer, finishBytes};
 ghost use Rattle.stream.specs.Driver.{Ready};
-ghost use Rattle.stream.specs.Walk.{shifted, Standing, fedFrom, Closed, CloseTurn, Wanting, Onward, Seen, Along, reached, Empty, noised, settled, shownAnswer, droppedPlace};
+ghost use Rattle.stream.specs.Walk.{shifted, Standing, fedFrom, closedFrom, Answered, CloseTurn, Wanting, Onward, Seen, Along, reached, Empty, noised, settled, shownAnswer, droppedPlace};
 use answer::Refusal;
 use frame::Checked;
 use frame::Frame;
@@ -166,7 +166,7 @@ fn least(a: usize, b: usize) -> usize
 fn take_more(bytes: &mut [u8], place: Place, input: &[u8], wanted: usize) -> Place
     requires { ⌜ Standing place (now bytes) (now input) ⌝ }
     requires { ⌜ Wanting place (now bytes) (now input) wanted ⌝ }
-    ensures { λ r. ⌜ Onward place (now (bytes .entry)) (now (input .entry)) r (now (bytes .exit)) ⌝ }
+    ensures { λ r. ⌜ Onward (fedFrom (now (input .entry))) place (now (bytes .entry)) (now (input .entry)) r (now (bytes .exit)) ⌝ }
 {
     let start = place.start;
     let held = place.held;
@@ -285,8 +285,7 @@ fn ahead(place: Place, input: &[u8]) -> Place
 fn feed_input(bytes: &mut [u8], place: Place, input: &[u8]) -> Answer
     requires { ⌜ Seen place (now input) ⌝ }
     requires { ⌜ Empty (now bytes) ⌝ }
-    ensures { λ r. ⌜ r ≡ answerOf freshTray (fedFrom (now (input .entry)) place (now (input .entry))) ⌝ }
-    ensures { λ _. ⌜ now (bytes .exit) ≡ bytesOf (now (bytes .entry)) (fedFrom (now (input .entry)) place (now (input .entry))) ⌝ }
+    ensures { λ r. ⌜ Answered (fedFrom (now (input .entry)) (now (input .entry)) place) (now (bytes .entry)) r (now (bytes .exit)) ⌝ }
 {
     let mut place = place;
     loop {
@@ -320,8 +319,7 @@ fn feed_input(bytes: &mut [u8], place: Place, input: &[u8]) -> Answer
 // The call from a place on while bytes are live in the tray, and then where none is.
 fn feed(bytes: &mut [u8], place: Place, input: &[u8]) -> Answer
     requires { ⌜ Standing place (now bytes) (now input) ⌝ }
-    ensures { λ r. ⌜ r ≡ answerOf freshTray (fedFrom (now (bytes .entry)) place (now (input .entry))) ⌝ }
-    ensures { λ _. ⌜ now (bytes .exit) ≡ bytesOf (now (bytes .entry)) (fedFrom (now (bytes .entry)) place (now (input .entry))) ⌝ }
+    ensures { λ r. ⌜ Answered (fedFrom (now (input .entry)) (now (bytes .entry)) place) (now (bytes .entry)) r (now (bytes .exit)) ⌝ }
 {
     let mut place = place;
     while place.start < place.held {
@@ -393,7 +391,7 @@ fn close_turn(bytes: &mut [u8], place: Place) -> Turn
 fn close_end(bytes: &mut [u8], place: Place) -> Answer
     requires { ⌜ Standing place (now bytes) [] ⌝ }
     requires { ⌜ place .held ≤ place .start ⌝ }
-    ensures { λ r. ⌜ Closed (now (bytes .entry)) place r (now (bytes .exit)) ⌝ }
+    ensures { λ r. ⌜ Answered (closedFrom (now (bytes .entry)) place) (now (bytes .entry)) r (now (bytes .exit)) ⌝ }
 {
     let start = place.start;
     let held = place.held;
@@ -408,7 +406,7 @@ fn close_end(bytes: &mut [u8], place: Place) -> Answer
 // Finish from a place on: every byte that is left is tried as the first of a frame.
 fn close(bytes: &mut [u8], place: Place) -> Answer
     requires { ⌜ Standing place (now bytes) [] ⌝ }
-    ensures { λ r. ⌜ Closed (now (bytes .entry)) place r (now (bytes .exit)) ⌝ }
+    ensures { λ r. ⌜ Answered (closedFrom (now (bytes .entry)) place) (now (bytes .entry)) r (now (bytes .exit)) ⌝ }
 {
     let mut place = place;
     while place.start < place.held {

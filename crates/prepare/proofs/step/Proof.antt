@@ -1,6 +1,6 @@
--- One lemma for each thing that the stream says (Returns.antt).
+-- A frame goes to the desk, what else the stream says does not (Returns.antt).
 use borrow.Author.Needs.{needs}
-use Rattle.prepare.proofs.Returns.{step-frame, step-noise, step-hungry, step-done, step-refused, frame-lies}
+use Rattle.prepare.proofs.Returns.{step-frame, step-other, frame-lies}
 use Rattle.prepare.proofs.step.Statement.{statement}
 use Rattle.prepare.proofs.step.Tie as tie
 
@@ -47,16 +47,16 @@ returns : tie.Need-returns
 returns c = search (step-frame, needs)
 
 returns-2 : tie.Need-returns-2
-returns-2 c = search (step-noise, needs)
+returns-2 c = search (step-other, needs)
 
 returns-3 : tie.Need-returns-3
-returns-3 c = search (step-hungry, needs)
+returns-3 c = search (step-other, needs)
 
 returns-4 : tie.Need-returns-4
-returns-4 c = search (step-done, needs)
+returns-4 c = search (step-other, needs)
 
 returns-5 : tie.Need-returns-5
-returns-5 c = search (step-refused, needs)
+returns-5 c = search (step-other, needs)
 
 pub step-spec : {M : Type 1} → statement M
 step-spec =

@@ -1,18 +1,20 @@
--- What finish comes to from a place on is what it came to where the loop began (Ending.antt).
-use Prim.Native.Nat.{_-_}
-use Rattle.stream.proofs.Ending.{Near, near-first, near-ended, near-on, near-less, near-last}
+-- What finish comes to from a place on is what it came to where the loop began (Loop.antt, Ending.antt).
+use mathlib.Core.List.{[]}
+use Rattle.stream.specs.Walk.{toGo, closedFrom}
+use Rattle.stream.proofs.Loop.{Far, far-first, far-onward, far-answered}
+use Rattle.stream.proofs.Ending.{turned-on, turned-nearer, turned-last}
 use borrow.Author.Needs.{needs}
 use Rattle.stream.proofs.close.Statement.{statement}
 use Rattle.stream.proofs.close.Tie as tie
 
 abbrev Inv-loop : tie.InvT-loop
-Inv-loop bytes₀ place₀ bytes place = Near bytes₀ place₀ bytes place
+Inv-loop bytes₀ place₀ bytes place = Far closedFrom bytes₀ place₀ [] bytes place
 
 abbrev μ-loop : tie.MeasureT-loop
-μ-loop bytes₀ place₀ bytes place = place .held - place .start
+μ-loop bytes₀ place₀ bytes place = toGo place []
 
 loop-holds : tie.Need-loop-holds Inv-loop μ-loop
-loop-holds c = search (near-first, needs)
+loop-holds c = search (far-first, needs)
 
 close-turn-requires : tie.Need-close-turn-requires Inv-loop μ-loop
 close-turn-requires c κs = search needs
@@ -24,16 +26,16 @@ same-length : tie.Need-same-length Inv-loop μ-loop
 same-length c = search needs
 
 returns : tie.Need-returns Inv-loop μ-loop
-returns c = search (near-ended, needs)
+returns c = search (turned-last, needs)
 
 enum-known-next : tie.Need-enum-known-next Inv-loop μ-loop
 enum-known-next c = search needs
 
 loop-less : tie.Need-loop-less Inv-loop μ-loop
-loop-less c = search (near-less, needs)
+loop-less c = search (turned-nearer, needs)
 
 loop-again : tie.Need-loop-again Inv-loop μ-loop
-loop-again c = search (near-on, needs)
+loop-again c = search (far-onward, turned-on, needs)
 
 close-end-requires : tie.Need-close-end-requires Inv-loop μ-loop
 close-end-requires c κs = search needs
@@ -42,7 +44,7 @@ same-length-2 : tie.Need-same-length-2 Inv-loop μ-loop
 same-length-2 c = search needs
 
 returns-2 : tie.Need-returns-2 Inv-loop μ-loop
-returns-2 c = search (near-last, needs)
+returns-2 c = search (far-answered closedFrom, needs)
 
 pub close-spec : {M : Type 1} → statement M
 close-spec =

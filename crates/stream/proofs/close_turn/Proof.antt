@@ -1,6 +1,6 @@
 -- A frame is shown; anything else is a byte of noise, which is told where the count is full (Ending.antt).
 use Rattle.stream.proofs.Places.{noised-start, noised-old}
-use Rattle.stream.proofs.Ending.{frame-said, noise-on, full-said}
+use Rattle.stream.proofs.Ending.{frame-said, noise-on, full-told}
 use borrow.Author.Needs.{needs}
 use Rattle.stream.proofs.close_turn.Statement.{statement}
 use Rattle.stream.proofs.close_turn.Tie as tie
@@ -45,7 +45,7 @@ same-length-2 : tie.Need-same-length-2
 same-length-2 c = search needs
 
 returns-2 : tie.Need-returns-2
-returns-2 c = search (full-said, needs)
+returns-2 c = search (full-told, needs)
 
 same-length-3 : tie.Need-same-length-3
 same-length-3 c = search needs

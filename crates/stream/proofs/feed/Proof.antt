@@ -1,13 +1,13 @@
 -- What the call comes to from a place on is what it came to where the loop began; each return says that (Loop.antt).
 use borrow.Author.Needs.{needs}
-use Rattle.stream.specs.Walk.{toGo}
-use Rattle.stream.proofs.Places.{noised-start, noised-old}
-use Rattle.stream.proofs.Loop.{Far, far-first, far-onward, shown-answer, shown-bytes, is-wanting, hungry-answer, hungry-bytes, less-noised, far-noised, full-answer, full-bytes, sees, is-empty, rest-answer, rest-bytes}
+use Rattle.stream.specs.Walk.{toGo, fedFrom}
+use Rattle.stream.proofs.Places.{noised-start, noised-old, noised-nearer}
+use Rattle.stream.proofs.Loop.{Far, far-first, far-onward, shown-said, is-wanting, hungry-said, far-noised, full-said, sees, is-empty, rest-said}
 use Rattle.stream.proofs.feed.Statement.{statement}
 use Rattle.stream.proofs.feed.Tie as tie
 
 abbrev Inv-loop : tie.InvT-loop
-Inv-loop bytes₀ input place₀ bytes place = Far bytes₀ place₀ input bytes place
+Inv-loop bytes₀ input place₀ bytes place = Far (fedFrom input) bytes₀ place₀ input bytes place
 
 abbrev μ-loop : tie.MeasureT-loop
 μ-loop bytes₀ input place₀ bytes place = toGo place input
@@ -40,7 +40,7 @@ same-length : tie.Need-same-length Inv-loop μ-loop
 same-length c = search needs
 
 returns : tie.Need-returns Inv-loop μ-loop
-returns c = search (shown-answer, shown-bytes, needs)
+returns c = search (shown-said, needs)
 
 enum-known-wanted : tie.Need-enum-known-wanted Inv-loop μ-loop
 enum-known-wanted c = search needs
@@ -55,7 +55,7 @@ same-length-2 : tie.Need-same-length-2 Inv-loop μ-loop
 same-length-2 c = search needs
 
 returns-2 : tie.Need-returns-2 Inv-loop μ-loop
-returns-2 c = search (hungry-answer, hungry-bytes, needs)
+returns-2 c = search (hungry-said, needs)
 
 take-more-requires : tie.Need-take-more-requires Inv-loop μ-loop
 take-more-requires c κs = search (is-wanting, needs)
@@ -82,10 +82,10 @@ same-length-3 : tie.Need-same-length-3 Inv-loop μ-loop
 same-length-3 c = search needs
 
 returns-3 : tie.Need-returns-3 Inv-loop μ-loop
-returns-3 c = search (full-answer, full-bytes, needs)
+returns-3 c = search (full-said, needs)
 
 loop-less-2 : tie.Need-loop-less-2 Inv-loop μ-loop
-loop-less-2 c = search (less-noised, needs)
+loop-less-2 c = search (noised-nearer, needs)
 
 loop-again-2 : tie.Need-loop-again-2 Inv-loop μ-loop
 loop-again-2 c = search (far-noised, needs)
@@ -100,7 +100,7 @@ same-length-4 : tie.Need-same-length-4 Inv-loop μ-loop
 same-length-4 c = search needs
 
 returns-4 : tie.Need-returns-4 Inv-loop μ-loop
-returns-4 c = search (rest-answer, rest-bytes, needs)
+returns-4 c = search (rest-said, needs)
 
 pub feed-spec : {M : Type 1} → statement M
 feed-spec =

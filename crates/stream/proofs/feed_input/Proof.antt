@@ -1,7 +1,8 @@
 -- The tray stays empty until the answer, and what the call comes to from a place on is what it came to where the loop began (Tracking.antt).
 use borrow.Author.Needs.{needs}
-use Rattle.stream.specs.Walk.{toEnd}
-use Rattle.stream.proofs.Tracking.{Track, track-first, copy-here, seen-answer, seen-bytes, spent-answer, spent-bytes, track-short, less-short, some-live, start-next, held-next, copy-next, less-next, track-next, most-answer, most-bytes}
+use Rattle.stream.specs.Walk.{toGo}
+use Rattle.stream.proofs.Places.{noised-start, noised-old}
+use Rattle.stream.proofs.Tracking.{Track, track-first, copy-here, seen-said, spent-said, track-short, less-short, some-live, copy-next, less-next, track-next, most-said}
 use Rattle.stream.proofs.feed_input.Statement.{statement}
 use Rattle.stream.proofs.feed_input.Tie as tie
 
@@ -9,7 +10,7 @@ abbrev Inv-loop : tie.InvT-loop
 Inv-loop bytes₀ input place₀ bytes place = Track bytes₀ place₀ input bytes place
 
 abbrev μ-loop : tie.MeasureT-loop
-μ-loop bytes₀ input place₀ bytes place = toEnd place input
+μ-loop bytes₀ input place₀ bytes place = toGo place input
 
 loop-holds : tie.Need-loop-holds Inv-loop μ-loop
 loop-holds c = search (track-first, needs)
@@ -51,7 +52,7 @@ same-length : tie.Need-same-length Inv-loop μ-loop
 same-length c = search needs
 
 returns : tie.Need-returns Inv-loop μ-loop
-returns c = search (seen-answer, seen-bytes, needs)
+returns c = search (seen-said, needs)
 
 enum-known-wanted : tie.Need-enum-known-wanted Inv-loop μ-loop
 enum-known-wanted c = search needs
@@ -75,7 +76,7 @@ same-length-2 : tie.Need-same-length-2 Inv-loop μ-loop
 same-length-2 c = search needs
 
 returns-2 : tie.Need-returns-2 Inv-loop μ-loop
-returns-2 c = search (spent-answer, spent-bytes, needs)
+returns-2 c = search (spent-said, needs)
 
 reach-requires : tie.Need-reach-requires Inv-loop μ-loop
 reach-requires c κs = search needs
@@ -93,10 +94,10 @@ noisy-requires : tie.Need-noisy-requires Inv-loop μ-loop
 noisy-requires c κs = search (some-live, needs)
 
 sub-copy-3 : tie.Need-sub-copy-3 Inv-loop μ-loop
-sub-copy-3 c = search (start-next, needs)
+sub-copy-3 c = search (noised-old, some-live, needs)
 
 part-copy-start-3 : tie.Need-part-copy-start-3 Inv-loop μ-loop
-part-copy-start-3 c = search (start-next, needs)
+part-copy-start-3 c = search (noised-old, some-live, needs)
 
 part-copy-end-3 : tie.Need-part-copy-end-3 Inv-loop μ-loop
 part-copy-end-3 c = search needs
@@ -105,13 +106,13 @@ copy-requires-3 : tie.Need-copy-requires-3 Inv-loop μ-loop
 copy-requires-3 c κs = search (copy-next, needs)
 
 say-requires-2 : tie.Need-say-requires-2 Inv-loop μ-loop
-say-requires-2 c κs = search (held-next, needs)
+say-requires-2 c κs = search (noised-start, some-live, needs)
 
 same-length-3 : tie.Need-same-length-3 Inv-loop μ-loop
 same-length-3 c = search needs
 
 returns-3 : tie.Need-returns-3 Inv-loop μ-loop
-returns-3 c = search (most-answer, most-bytes, needs)
+returns-3 c = search (most-said, needs)
 
 loop-less-2 : tie.Need-loop-less-2 Inv-loop μ-loop
 loop-less-2 c = search (less-next, needs)

@@ -1,7 +1,7 @@
 -- After i turns the first i bytes are those from start on, and the others are as they were.
 use borrow.Author.Needs.{needs}
 use Prim.Native.Nat.{_-_}
-use lib.ListN.{length, drop}
+use lib.ListN.{drop}
 use Rattle.stream.proofs.Moves.{Over, slide-first, slide-more, slide-done}
 use Rattle.stream.proofs.slide.Statement.{statement}
 use Rattle.stream.proofs.slide.Tie as tie
