@@ -3,7 +3,7 @@ use mathlib.Core.Bool.{Bool, true, false, not}
 use mathlib.Core.Path.{_≡_, refl, sym, ap, ap₂, _∙_, subst}
 use mathlib.Core.List.{List}
 use Prim.Native.Nat.{ℕ, _+_, _-_, _*_, _/_, _%_, _^_, _≤_, _<_}
-use native.Mathlib.Nat.{add-mul, add-zero, div-one, mul-assoc, mod-lt, sub-self}
+use native.Mathlib.Nat.{add-mul, add-zero, div-one, mul-assoc, mul-one, mod-lt}
 use native.Mathlib.Omega.{arith}
 use borrow.Author.Tests.{not-true, not-false}
 use lib.Bits.{bitAnd, bitOr, and-high, and-mask, or-shifted}
@@ -292,11 +292,11 @@ reading-end {s} {pos} {w} {acc} {k} h e =
     let all : k ≡ w = omega arith in
     h .read ∙ ap (λ (x : ℕ). field s pos x) all ∙ sym (got-there s pos w (h .width) (h .ends))
 
-pub writing-on : (s₀ s : List ℕ) (pos w code k n b x v : ℕ) → v ≡ x % 256
-    → x ≡ placed b n (8 - (pos % 8 + k) % 8 - n) (code / 2 ^ (w - k - n) % 2 ^ n) → b ≡ getD s (pos / 8 + (pos % 8 + k) / 8) 0
-    → (0 < n) × ((pos % 8 + k) % 8 + n ≤ 8) × (n ≤ w - k) → k < w → Writing s₀ pos w code s k → ((i : ℕ) → Fits w8 (getD s i 0))
+pub writing-on : (s₀ s : List ℕ) (pos w code k n b x v : ℕ) → Writing s₀ pos w code s k → ((i : ℕ) → Fits w8 (getD s i 0)) → k < w
+    → (0 < n) × ((pos % 8 + k) % 8 + n ≤ 8) × (n ≤ w - k) → b ≡ getD s (pos / 8 + (pos % 8 + k) / 8) 0
+    → x ≡ placed b n (8 - (pos % 8 + k) % 8 - n) (code / 2 ^ (w - k - n) % 2 ^ n) → v ≡ x % 256
     → Writing s₀ pos w code (set s (pos / 8 + (pos % 8 + k) / 8) v) (k + n)
-writing-on s₀ s pos w code k n b x v ev ex eb c less h bytes =
+writing-on s₀ s pos w code k n b x v h bytes less c eb ex ev =
     let at : ℕ = pos % 8 + k in
     let q : ℕ = pos / 8 + at / 8 in
     let m : ℕ = 8 - at % 8 - n in
@@ -333,14 +333,33 @@ module _ (s₀ s : List ℕ) (pos w code k : ℕ) (h : Writing s₀ pos w code s
 
 -- ---- two halves in a row
 
--- `put_two` twice is `put_four`, and that twice `put_eight`
-module _ (s s₁ s₂ : List ℕ) (at x : ℕ) where
-  pub put-four-is : at + 4 ≤ length s → toBits s₁ ≡ putTo (toBits s) (8 * at) 16 (x / 2 ^ 16) → toBits s₂ ≡ putTo (toBits s₁) (8 * (at + 2)) 16 x
-      → toBits s₂ ≡ putTo (toBits s) (8 * at) 32 x
-  put-four-is h e₁ e₂ =
-      put-or (toBits s) (toBits s₁) (toBits s₂) (8 * at) (8 * (at + 2)) 16 16 x (omega arith) (omega (arith, length-toBits s)) e₁ e₂
+-- `two_at` twice is `four_at`, that twice `eight_at`: halves of k bytes
+pub halves-read : (k : ℕ) (s : List ℕ) (at up a f : ℕ) → at + 2 * k ≤ length s → a ≡ field s (8 * at) (8 * k) * 2 ^ (up + 8 * k)
+    → f ≡ field s (8 * (at + k)) (8 * k) * 2 ^ up → bitOr a f ≡ field s (8 * at) (8 * k + 8 * k) * 2 ^ up
+halves-read k s at up a f h ea ef =
+    let e : up + 8 * k ≡ 8 * k + up = omega arith in
+    field-or s (8 * at) (8 * (at + k)) (8 * k) (8 * k) up a f (omega arith) (omega arith) (ea ∙ ap (λ (z : ℕ). field s (8 * at) (8 * k) * 2 ^ z) e) ef
 
-  pub put-eight-is : at + 8 ≤ length s → toBits s₁ ≡ putTo (toBits s) (8 * at) 32 (x / 2 ^ 32) → toBits s₂ ≡ putTo (toBits s₁) (8 * (at + 4)) 32 x
-      → toBits s₂ ≡ putTo (toBits s) (8 * at) 64 x
-  put-eight-is h e₁ e₂ =
-      put-or (toBits s) (toBits s₁) (toBits s₂) (8 * at) (8 * (at + 4)) 32 32 x (omega arith) (omega (arith, length-toBits s)) e₁ e₂
+-- both halves of the word: none is shifted on
+pub eight-read : (s : List ℕ) (at a f : ℕ) → at + 8 ≤ length s → a ≡ field s (8 * at) 32 * 2 ^ 32 → f ≡ field s (8 * (at + 4)) 32 * 1
+    → bitOr a f ≡ field s (8 * at) 64
+eight-read s at a f h ea ef = halves-read 4 s at 0 a f h ea ef ∙ mul-one (field s (8 * at) 64)
+
+-- halves of one byte
+pub two-read : (s : List ℕ) (at up a b : ℕ) → ((i : ℕ) → Fits w8 (getD s i 0)) → at + 2 ≤ length s → up ≤ 48 → a ≡ getD s at 0
+    → b ≡ getD s (at + 1) 0 → bitOr (a * 2 ^ (up + 8) % 2 ^ 64) (b * 2 ^ up % 2 ^ 64) ≡ field s (8 * at) 16 * 2 ^ up
+two-read s at up a b bytes h small ea eb =
+    let all : Bytes s = record { byte = λ i. bytes i .fits } in
+    halves-read 1 s at up _ _ h (byte-up all at (up + 8) a (omega arith) (omega arith) ea) (byte-up all (at + 1) up b (omega arith) (omega arith) eb)
+
+-- `put_two` twice is `put_four`, and that twice `put_eight`
+pub halves-put : (k : ℕ) (s s₁ s₂ : List ℕ) (at x : ℕ) → at + 2 * k ≤ length s → toBits s₁ ≡ putTo (toBits s) (8 * at) (8 * k) (x / 2 ^ (8 * k))
+    → toBits s₂ ≡ putTo (toBits s₁) (8 * (at + k)) (8 * k) x → toBits s₂ ≡ putTo (toBits s) (8 * at) (8 * k + 8 * k) x
+halves-put k s s₁ s₂ at x h e₁ e₂ =
+    put-or (toBits s) (toBits s₁) (toBits s₂) (8 * at) (8 * (at + k)) (8 * k) (8 * k) x (omega arith) (omega (arith, length-toBits s)) e₁ e₂
+
+pub two-put : (s : List ℕ) (at x v w : ℕ) → at + 2 ≤ length s → v ≡ x / 256 % 256 → w ≡ x % 256
+    → toBits (set (set s at v) (at + 1) w) ≡ putTo (toBits s) (8 * at) 16 x
+two-put s at x v w h ev ew =
+    halves-put 1 s (set s at v) _ at x h (store-low s at v (x / 256) ev (omega arith))
+    (store-low (set s at v) (at + 1) w x ew (omega (arith, length-set s at v)))

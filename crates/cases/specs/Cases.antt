@@ -32,7 +32,8 @@ use Rattle.sheet.specs.Sheet.{judging, judgingSheet, judgedSheet}
 use Rattle.values.specs.declared.Yaw.the-variants as Yaw
 use Rattle.values.specs.declared.Value.{Value}
 use Rattle.values.specs.declared.Value.the-variants.{Metres, Degrees, OfYaw, Refused}
-use Rattle.values.specs.Values.{table, find, rowOf, quotient, valueOf}
+use Rattle.fields.specs.Fields.{table, find, lineOf, sf}
+use Rattle.values.specs.Values.{quotient, valueOf}
 
 -- ---- what a case asks of the definitions, and what they say
 
@@ -136,5 +137,5 @@ measured =
     []
 
 pub measured-hold : map (λ (c : Case). said (c .asked)) measured ≡ map (λ (c : Case). c .answer) measured
-unfolding measured decimal valueOf rowOf table find quotient div ofInt round judgedSheet judgingSheet writeL judge bitsOf numbered maskSize maskSizes areaOff groupsOf groups groupsOfAll newDesk frameTaken loggedBy verdict noRoom byHeader deskSound sound headSound areasSound plain body start description checkOver bytesOf checked badFrameCrc badMessageCrc frameOf payloadIn authenticated authentication frameCrc messageCrc crc crcBits shift lowFirst reversed4 toBits number field judging readL logOf reasonFor
+unfolding measured decimal valueOf sf lineOf find table quotient div ofInt round judgedSheet judgingSheet writeL judge bitsOf numbered maskSize maskSizes areaOff groupsOf groups groupsOfAll newDesk frameTaken loggedBy verdict noRoom byHeader deskSound sound headSound areasSound plain body start description checkOver bytesOf checked badFrameCrc badMessageCrc frameOf payloadIn authenticated authentication frameCrc messageCrc crc crcBits shift lowFirst reversed4 toBits number field judging readL logOf reasonFor
 measured-hold = refl

@@ -8,13 +8,15 @@ use lib.Bits.{bitXor, xor-lt}
 use lib.Dec.{eqb, eqb→eq}
 use lib.ListN.{length, getD, drop}
 use lib.Pow.{shr-lt}
+use mir.Syntax.{w8}
+use mir.Val.{Fits}
 use Rattle.bits.specs.Bits.{bitsOf, number}
 use Rattle.bits.specs.Laws.{bitsOf-add, bitsOf-mod}
 use Rattle.checks.specs.Crc.{crcBits, crc, lowFirst, reversed4, frameCrc, messageCrc}
-use Rattle.checks.specs.Steps.{shifts, crcByte, crcWord, crcWords, wordAt, halfFirst, frameHalf, frameByte}
+use Rattle.checks.specs.Steps.{shifts, crcByte, crcWord, crcWords, wordAt, polynomialOf, IsTable, halfFirst, frameHalf, frameByte}
 use Rattle.checks.specs.Register.{bits-append, bits-lt, shifts-lt, shifts-add, shifts-xor}
 use Rattle.checks.specs.Laws.{reversed4-lt}
-use Rattle.checks.proofs.Engine.{by-table, parts, parts-are, wordAt-lt, crc-next, crc-word, crc-top}
+use Rattle.checks.proofs.Engine.{by-table, parts, parts-are, wordAt-lt, crc-next, crc-word, crc-done, crc-top}
 use Rattle.checks.proofs.Table.{at-below}
 
 -- ---- TF006
@@ -61,7 +63,7 @@ frame-first : (b : ℕ) → frameByte 0 b ≡ reversed4 (crcBits 4 9 0 (lowFirst
 unfolding frameByte reversed4 bitsOf number
 frame-first b = refl
 
-pub frame-bytes : (a b c : ℕ) → frameByte (frameByte (frameByte 0 a) b) (c / 16 * 16) ≡ frameCrc a b c
+frame-bytes : (a b c : ℕ) → frameByte (frameByte (frameByte 0 a) b) (c / 16 * 16) ≡ frameCrc a b c
 unfolding frameCrc
 frame-bytes a b c =
     let d : ℕ = c / 16 * 16 in
@@ -73,6 +75,11 @@ frame-bytes a b c =
     ∙ ap (λ (z : ℕ). frameByte z d) (frame-more x b x-lt)
     ∙ frame-more y d y-lt
     ∙ ap reversed4 (sym (bits-append 4 9 0 (lowFirst a) (lowFirst b ++ lowFirst d) ∙ bits-append 4 9 x (lowFirst b) (lowFirst d)))
+
+-- x, y and z are the register after each of the three
+pub frame-is : (a b c x y z : ℕ) → x ≡ frameByte 0 a → y ≡ frameByte x b → z ≡ frameByte y (c / 16 * 16) → z ≡ frameCrc a b c
+frame-is a b c x y z ex ey ez =
+    ez ∙ ap (λ (r : ℕ). frameByte r (c / 16 * 16)) (ey ∙ ap (λ (r : ℕ). frameByte r b) ex) ∙ frame-bytes a b c
 
 -- ---- a register by a table
 
@@ -127,25 +134,53 @@ word-lt : (p r v : ℕ) → p < 2 ^ 32 → r < 2 ^ 32 → v < 2 ^ 32 → crcWord
 unfolding crcWord
 word-lt p r v hp hr hv = shifts-lt 32 p (omega arith) hp 32 (bitXor r v) (xor-lt 32 r v hr hv)
 
--- the next byte of a list goes in
-pub crc-byte : (p r x : ℕ) (s : List ℕ) (i : ℕ) → p < 2 ^ 32 → r < 2 ^ 32 → getD s i 0 < 256 → i < length s → x ≡ crcByte 32 p r (getD s i 0)
-    → crc 32 p x (drop (i + 1) s) ≡ crc 32 p r (drop i s)
-crc-byte p r x s i hp hr hb h e = ap (λ (m : ℕ). crc 32 p m (drop (i + 1) s)) e ∙ crc-next 32 p r s i (omega arith) hp hr hb h
+-- ---- the bytes of a list
 
--- the next four bytes go in, and x comes of the rest
-pub crc-word-rest : (p r x y : ℕ) (s : List ℕ) (i : ℕ) → p < 2 ^ 32 → r < 2 ^ 32 → ((k : ℕ) → getD s k 0 < 256) → 4 ≤ length s - i
-    → y ≡ crcWord p r (wordAt s i) → x ≡ crc 32 p y (drop (i + 4) s) → x ≡ crc 32 p r (drop i s)
-crc-word-rest p r x y s i hp hr hs h e f = f ∙ ap (λ (m : ℕ). crc 32 p m (drop (i + 4) s)) e ∙ crc-word p r s i hp hr hs (omega arith)
+-- the loops' invariant: the check of what is left of s, from the register, is the check of l from the start
+pub record Going (t : List ℕ) (start : ℕ) (l s : List ℕ) (reg i : ℕ) : Type 0 where
+  pub inside : i ≤ length s
+  pub fits : reg < 2 ^ 32
+  pub same : crc 32 (polynomialOf t) reg (drop i s) ≡ crc 32 (polynomialOf t) start l
 
--- the next eight bytes go in
-pub crc-words : (p r x : ℕ) (s : List ℕ) (i : ℕ) → p < 2 ^ 32 → r < 2 ^ 32 → ((k : ℕ) → getD s k 0 < 256) → i + 8 ≤ length s
-    → x ≡ crcWords p r s i → crc 32 p x (drop (i + 8) s) ≡ crc 32 p r (drop i s)
-crc-words p r x s i hp hr hs h e =
-    let y : ℕ = crcWord p r (wordAt s i) in
-    let two : i + 8 ≡ i + 4 + 4 = omega arith in
-    ap₂ (λ (m n : ℕ). crc 32 p m (drop n s)) e two
-    ∙ crc-word p y s (i + 4) hp (word-lt p r (wordAt s i) hp hr (wordAt-lt s i hs)) hs (omega arith)
-    ∙ crc-word p r s i hp hr hs (omega arith)
+module _ (t s : List ℕ) (table : IsTable t) (bytes : (i : ℕ) → Fits w8 (getD s i 0)) where
+  four-in : (reg i : ℕ) → reg < 2 ^ 32 → i + 4 ≤ length s
+      → crc 32 (polynomialOf t) (crcWord (polynomialOf t) reg (wordAt s i)) (drop (i + 4) s) ≡ crc 32 (polynomialOf t) reg (drop i s)
+  four-in reg i hr h = crc-word (polynomialOf t) reg s i (table .small) hr (λ k. bytes k .fits) h
+
+  -- the next four bytes go in, and x comes of the rest
+  pub word-rest : (reg i x y : ℕ) → reg < 2 ^ 32 → 4 ≤ length s - i → y ≡ crcWord (polynomialOf t) reg (wordAt s i)
+      → x ≡ crc 32 (polynomialOf t) y (drop (i + 4) s) → x ≡ crc 32 (polynomialOf t) reg (drop i s)
+  word-rest reg i x y hr h e f = f ∙ ap (λ (m : ℕ). crc 32 (polynomialOf t) m (drop (i + 4) s)) e ∙ four-in reg i hr (omega arith)
+
+  module _ (start reg i x : ℕ) (l : List ℕ) (g : Going t start l s reg i) (x-fits : x < 2 ^ 32) where
+    -- the next byte goes in
+    pub byte-on : i < length s → x ≡ crcByte 32 (polynomialOf t) reg (getD s i 0) → Going t start l s x (i + 1)
+    byte-on h e =
+        record {
+          inside = omega arith;
+          fits = x-fits;
+          same = ap (λ (m : ℕ). crc 32 (polynomialOf t) m (drop (i + 1) s)) e
+              ∙ crc-next 32 (polynomialOf t) reg s i (omega arith) (table .small) (g .fits) (bytes i .fits) h
+              ∙ g .same;
+        }
+
+    -- the next eight bytes go in
+    pub words-on : 8 ≤ length s - i → x ≡ crcWords (polynomialOf t) reg s i → Going t start l s x (i + 8)
+    words-on h e =
+        let y : ℕ = crcWord (polynomialOf t) reg (wordAt s i) in
+        let two : i + 8 ≡ i + 4 + 4 = omega arith in
+        let y-fits : y < 2 ^ 32 = word-lt (polynomialOf t) reg (wordAt s i) (table .small) (g .fits) (wordAt-lt s i (λ k. bytes k .fits)) in
+        record {
+          inside = omega arith;
+          fits = x-fits;
+          same = ap₂ (λ (m n : ℕ). crc 32 (polynomialOf t) m (drop n s)) e two
+              ∙ four-in y (i + 4) y-fits (omega arith)
+              ∙ four-in reg i (g .fits) (omega arith)
+              ∙ g .same;
+        }
+
+pub going-end : {t : List ℕ} {start : ℕ} {l s : List ℕ} {reg i : ℕ} → Going t start l s reg i → length s ≤ i → reg ≡ crc 32 (polynomialOf t) start l
+going-end {t} {start} {l} {s} {reg} {i} g h = sym (crc-done 32 (polynomialOf t) reg s i (omega arith)) ∙ g .same
 
 -- ---- TF018
 

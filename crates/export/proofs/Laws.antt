@@ -1,7 +1,7 @@
 -- Laws: numbers laid into a lent slice one by one; an answer when a slice has room, and when it has not.
-use mathlib.Core.Path.{_≡_, refl, sym, ap, _∙_}
+use mathlib.Core.Path.{_≡_, refl, sym, ap, ap₂, _∙_}
 use mathlib.Core.List.{List, [], _∷_, _++_}
-use mathlib.Core.Bool.{true, false, cond}
+use mathlib.Core.Bool.{true, false}
 use Prim.Native.Nat.{ℕ, zero, suc, _+_, _-_, _≤_, _<_}
 use native.Mathlib.Nat.{le-antisymm, le-of-suc-le-suc, not-suc-le-zero}
 use native.Mathlib.Numerals.{add-one}
@@ -44,27 +44,58 @@ pub enough-is : {A B : Type 0} (size : ℕ) (lent : List B) (a b r : A) → size
 unfolding roomFor
 enough-is size lent a b r h e = let z : ltb (length lent) size ≡ false = le-ltb _ _ h in rw z e
 
-pub answered-short : (size : ℕ) (lent : List ℕ) (told : Told) → length lent < size → 9 ≡ answered size lent told
-unfolding answered
-answered-short size lent told h = short-is size lent 9 (told .number) h
+-- what is told of an answer v, which is the answer w; the same with what is lent, and of a state v with two things more
+pub is-told : {S A : Type 0} (f : S → A) (v w : S) (r : A) → v ≡ w → r ≡ f v → r ≡ f w
+is-told f v w r e p = p ∙ ap f e
 
-pub answered-is : (size : ℕ) (lent : List ℕ) (t u : Told) (r : ℕ) → size ≤ length lent → t ≡ u → r ≡ t .number → r ≡ answered size lent u
-unfolding answered
-answered-is size lent t u r h e p = enough-is size lent 9 (u .number) r h (p ∙ ap (λ x. x .number) e)
+pub is-left : {S A B : Type 0} (f : S → B → A) (v w : S) (lent : B) (r : A) → v ≡ w → r ≡ f v lent → r ≡ f w lent
+is-left f v w lent r e p = is-told (λ x. f x lent) v w r e p
 
-pub lent-short : (size : ℕ) (lent : List ℕ) (told : Told) → length lent < size → lent ≡ lentAfter size lent told
-unfolding lentAfter
-lent-short size lent told h = short-is size lent lent (laid (told .numbers) lent) h
+pub is-done : {S A B C : Type 0} (f : S → B → C → A) (v w : S) (b : B) (c : C) (r : A) → v ≡ w → r ≡ f v b c → r ≡ f w b c
+is-done f v w b c r e p = is-told (λ x. f x b c) v w r e p
 
-pub lent-is : (size : ℕ) (lent now : List ℕ) (t u : Told) → size ≤ length lent → t ≡ u → now ≡ laid (t .numbers) lent → now ≡ lentAfter size lent u
-unfolding lentAfter
-lent-is size lent now t u h e p = enough-is size lent lent (laid (u .numbers) lent) now h (p ∙ ap (λ x. laid (x .numbers) lent) e)
+module _ (size : ℕ) (lent : List ℕ) (told : Told) (h : length lent < size) where
+  pub answered-short : 9 ≡ answered size lent told
+  unfolding answered
+  answered-short = short-is size lent 9 (told .number) h
 
-pub answered-by : {X : Type 0} (f : X → Told) (size : ℕ) (lent : List ℕ) (v w : X) (r : ℕ) → size ≤ length lent → v ≡ w → r ≡ f v .number → r ≡ answered size lent (f w)
-answered-by f size lent v w r h e p = answered-is size lent (f v) (f w) r h (ap f e) p
+  pub lent-short : lent ≡ lentAfter size lent told
+  unfolding lentAfter
+  lent-short = short-is size lent lent (laid (told .numbers) lent) h
 
-pub lent-by : {X : Type 0} (f : X → Told) (size : ℕ) (lent now : List ℕ) (v w : X) → size ≤ length lent → v ≡ w → now ≡ laid (f v .numbers) lent → now ≡ lentAfter size lent (f w)
-lent-by f size lent now v w h e p = lent-is size lent now (f v) (f w) h (ap f e) p
+module _ {S : Type 0} (f : S → Told) (size : ℕ) (lent : List ℕ) (v w : S) where
+  pub answered-by : (r : ℕ) → size ≤ length lent → v ≡ w → r ≡ f v .number → r ≡ answered size lent (f w)
+  unfolding answered
+  answered-by r h e p = enough-is size lent 9 (f w .number) r h (is-told (λ x. f x .number) v w r e p)
+
+  pub lent-by : (now : List ℕ) → size ≤ length lent → v ≡ w → now ≡ laid (f v .numbers) lent → now ≡ lentAfter size lent (f w)
+  unfolding lentAfter
+  lent-by now h e p = enough-is size lent lent (laid (f w .numbers) lent) now h (is-told (λ x. laid (f x .numbers) lent) v w now e p)
+
+-- ---- an arm of a `match` on a, which is v there
+
+pub arm : {S A : Type 0} (f : S → A) (a v : S) (r : A) → a ≡ v → r ≡ f v → r ≡ f a
+arm f a v r e p = p ∙ ap f (sym e)
+
+-- what is said of a with what is lent
+pub arm-of : {S A B : Type 0} (f : S → B → A) (a v : S) (lent : B) (r : A) → a ≡ v → r ≡ f v lent → r ≡ f a lent
+arm-of f a v lent r e p = arm (λ x. f x lent) a v r e p
+
+-- the number and the numbers told of a
+module _ {S : Type 0} (told : S → Told) (a v : S) where
+  pub number-in : (n : ℕ) → a ≡ v → n ≡ told v .number → n ≡ told a .number
+  number-in n e p = arm (λ x. told x .number) a v n e p
+
+  pub numbers-in : (lent now : List ℕ) → a ≡ v → now ≡ laid (told v .numbers) lent → now ≡ laid (told a .numbers) lent
+  numbers-in lent now e p = arm (λ x. laid (told x .numbers) lent) a v now e p
+
+-- ---- numbers laid that are others, one by one
+
+pub laid-as : (xs ys lent now : List ℕ) → now ≡ laid xs lent → xs ≡ ys → now ≡ laid ys lent
+laid-as xs ys lent now p e = p ∙ ap (λ l. laid l lent) e
+
+pub cons-as : (x y : ℕ) (xs ys : List ℕ) → x ≡ y → xs ≡ ys → x ∷ xs ≡ y ∷ ys
+cons-as x y xs ys e f = ap₂ (λ (x : ℕ) (xs : List ℕ). x ∷ xs) e f
 
 -- ---- nothing is laid
 
@@ -72,12 +103,13 @@ pub laid-none : (lent : List ℕ) → lent ≡ laid [] lent
 unfolding laid
 laid-none lent = refl
 
--- ---- a number, or the highest that counts
+-- ---- a number, or the highest that counts, which the code has as w
 
-pub at-most-under : (most x : ℕ) → x < most → x ≡ atMost most x
-unfolding atMost
-at-most-under most x h = let z : ltb x most ≡ true = lt-ltb _ _ h in rw z
+module _ (most w x : ℕ) (e : w ≡ most) where
+  pub under : x < w → x ≡ atMost most x
+  unfolding atMost
+  under h = let z : ltb x most ≡ true = lt-ltb _ _ (rw e at h) in rw z
 
-pub at-most-over : (most x : ℕ) → most ≤ x → most ≡ atMost most x
-unfolding atMost
-at-most-over most x h = let z : ltb x most ≡ false = le-ltb _ _ h in rw z
+  pub over : w ≤ x → most ≡ atMost most x
+  unfolding atMost
+  over h = let z : ltb x most ≡ false = le-ltb _ _ (rw e at h) in rw z

@@ -1,4 +1,2 @@
 pub mod Laws
-pub mod Telling
 pub mod States
-pub mod Floats

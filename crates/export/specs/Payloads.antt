@@ -1,5 +1,5 @@
 -- Definitions to believe: the answers of `sheet` in numbers.
-use mathlib.Core.List.{List, [], _∷_}
+use mathlib.Core.List.{[], _∷_}
 use Prim.Native.Nat.{ℕ}
 use Rattle.export.specs.Numbers.{Told, refused}
 use Rattle.sheet.specs.declared.ReadAnswer.{ReadAnswer}

@@ -2,7 +2,6 @@
 ghost use mathlib.Core.Path.{_≡_};
 ghost use Prim.Native.Nat.{_≤_, _+_, _-_};
 ghost use lib.ListN.{length};
-ghost use Rattle.kept.specs.Kept.{outAfter, readKept, answerOf, leftBy};
 ghost use Rattle.export.specs.Numbers.{roomFor, laid, answered, lentAfter, atMost};
 ghost use Rattle.export.specs.Books.{bookRoom, bookIn, bookOf, takeOf, takeLeaves, toldTaken, keptOf, keptLeaves, toldKept, readOf, readLeaves, toldRead};
 use crate::numbers::ROOM;

@@ -13,9 +13,9 @@ use Rattle.desk.specs.Lookup.{Spot, inLive, inRun, nowhere, spotOf, bytesAt}
 use Rattle.desk.specs.declared.Desk.{Desk}
 use Rattle.export.specs.Numbers.{laid}
 use Rattle.export.specs.Books.{bookRoom, bookIn}
-use Rattle.export.proofs.Laws.{laid-none, short-is, enough-is}
+use Rattle.export.proofs.Laws.{short-is, enough-is}
 use Rattle.exportdesk.specs.States.{deskRoom, deskIn}
-use Rattle.exportdesk.specs.Finds.{areaRoom, deskFound, bookFound, countOf}
+use Rattle.exportdesk.specs.Finds.{areaRoom, deskFound, bookFound}
 
 few : (n : ℕ) (l : List ℕ) → length (take n l) ≤ n
 few zero l = omega arith
@@ -65,25 +65,8 @@ module _ (book bytes : List ℕ) (id : ℕ) where
     unfolding bookFound
     book-found h = enough-is _ _ _ _ _ h (p ∙ ap (λ (x : Book). found x bytes (record { 0 = id })) e)
 
--- ---- none is found, or a part, which is copied
-
-module _ (w : List ℕ) where
-  pub none-size : [] ≡ w → 0 ≡ length w
-  none-size e = ap length e
-
-  pub none-laid : (area : List ℕ) → [] ≡ w → area ≡ laid w area
-  none-laid area e = laid-none area ∙ ap (λ x. laid x area) e
-
-  pub part-size : (part : List ℕ) (n : ℕ) → part ≡ w → n ≡ length part → n ≡ length w
-  part-size part n e p = p ∙ ap length e
-
-  pub part-laid : (part area now : List ℕ) → part ≡ w → now ≡ laid part area → now ≡ laid w area
-  part-laid part area now e p = p ∙ ap (λ x. laid x area) e
+-- ---- a part is copied
 
 pub copied : (part area now : List ℕ) → now ≡ take (length part) part ++ drop (length part) area → now ≡ laid part area
 unfolding laid
 copied part area now p = p ∙ ap (λ x. x ++ drop (length part) area) (take-all (length part) part (omega arith))
-
-pub found-told : (size k : ℕ) (lent now : List ℕ) → k ≡ size → now ≡ laid (k ∷ []) lent → now ≡ laid (countOf size) lent
-unfolding countOf
-found-told size k lent now q p = p ∙ ap (λ x. laid (x ∷ []) lent) q

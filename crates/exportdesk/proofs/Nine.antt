@@ -12,22 +12,13 @@ use Rattle.message.specs.Messages.{constellationFor}
 use Rattle.message.specs.declared.Subtype.{Subtype}
 use Rattle.message.specs.declared.Subtype.the-variants as subtype
 use Rattle.book.specs.declared.Book.{Book}
-use Rattle.book.specs.Book.{noBook}
-use Rattle.desk.specs.declared.Desk.{Desk}
 use Rattle.desk.specs.declared.Run.{Run}
 use Rattle.desk.specs.declared.Run.the-variants.{Closed, Open}
-use Rattle.export.specs.Numbers.{laid, atMost}
+use Rattle.export.specs.Numbers.{atMost}
 use Rattle.export.specs.Books.{bookIn}
-use Rattle.export.proofs.Laws.{at-most-under, at-most-over}
-use Rattle.exportdesk.specs.States.{known, constellationIn, solutionIn, runIn, deskIn, runBook, deskOf}
+use Rattle.exportdesk.specs.States.{known, constellationIn, solutionIn, runIn, deskIn}
 
 -- ---- numbers that may be out of range
-
-pub under : (most w x : ℕ) → w ≡ most → x < w → x ≡ atMost most x
-under most w x e h = at-most-under most x (rw (sym e) h)
-
-pub over : (most w x : ℕ) → w ≡ most → w ≤ x → most ≡ atMost most x
-over most w x e h = at-most-over most x (rw (sym e) h)
 
 module _ (x k : ℕ) (v : Subtype) (p : k ≡ atMost 5 x) (q : v ≡ constellationFor k) where
   said : known v ≡ constellationIn x
@@ -69,12 +60,3 @@ pub desk-in : (s : List ℕ) (a b : ℕ) (c : Constellation) (book : Book) (run 
     → record { solution = a; processor = b; constellation = c; book = book; run = run } ≡ deskIn s
 unfolding deskIn
 desk-in s a b c book run p q t u v = cc
-
-pub run-book-closed : (run : Run) (book : Book) → run ≡ Closed → book ≡ noBook → book ≡ runBook run
-run-book-closed run book e b = rw e b
-
-pub run-book-open : (run : Run) (tag : ℕ) (book : Book) → run ≡ Open tag book → book ≡ runBook run
-run-book-open run tag book e = rw e
-
-pub desk-put : (desk : Desk) (ns lent now : List ℕ) → ns ≡ deskOf desk → now ≡ laid ns lent → now ≡ laid (deskOf desk) lent
-desk-put desk ns lent now q p = p ∙ ap (λ x. laid x lent) q

@@ -1,45 +1,22 @@
--- Laws: what is told of an answer of `desk`, a case for each variant, worded as the code makes them.
+-- Laws: what is told of an answer of `desk`, worded as the code makes it.
 use mathlib.Core.Path.{_≡_, sym, ap, ap₂, _∙_}
 use mathlib.Core.Bool.{Bool, true, false, cond}
-use mathlib.Core.List.{List, [], _∷_}
+use mathlib.Core.List.{List}
 use Prim.Native.Nat.{ℕ, _≤_, _<_}
 use lib.ListN.{length}
-use Rattle.answer.specs.Number.{numberOf}
-use Rattle.answer.specs.declared.Refusal.{Refusal}
 use Rattle.sizes.specs.Sizes.{bookBytes}
 use Rattle.book.specs.declared.Book.{Book}
 use Rattle.desk.specs.Desk.{deskSound}
 use Rattle.desk.specs.Take.{hands, results, frameTaken, handsBook, resultsBook, bookTaken}
 use Rattle.desk.specs.declared.Desk.{Desk}
-use Rattle.desk.specs.declared.NewDesk.{NewDesk}
-use Rattle.desk.specs.declared.NewDesk.the-variants as made
 use Rattle.desk.specs.declared.Said.{Said}
 use Rattle.desk.specs.declared.Said.the-variants as said
 use Rattle.desk.specs.declared.Taken.{Taken}
 use Rattle.export.specs.Numbers.{laid}
 use Rattle.export.specs.Books.{bookIn}
-use Rattle.export.proofs.Laws.{laid-none, short-is, enough-is}
-use Rattle.exportdesk.specs.States.{deskRoom, deskIn, deskOf}
-use Rattle.exportdesk.specs.Desks.{toldNew, soundOf, toldSaid, toldTaken, logTold, takeOf, takeLive, takeRun, takeLog, takeBookOf, takeBookLive}
-
--- ---- a new desk
-
-module _ (a : NewDesk) where
-  pub made-number : (d : Desk) → a ≡ made.Made d → 0 ≡ toldNew a .number
-  unfolding toldNew
-  made-number d e = rw e
-
-  pub made-numbers : (d : Desk) (lent now : List ℕ) → a ≡ made.Made d → now ≡ laid (deskOf d) lent → now ≡ laid (toldNew a .numbers) lent
-  unfolding toldNew
-  made-numbers d lent now e p = rw e p
-
-  pub unmade-number : (w : Refusal) (n : ℕ) → a ≡ made.Refused w → n ≡ numberOf w → n ≡ toldNew a .number
-  unfolding toldNew
-  unmade-number w n e p = rw e p
-
-  pub unmade-numbers : (w : Refusal) (lent : List ℕ) → a ≡ made.Refused w → lent ≡ laid (toldNew a .numbers) lent
-  unfolding toldNew
-  unmade-numbers w lent e = rw e (laid-none lent)
+use Rattle.export.proofs.Laws.{short-is, enough-is}
+use Rattle.exportdesk.specs.States.{deskRoom, deskIn}
+use Rattle.exportdesk.specs.Desks.{soundOf, toldSaid, toldTaken, takeOf, takeLive, takeRun, takeLog, takeBookOf, takeBookLive}
 
 -- ---- whether a desk is sound
 
@@ -72,31 +49,15 @@ module _ (desk live run : List ℕ) where
 
 -- ---- a frame or a book taken
 
-module _ (a : Taken) where
-  pub taken-number : (n : ℕ) → a .said ≡ said.Accepted n → 0 ≡ toldTaken a .number
-  unfolding toldTaken toldSaid
-  taken-number n e = rw e
+-- what is told, where the answer says s
+module _ (a : Taken) (s : Said) (e : a .said ≡ s) where
+  pub said-number : (n : ℕ) → n ≡ toldSaid s (a .desk) .number → n ≡ toldTaken a .number
+  unfolding toldTaken
+  said-number n p = rw e p
 
-  pub taken-numbers : (n : ℕ) (lent now : List ℕ) → a .said ≡ said.Accepted n → now ≡ laid (deskOf (a .desk)) lent → now ≡ laid (toldTaken a .numbers) lent
-  unfolding toldTaken toldSaid
-  taken-numbers n lent now e p = rw e p
-
-  pub refused-number : (w : Refusal) (n : ℕ) → a .said ≡ said.Refused w → n ≡ numberOf w → n ≡ toldTaken a .number
-  unfolding toldTaken toldSaid
-  refused-number w n e p = rw e p
-
-  pub refused-numbers : (w : Refusal) (lent : List ℕ) → a .said ≡ said.Refused w → lent ≡ laid (toldTaken a .numbers) lent
-  unfolding toldTaken toldSaid
-  refused-numbers w lent e = rw e (laid-none lent)
-
-module _ (a : Said) where
-  pub log-told : (n k : ℕ) (lent now : List ℕ) → a ≡ said.Accepted n → k ≡ n → now ≡ laid (k ∷ []) lent → now ≡ laid (logTold a) lent
-  unfolding logTold
-  log-told n k lent now e q p = rw e (p ∙ ap (λ x. laid (x ∷ []) lent) q)
-
-  pub log-untold : (w : Refusal) (lent : List ℕ) → a ≡ said.Refused w → lent ≡ laid (logTold a) lent
-  unfolding logTold
-  log-untold w lent e = rw e (laid-none lent)
+  pub said-numbers : (lent now : List ℕ) → now ≡ laid (toldSaid s (a .desk) .numbers) lent → now ≡ laid (toldTaken a .numbers) lent
+  unfolding toldTaken
+  said-numbers lent now p = rw e p
 
 module _ (d : Desk) (desk : List ℕ) (e : d ≡ deskIn desk) (live run : List ℕ) where
   module _ (frame log : List ℕ) (a : Taken) (live′ run′ log′ : List ℕ)

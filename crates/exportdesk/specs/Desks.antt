@@ -6,7 +6,7 @@ use Rattle.answer.specs.Number.{numberOf}
 use Rattle.answer.specs.declared.Refusal.the-variants as refusal
 use Rattle.sizes.specs.Sizes.{bookBytes}
 use Rattle.desk.specs.Desk.{deskSound}
-use Rattle.desk.specs.Take.{Result, hands, frameTaken, BookResult, handsBook, bookTaken}
+use Rattle.desk.specs.Take.{hands, frameTaken, handsBook, bookTaken}
 use Rattle.desk.specs.declared.Desk.{Desk}
 use Rattle.desk.specs.declared.NewDesk.{NewDesk}
 use Rattle.desk.specs.declared.NewDesk.the-variants as made

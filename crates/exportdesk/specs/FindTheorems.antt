@@ -15,7 +15,7 @@ use Rattle.book.specs.declared.Book.{Book}
 use Rattle.book.specs.declared.Found.{Found}
 use Rattle.book.specs.declared.Found.the-variants.{Area, Nothing}
 use Rattle.desk.specs.Desk.{deskSound}
-use Rattle.desk.specs.Lookup.{Spot, inLive, inRun, nowhere, byRun, spotOf, bytesAt}
+use Rattle.desk.specs.Lookup.{inLive, inRun, nowhere, byRun, spotOf, bytesAt}
 use Rattle.desk.specs.declared.Desk.{Desk}
 use Rattle.desk.specs.declared.Run.{Run}
 use Rattle.desk.specs.declared.Run.the-variants.{Closed, Open}

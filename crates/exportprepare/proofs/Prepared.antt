@@ -1,14 +1,11 @@
 -- Laws: what the calls of `prepare` tell and leave, worded as the code makes it.
-use mathlib.Core.Path.{_≡_, refl, sym, ap, ap₂, _∙_}
+use mathlib.Core.Path.{_≡_, sym, ap₂, _∙_}
 use mathlib.Core.Bool.{Bool, true, false}
-use mathlib.Core.List.{List, [], _∷_}
+use mathlib.Core.List.{List}
 use Prim.Native.Nat.{ℕ, _≤_, _<_}
 use lib.Dec.{ltb}
 use lib.ListN.{length}
 use borrow.Author.Tests.{lt-ltb, le-ltb, ltb-false}
-use Rattle.answer.specs.Number.{numberOf}
-use Rattle.answer.specs.declared.Refusal.{Refusal}
-use Rattle.frame.specs.declared.Frame.{Frame}
 use Rattle.stream.specs.declared.Tray.{Tray}
 use Rattle.desk.specs.declared.Desk.{Desk}
 use Rattle.prepare.specs.declared.Said.{Said}
@@ -16,9 +13,8 @@ use Rattle.prepare.specs.declared.Said.the-variants as said
 use Rattle.prepare.specs.declared.Answer.{Answer}
 use Rattle.prepare.specs.Prepare.{hands, results, Result, byCall, byFinish}
 use Rattle.export.specs.Numbers.{laid}
-use Rattle.export.specs.Frames.{headerRoom, headerOf}
+use Rattle.export.specs.Frames.{headerRoom}
 use Rattle.export.specs.Streams.{trayRoom, trayIn, trayOf}
-use Rattle.export.proofs.Laws.{laid-none}
 use Rattle.exportdesk.specs.States.{deskRoom, deskIn, deskOf}
 use Rattle.exportprepare.specs.Prepares.{Lent, lends, toldRoom, noRoom, eventOf, toldSaid, toldAnswer, headerSaid, stateSaid, numberBy, lentBy}
 use Rattle.exportprepare.specs.Refusals.{neither}
@@ -43,51 +39,20 @@ module _ (tray desk told header : List ℕ) where
   unfolding noRoom
   room-header h k l = record { is-judged = rw (le-ltb (length tray) trayRoom h, le-ltb (length desk) deskRoom k, le-ltb (length told) toldRoom l) }
 
--- ---- put_told
+-- ---- tell: what is told and left where the answer says s
 
-pub told-put : (event used noise number log u n l : ℕ) (lent now : List ℕ) → u ≡ used → n ≡ number → l ≡ log → now ≡ laid (event ∷ u ∷ noise ∷ n ∷ l ∷ []) lent
+pub puts : (a : Answer) (s : Said) (tray desk told header tray′ desk′ told′ header′ : List ℕ) (n : ℕ) → a .said ≡ s
+    → n ≡ toldSaid s (a .used) (a .log) .number → tray′ ≡ laid (stateSaid s (trayOf (a .tray))) tray → desk′ ≡ laid (stateSaid s (deskOf (a .desk))) desk
+    → told′ ≡ laid (toldSaid s (a .used) (a .log) .numbers) told → header′ ≡ laid (headerSaid s) header
+    → Puts a tray desk told header n tray′ desk′ told′ header′
+unfolding toldAnswer
+puts a s tray desk told header tray′ desk′ told′ header′ n e p t d q h =
+    record { number-is = rw e p; tray-is = rw e t; desk-is = rw e d; told-is = rw e q; header-is = rw e h }
+
+-- an event whose noise was counted, and one whose frame the desk refused with a number
+pub event-as : (event used noise number log m n : ℕ) (lent now : List ℕ) → now ≡ laid (eventOf event used m n log) lent → m ≡ noise → n ≡ number
     → now ≡ laid (eventOf event used noise number log) lent
-unfolding eventOf
-told-put event used noise number log u n l lent now p q r e =
-    e ∙ ap₂ (λ u n. laid (event ∷ u ∷ noise ∷ n ∷ l ∷ []) lent) p q ∙ ap (λ l. laid (event ∷ used ∷ noise ∷ number ∷ l ∷ []) lent) r
-
--- ---- tell: a case for each thing that is said
-
-module _ (a : Answer) (tray desk told header tray′ desk′ told′ : List ℕ) (t : tray′ ≡ laid (trayOf (a .tray)) tray) (d : desk′ ≡ laid (deskOf (a .desk)) desk) where
-  event : (s : Said) (header′ : List ℕ) → a .said ≡ s → 0 ≡ toldSaid s (a .used) (a .log) .number → ((numbers : List ℕ) → stateSaid s numbers ≡ numbers)
-      → told′ ≡ laid (toldSaid s (a .used) (a .log) .numbers) told → header′ ≡ laid (headerSaid s) header → Puts a tray desk told header 0 tray′ desk′ told′ header′
-  unfolding toldAnswer
-  event s header′ e z i p h = record { number-is = rw e z; tray-is = rw (e, i) t; desk-is = rw (e, i) d; told-is = rw e p; header-is = rw e h }
-
-  pub puts-hungry : a .said ≡ said.Hungry → told′ ≡ laid (eventOf 0 (a .used) 0 0 (a .log)) told → Puts a tray desk told header 0 tray′ desk′ told′ header
-  unfolding toldSaid stateSaid headerSaid
-  puts-hungry e p = event said.Hungry header e refl (λ _. refl) p (laid-none header)
-
-  pub puts-done : a .said ≡ said.Done → told′ ≡ laid (eventOf 3 (a .used) 0 0 (a .log)) told → Puts a tray desk told header 0 tray′ desk′ told′ header
-  unfolding toldSaid stateSaid headerSaid
-  puts-done e p = event said.Done header e refl (λ _. refl) p (laid-none header)
-
-  pub puts-noise : (m n : ℕ) → a .said ≡ said.Noise m → n ≡ m → told′ ≡ laid (eventOf 2 (a .used) n 0 (a .log)) told → Puts a tray desk told header 0 tray′ desk′ told′ header
-  unfolding toldSaid stateSaid headerSaid
-  puts-noise m n e q p = event (said.Noise m) header e refl (λ _. refl) (p ∙ ap (λ n. laid (eventOf 2 (a .used) n 0 (a .log)) told) q) (laid-none header)
-
-  pub puts-accepted : (f : Frame) (header′ : List ℕ) → a .said ≡ said.Accepted f → told′ ≡ laid (eventOf 1 (a .used) 0 0 (a .log)) told → header′ ≡ laid (headerOf f) header
-      → Puts a tray desk told header 0 tray′ desk′ told′ header′
-  unfolding toldSaid stateSaid headerSaid
-  puts-accepted f header′ e p h = event (said.Accepted f) header′ e refl (λ _. refl) p h
-
-  pub puts-refused-frame : (f : Frame) (w : Refusal) (n : ℕ) (header′ : List ℕ) → a .said ≡ said.FrameRefused f w → n ≡ numberOf w
-      → told′ ≡ laid (eventOf 1 (a .used) 0 n (a .log)) told → header′ ≡ laid (headerOf f) header
-      → Puts a tray desk told header 0 tray′ desk′ told′ header′
-  unfolding toldSaid stateSaid headerSaid
-  puts-refused-frame f w n header′ e q p h = event (said.FrameRefused f w) header′ e refl (λ _. refl) (p ∙ ap (λ n. laid (eventOf 1 (a .used) 0 n (a .log)) told) q) h
-
--- a refusal of the call
-pub puts-refused : (a : Answer) (tray desk told header : List ℕ) (w : Refusal) (n : ℕ) → a .said ≡ said.Refused w → n ≡ numberOf w
-    → Puts a tray desk told header n tray desk told header
-unfolding toldAnswer toldSaid stateSaid headerSaid
-puts-refused a tray desk told header w n e q =
-    record { number-is = rw e q; tray-is = rw e (laid-none tray); desk-is = rw e (laid-none desk); told-is = rw e (laid-none told); header-is = rw e (laid-none header) }
+event-as event used noise number log m n lent now p e f = p ∙ ap₂ (λ m n. laid (eventOf event used m n log) lent) e f
 
 -- ---- call and finish: the tray and the desk are those that the numbers say
 

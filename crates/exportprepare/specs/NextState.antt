@@ -1,19 +1,20 @@
 -- Theorems: calls of `prepare` for other languages in a row are calls of `prepare` in a row: the next one reads the tray, the desk and the bytes that the last one
 -- left. So what crate prepare proves of whole streams holds of them. Proved; assumes nothing.
 use mathlib.Core.Path.{_≡_, refl, ap, ap₂, _∙_}
-use mathlib.Core.Bool.{Bool, true, false, not, _||_}
+use mathlib.Core.Bool.{Bool, true, false, not}
 use mathlib.Core.List.{List}
 use Prim.Native.Nat.{ℕ, _≤_, _<_}
 use native.Mathlib.Omega.{arith}
 use lib.Dec.{ltb}
 use lib.ListN.{length}
 use borrow.Author.Tests.{ltb-false}
+use Rattle.answer.specs.Stop.{stop}
 use Rattle.answer.specs.declared.Refusal.the-variants as refusal
 use Rattle.area.specs.Laws.{both-left, both-right}
 use Rattle.sizes.specs.Sizes.{longestFrame, mostNoise, bookBytes}
 use Rattle.stream.specs.declared.Tray.{Tray}
 use Rattle.stream.specs.Scan.{Event, frame, noise}
-use Rattle.stream.specs.Tray.{sound, Contents, Outcome, refused, told, hungry, done, stop, called, finished, bytesOf}
+use Rattle.stream.specs.Tray.{sound, Contents, Outcome, refused, told, hungry, done, called, finished, bytesOf}
 use Rattle.stream.specs.Tray as stream
 use Rattle.stream.specs.Kept.{Kept, Good}
 use Rattle.stream.specs.Steps.{call-kept, end-kept}
@@ -89,7 +90,7 @@ module _ (lent : Lent) where
   next-guarded o w = go (prepare.noRoom (lent .bytes) (lent .live) (lent .run) (lent .log)) (areSound lent) refl refl
     where
       go : (b s : Bool) → prepare.noRoom (lent .bytes) (lent .live) (lent .run) (lent .log) ≡ b → areSound lent ≡ s
-          → stateIn (leaves lent (resultOf (handedIn lent) (stop b refusal.Room (stop (not s) refusal.State o)))) ≡ after (stop b refusal.Room (stop (not s) refusal.State o))
+          → stateIn (leaves lent (resultOf (handedIn lent) (stop b (refused refusal.Room) (stop (not s) (refused refusal.State) o)))) ≡ after (stop b (refused refusal.Room) (stop (not s) (refused refusal.State) o))
       go true s q r = refl
       go false false q r = refl
       go false true q r =

@@ -1,15 +1,15 @@
 -- Theorems: the number of a call of `prepare` for other languages, by what is lent to it; and that a refusal changes nothing lent. Proved.
-use mathlib.Core.Path.{_≡_, refl, sym, _∙_}
-use mathlib.Core.Bool.{Bool, true, false, not, cond, _&&_, _||_}
+use mathlib.Core.Path.{_≡_, refl}
+use mathlib.Core.Bool.{Bool, true, false, not, cond, _||_}
 use mathlib.Core.List.{List}
 use Prim.Native.Nat.{ℕ, _≤_}
-use lib.Dec.{ltb}
 use lib.ListN.{length}
 use borrow.Author.Tests.{ltb-false}
 use Rattle.area.specs.Laws.{both-right}
+use Rattle.answer.specs.Stop.{stop}
 use Rattle.answer.specs.declared.Refusal.the-variants as refusal
 use Rattle.sizes.specs.Sizes.{longestFrame}
-use Rattle.stream.specs.Tray.{sound, Outcome, refused, told, hungry, done, stop, called, finished}
+use Rattle.stream.specs.Tray.{sound, Outcome, refused, told, hungry, done, called, finished}
 use Rattle.stream.specs.Kept.{Good}
 use Rattle.stream.specs.Steps.{call-kept, end-kept}
 use Rattle.desk.specs.Desk.{deskSound}
@@ -60,7 +60,7 @@ module _ (lent : Lent) where
   number-by o w = go (noRoom (lent .tray) (lent .desk) (lent .told) (lent .header)) (prepare.noRoom (lent .bytes) (lent .live) (lent .run) (lent .log)) (areSound lent) refl refl refl
     where
       go : (a b s : Bool) → noRoom (lent .tray) (lent .desk) (lent .told) (lent .header) ≡ a → prepare.noRoom (lent .bytes) (lent .live) (lent .run) (lent .log) ≡ b → areSound lent ≡ s
-          → cond a 9 (toldAnswer (resultOf (handedIn lent) (stop b refusal.Room (stop (not s) refusal.State o)) .answer) .number) ≡ cond (a || b) 9 (cond s 0 17)
+          → cond a 9 (toldAnswer (resultOf (handedIn lent) (stop b (refused refusal.Room) (stop (not s) (refused refusal.State) o)) .answer) .number) ≡ cond (a || b) 9 (cond s 0 17)
       go true b s p q r = refl
       go false true s p q r = refl
       go false false false p q r = refl

@@ -1,7 +1,7 @@
 -- What the small readers of fields return, in plain variables. Assumes nothing.
-use mathlib.Core.Path.{_≡_, refl, sym, ap, subst, _∙_}
+use mathlib.Core.Path.{_≡_, sym, ap, subst, _∙_}
 use mathlib.Core.List.{List}
-use mathlib.Core.Bool.{true, false, _&&_}
+use mathlib.Core.Bool.{true, false}
 use Prim.Native.Nat.{ℕ, _+_, _*_, _^_, _≤_, _<_}
 use native.Mathlib.Nat.{lt-of-lt-of-le}
 use native.Mathlib.Omega.{arith}
@@ -11,7 +11,7 @@ use lib.Pow.{pow-mono}
 use borrow.Author.Tests.{ne-eqb, eq-eqb}
 use Rattle.bits.specs.Bits.{field}
 use Rattle.bits.specs.Laws.{field-lt, field-out}
-use Rattle.frame.specs.Fields.{tf003, tf004, tf008, tf014, tf015, authenticated}
+use Rattle.frame.specs.Fields.{tf003, tf004, tf008, tf015, authenticated}
 
 pub octet-fits : (s : List ℕ) (pos w x : ℕ) → x ≡ field s pos w → w ≤ 8 → x < 256
 octet-fits s pos w x e h = subst (λ (y : ℕ). y < 256) (sym e) (lt-of-lt-of-le (field-lt s pos w) (pow-mono {i = w} {j = 8} h))

@@ -1,7 +1,7 @@
 -- One lemma for each answer of the functions that write, in plain variables, its premises worded as the code makes them. Assumes nothing.
 use mathlib.Core.Path.{_≡_, refl, sym, ap, ap₂, subst, _∙_}
 use mathlib.Core.List.{List, [], _∷_, _++_, append-nil, append-assoc}
-use mathlib.Core.Bool.{Bool, true, false, not, _&&_, _||_}
+use mathlib.Core.Bool.{Bool, true, false, not}
 use Prim.Native.Nat.{ℕ, zero, suc, _+_, _-_, _*_, _/_, _%_, _^_, _≤_, _<_}
 use native.Mathlib.Nat.{div-one}
 use native.Mathlib.Omega.{arith}
@@ -9,8 +9,10 @@ use lib.Dec.{ltb, eqb}
 use lib.ListN.{length, getD, take, drop, length-append, length-drop, drop-of-length-le}
 use lib.Seq.{take-all, take-length, take-at, drop-drop, drop-append-le}
 use borrow.Author.Tests.{lt-ltb, le-ltb, ne-eqb, eq-eqb, not-true, not-false}
+use mir.Syntax.{w8}
+use mir.Val.{Fits}
 use Rattle.sizes.specs.Sizes.{longestFrame, longestPayload}
-use Rattle.bits.specs.Bits.{bitsOf, toBits, putTo, leaves, Bytes}
+use Rattle.bits.specs.Bits.{bitsOf, toBits, putTo, leaves}
 use Rattle.bits.specs.Laws.{leaves-there}
 use Rattle.checks.specs.Crc.{frameCrc, messageCrc}
 use Rattle.checks.specs.Laws.{frameCrc-lt}
@@ -142,12 +144,12 @@ module _ (p : Parts) (r : InRange p) (su k so pr x : ℕ) (eu : su ≡ p .subtyp
 
 -- ---- the parts of the frame in the buffer: s before a put, t after it
 
-module _ (s t : List ℕ) (bs : (i : ℕ) → getD s i 0 < 256) (bt : (i : ℕ) → getD t i 0 < 256) where
+module _ (s t : List ℕ) (bs : (i : ℕ) → Fits w8 (getD s i 0)) (bt : (i : ℕ) → Fits w8 (getD t i 0)) where
   -- a code of k whole bytes, put at byte a
   laid : (a k code pos w : ℕ) → pos ≡ 8 * a → w ≡ 8 * k → k ≤ 8 → a + k ≤ length s → toBits t ≡ leaves s pos w code
       → t ≡ take a s ++ (bytesOf k (bitsOf (8 * k) code) ++ drop (a + k) s)
   laid a k code pos w ep ew hk h e =
-      put-bytes a k code (record { byte = bs }) (record { byte = bt }) h
+      put-bytes a k code (record { byte = λ i. bs i .fits }) (record { byte = λ i. bt i .fits }) h
       (e ∙ leaves-there s pos w code (omega arith) (omega arith) ∙ ap₂ (λ (x y : ℕ). putTo (toBits s) x y code) ep ew)
 
   pub start-laid : (p : Parts) (n code : ℕ) → 4 ≤ length s → bytesOf 4 (bitsOf 32 code) ≡ start p n → toBits t ≡ leaves s 0 32 code → t ≡ start p n ++ drop 4 s
@@ -222,10 +224,9 @@ module _ (p : Parts) (payload out : List ℕ) (room : longestFrame ≤ length ou
           let z : ltb longestPayload (length payload) ≡ true = lt-ltb longestPayload (length payload) l in
           record { says = rw (room-is, range-is, some-is, z); leaves = rw (written, room-is, range-is, some-is, z) }
 
-      module _ (fits : length payload ≤ longestPayload) (o₁ o₂ o₃ o₄ : List ℕ) (at end fin : ℕ) (e₁ : o₁ ≡ start p (length payload) ++ drop 4 out)
+      module _ (fits : length payload ≤ longestPayload) (o₁ o₂ o₃ : List ℕ) (at end : ℕ) (e₁ : o₁ ≡ start p (length payload) ++ drop 4 out)
           (at-is : at ≡ 8 + 2 * p .«tag_kind») (e₂ : o₂ ≡ take 4 o₁ ++ (description p ++ drop at o₁))
-          (end-is : end ≡ at + length payload) (e₃ : o₃ ≡ take at o₂ ++ (payload ++ drop end o₂))
-          (fin-is : fin ≡ end + (p .«check_type» + 1)) (e₄ : o₄ ≡ take end o₃ ++ (checkOver (p .«check_type») (take (end - 1) (drop 1 o₃)) ++ drop fin o₃)) where
+          (end-is : end ≡ at + length payload) (e₃ : o₃ ≡ take at o₂ ++ (payload ++ drop end o₂)) where
         start-size : 4 ≡ length (start p (length payload))
         unfolding start
         start-size = sym (length-bytesOf 4 _)
@@ -233,10 +234,6 @@ module _ (p : Parts) (payload out : List ℕ) (room : longestFrame ≤ length ou
         description-size : length (description p) ≡ 4 + 2 * p .«tag_kind»
         unfolding description
         description-size = length-bytesOf (4 + 2 * p .«tag_kind») _
-
-        check-size : (l : List ℕ) → length (checkOver (p .«check_type») l) ≡ p .«check_type» + 1
-        unfolding checkOver
-        check-size l = length-bytesOf (p .«check_type» + 1) _
 
         body-is : (start p (length payload) ++ description p) ++ payload ≡ body p payload
         unfolding body
@@ -260,34 +257,52 @@ module _ (p : Parts) (payload out : List ℕ) (room : longestFrame ≤ length ou
             (omega (arith, length-append (start p (length payload)) (description p), start-size, description-size)) end-is two (omega (arith, r .kind-fits)) e₃
             ∙ ap (λ (l : List ℕ). l ++ drop end out) body-is
 
-        covered : take (end - 1) (drop 1 o₃) ≡ drop 1 (body p payload)
-        covered =
-            ap (λ (l : List ℕ). take (end - 1) (drop 1 l)) before-check
-            ∙ ap (take (end - 1)) (drop-append-le 1 (body p payload) (drop end out) (omega (arith, body-size)))
-            ∙ take-at (drop 1 (body p payload)) (drop end out) (end - 1) (omega (arith, length-drop 1 (body p payload), body-size))
-
-        whole : o₄ ≡ plain p payload ++ drop fin out
-        unfolding plain
-        whole =
+        -- the check has room behind them
+        pub check-room : end + 4 ≤ length o₃
+        check-room =
             let r = range-holds in
-            over (body p payload) (checkOver (p .«check_type») (drop 1 (body p payload))) out o₃ o₄ end fin body-size
-            (omega (arith, check-size (drop 1 (body p payload)))) before-check (omega (arith, r .kind-fits, r .check-fits))
-            (e₄ ∙ ap (λ (l : List ℕ). take end o₃ ++ (checkOver (p .«check_type») l ++ drop fin o₃)) covered)
+            omega (arith, r .kind-fits, body-size, ap length before-check ∙ length-append (body p payload) (drop end out), length-drop end out)
 
-        plain-size : length (plain p payload) ≡ fin
-        unfolding plain
-        plain-size =
-            length-append (body p payload) (checkOver (p .«check_type») (drop 1 (body p payload)))
-            ∙ omega (arith, check-size (drop 1 (body p payload)), body-size)
+        pub check-near : end < 2048
+        check-near = let r = range-holds in omega (arith, r .kind-fits)
 
-        pub write-frame : Wrote p payload out (Frame fin) o₄
-        unfolding written outAfter
-        write-frame =
-            let z : ltb longestPayload (length payload) ≡ false = le-ltb longestPayload (length payload) fits in
-            record { says = rw (room-is, range-is, some-is, z, plain-size); leaves = rw (written, room-is, range-is, some-is, z, plain-size) whole }
+        module _ (o₄ : List ℕ) (fin : ℕ) (fin-is : fin ≡ end + (p .«check_type» + 1))
+            (e₄ : o₄ ≡ take end o₃ ++ (checkOver (p .«check_type») (take (end - 1) (drop 1 o₃)) ++ drop fin o₃)) where
+          check-size : (l : List ℕ) → length (checkOver (p .«check_type») l) ≡ p .«check_type» + 1
+          unfolding checkOver
+          check-size l = length-bytesOf (p .«check_type» + 1) _
+
+          covered : take (end - 1) (drop 1 o₃) ≡ drop 1 (body p payload)
+          covered =
+              ap (λ (l : List ℕ). take (end - 1) (drop 1 l)) before-check
+              ∙ ap (take (end - 1)) (drop-append-le 1 (body p payload) (drop end out) (omega (arith, body-size)))
+              ∙ take-at (drop 1 (body p payload)) (drop end out) (end - 1) (omega (arith, length-drop 1 (body p payload), body-size))
+
+          whole : o₄ ≡ plain p payload ++ drop fin out
+          unfolding plain
+          whole =
+              let r = range-holds in
+              over (body p payload) (checkOver (p .«check_type») (drop 1 (body p payload))) out o₃ o₄ end fin body-size
+              (omega (arith, check-size (drop 1 (body p payload)))) before-check (omega (arith, r .kind-fits, r .check-fits))
+              (e₄ ∙ ap (λ (l : List ℕ). take end o₃ ++ (checkOver (p .«check_type») l ++ drop fin o₃)) covered)
+
+          plain-size : length (plain p payload) ≡ fin
+          unfolding plain
+          plain-size =
+              length-append (body p payload) (checkOver (p .«check_type») (drop 1 (body p payload)))
+              ∙ omega (arith, check-size (drop 1 (body p payload)), body-size)
+
+          pub write-frame : Wrote p payload out (Frame fin) o₄
+          unfolding written outAfter
+          write-frame =
+              let z : ltb longestPayload (length payload) ≡ false = le-ltb longestPayload (length payload) fits in
+              record { says = rw (room-is, range-is, some-is, z, plain-size); leaves = rw (written, room-is, range-is, some-is, z, plain-size) whole }
 
 pub ranged : (p : Parts) (b : Bool) → b ≡ inRange p → not b ≡ false → InRange p
 ranged p b is h = in-range p (sym is ∙ not-false b h)
+
+pub check-known : (p : Parts) (b : Bool) → b ≡ inRange p → not b ≡ false → p .«check_type» < 4
+check-known p b is h = ranged p b is h .check-fits
 
 -- what is written behind the start and the description has room, whatever payload was let in
 pub payload-fits : (p : Parts) (b : Bool) → b ≡ inRange p → not b ≡ false → (payload out o₁ o₂ : List ℕ) → longestFrame ≤ length out

@@ -4,6 +4,7 @@ use mathlib.Core.Bool.{Bool, true, false, cond, not, _&&_}
 use Prim.Native.Nat.{ℕ, _+_, _-_, _*_}
 use lib.Dec.{leb, ltb, eqb}
 use lib.ListN.{length, getD, take, drop}
+use Rattle.answer.specs.Stop.{stop}
 use Rattle.answer.specs.Number.{numberOf}
 use Rattle.answer.specs.declared.Refusal.the-variants.{Preamble, FrameCrc, Length, MessageCrc}
 use Rattle.bits.specs.Bits.{field}
@@ -45,11 +46,6 @@ badMessageCrc s = not (eqb (messageCrc (tf005 s) (take (checkAt s - 1) (drop 1 s
 
 unfoldable pub badFrameCrc : List ℕ → Bool
 badFrameCrc s = not (eqb (frameCrc (getD s 1 0) (getD s 2 0) (getD s 3 0)) (tf006 s))
-
--- the test holds: this is the answer; else go on
-abbrev pub stop : Bool → Checked → Checked → Checked
-stop true answer rest = answer
-stop false answer rest = rest
 
 -- SHORT where fewer than n bytes are there. The answer says n: it stays SHORT while fewer than n are there, though it may come to want more.
 abbrev pub want : ℕ → List ℕ → Checked → Checked

@@ -1,14 +1,12 @@
 -- The start and the description of a plain frame as one code each, as the writer puts them. These serve proofs and are proved.
-use mathlib.Core.Path.{_≡_, refl, sym, ap, ap₂, subst, _∙_}
-use mathlib.Core.List.{List, [], _∷_, _++_, append-assoc}
+use mathlib.Core.Path.{_≡_, refl, sym, ap, ap₂, _∙_}
+use mathlib.Core.List.{List, _++_, append-assoc}
 use mathlib.Core.Bool.{Bool, true, false, _&&_, true≢false}
-use Prim.Native.Nat.{ℕ, zero, suc, _+_, _-_, _*_, _/_, _%_, _^_, _≤_, _<_}
+use Prim.Native.Nat.{ℕ, _+_, _-_, _*_, _^_, _<_}
 use native.Mathlib.Omega.{arith}
-use lib.Dec.{ltb}
-use lib.ListN.{length}
 use borrow.Author.Tests.{ltb-true, lt-ltb}
 use Rattle.bits.specs.Bits.{bitsOf}
-use Rattle.frame.specs.Fields.{preamble, tagBits}
+use Rattle.frame.specs.Fields.{tagBits}
 use Rattle.frame.specs.Write.{startBits, inRange}
 use Rattle.frame.specs.WriteLaws.{join}
 use Rattle.frame.specs.declared.Parts.{Parts}

@@ -3,20 +3,21 @@
 use mathlib.Core.Path.{_≡_, refl, sym, ap, ap₂, subst, _∙_}
 use mathlib.Core.List.{List, [], _++_}
 use mathlib.Core.Bool.{Bool, true, false, cond, not, _&&_, true≢false}
-use Prim.Native.Nat.{ℕ, zero, suc, _+_, _-_, _*_, _^_, _≤_, _<_}
+use Prim.Native.Nat.{ℕ, zero, suc, _+_, _-_, _*_, _≤_, _<_}
 use native.Mathlib.Omega.{arith}
-use lib.Dec.{leb, ltb, eqb}
+use lib.Dec.{ltb, eqb}
 use lib.ListN.{length, getD, take, drop, length-append, length-drop, take-append-drop, List·getD-append}
 use lib.Seq.{take-append-le, drop-append-le, length-take-le}
-use borrow.Author.Tests.{lt-ltb, le-ltb, le-leb, ltb-true, ltb-false, eqb-true, eqb-false, eq-eqb, ne-eqb, not-true, not-false}
+use borrow.Author.Tests.{lt-ltb, le-ltb, le-leb, ltb-true, ltb-false, eqb-true, eqb-false, eq-eqb, ne-eqb, not-false}
 use Rattle.sizes.specs.Sizes.{longestFrame}
 use Rattle.answer.specs.declared.Refusal.{Refusal}
 use Rattle.answer.specs.declared.Refusal.the-variants.{Preamble, FrameCrc, Length, MessageCrc}
 use Rattle.bits.specs.Bits.{field}
 use Rattle.checks.specs.Crc.{frameCrc, messageCrc}
 use Rattle.bits.specs.Laws.{field-lt, field-append, field-out}
-use Rattle.frame.specs.Fields.{preamble, tf002, tf003, tf004, tf005, tf006, tf007, tf008, tf009, tf010, tf011, tf012, tf013, tf014, tf015, tagBits, payloadAt, authenticated, authenticationBytes, authentication, checkBytes, checkAt, frameBytes}
-use Rattle.frame.specs.Check.{sealingOf, sealOf, frameOf, badFrameCrc, badMessageCrc, stop, want, checked, payloadIn, payloadOf}
+use Rattle.frame.specs.Fields.{preamble, tf003, tf004, tf005, tf006, tf008, tf009, tf014, tf015, tagBits, payloadAt, authenticated, authenticationBytes, authentication, checkBytes, checkAt, frameBytes}
+use Rattle.answer.specs.Stop.{stop}
+use Rattle.frame.specs.Check.{sealingOf, sealOf, frameOf, badFrameCrc, badMessageCrc, want, checked, payloadIn, payloadOf}
 use Rattle.frame.specs.declared.Seal.the-variants.{Plain, Sealed}
 use Rattle.frame.specs.declared.Frame.{Frame}
 use Rattle.frame.specs.declared.Checked.{Checked}
@@ -256,19 +257,19 @@ keeps s t =
     keeps-stop _ _ _ _ _ (badMessageCrc-same s t b d w) (λ _.
     rw (frameOf-same s t b d w) kept)))))))))
 
-pub keeps-accepted : (s t : List ℕ) (f : Frame) → checked s ≡ Accepted f → checked (s ++ t) ≡ Accepted f
-keeps-accepted s t f e = go (checked s) (checked (s ++ t)) (keeps s t) e
+-- an answer v other than SHORT stays
+keeps-told : (s t : List ℕ) (v : Checked) → ((n : ℕ) → Short n ≡ v → ⊥) → checked s ≡ v → checked (s ++ t) ≡ v
+keeps-told s t v told e = go (checked s) (checked (s ++ t)) (keeps s t) e
   where
-    go : (v w : Checked) → Keeps v w → v ≡ Accepted f → w ≡ Accepted f
-    go v w kept e = e
-    go v w (unknown {n}) e = let z : _≡_ {A = ℕ} 0 1 = cc in absurd (omega arith)
+    go : (x y : Checked) → Keeps x y → x ≡ v → y ≡ v
+    go x y kept e = e
+    go x y (unknown {n}) e = absurd (told n e)
+
+pub keeps-accepted : (s t : List ℕ) (f : Frame) → checked s ≡ Accepted f → checked (s ++ t) ≡ Accepted f
+keeps-accepted s t f e = keeps-told s t (Accepted f) (λ n q. let z : _≡_ {A = ℕ} 0 1 = cc in omega arith) e
 
 pub keeps-refused : (s t : List ℕ) (r : Refusal) → checked s ≡ Refused r → checked (s ++ t) ≡ Refused r
-keeps-refused s t r e = go (checked s) (checked (s ++ t)) (keeps s t) e
-  where
-    go : (v w : Checked) → Keeps v w → v ≡ Refused r → w ≡ Refused r
-    go v w kept e = e
-    go v w (unknown {n}) e = let z : _≡_ {A = ℕ} 0 1 = cc in absurd (omega arith)
+keeps-refused s t r e = keeps-told s t (Refused r) (λ n q. let z : _≡_ {A = ℕ} 0 1 = cc in omega arith) e
 
 -- ---- how long SHORT stays
 

@@ -4,19 +4,18 @@ use mathlib.Core.Path.{_≡_, refl, sym, ap, ap₂, subst, _∙_}
 use mathlib.Core.List.{List, [], _∷_, _++_, append-assoc, append-nil}
 use mathlib.Core.Bool.{Bool, true, false, cond, not, _||_, true≢false}
 use Prim.Native.Nat.{ℕ, zero, suc, _+_, _-_, _*_, _/_, _%_, _^_, _≤_, _<_}
-use native.Mathlib.Nat.{div-one}
 use native.Mathlib.Omega.{arith}
-use lib.Dec.{leb, ltb, eqb}
+use lib.Dec.{ltb, eqb}
 use lib.ListN.{length, getD, take, drop, length-append, length-drop, List·getD-append}
 use lib.Seq.{length-take-le, take-at, drop-at, take-add, drop-drop, drop-append-le}
 use borrow.Author.Tests.{eqb-true, eqb-false, ltb-false, le-ltb, ne-eqb, not-false}
 use Rattle.sizes.specs.Sizes.{longestFrame, longestPayload}
 use Rattle.bits.specs.Bits.{bitsOf, toBits, number, Bytes, field}
-use Rattle.bits.specs.Laws.{field-lt, field-part, field-split, field-append, field-byte, number-of-bits, bits-of-number, length-bitsOf, length-toBits, toBits-append, toBits-take, toBits-drop, bits-toBits, bits-bitsOf, bytes-take, bytes-drop}
+use Rattle.bits.specs.Laws.{field-lt, field-part, field-split, field-byte, number-of-bits, bits-of-number, length-bitsOf, length-toBits, toBits-append, toBits-take, toBits-drop, bits-toBits, bits-bitsOf, bytes-take, bytes-drop}
 use Rattle.checks.specs.Crc.{frameCrc, messageCrc}
 use Rattle.checks.specs.Laws.{frameCrc-lt, frameCrc-high, messageCrc-lt}
 use Rattle.frame.specs.Fields.{preamble, tagBits, tf002, tf003, tf004, tf005, tf006, tf007, tf008, tf009, tf010, tf011, payloadAt, authenticated, authentication, checkAt, frameBytes}
-use Rattle.frame.specs.Check.{checked, frameOf, sealingOf, sealOf, payloadOf, badFrameCrc, badMessageCrc}
+use Rattle.frame.specs.Check.{checked, frameOf, sealingOf, sealOf, payloadOf}
 use Rattle.frame.specs.Laws.{Acceptance, accepted, accepts, keeps-accepted, payload-there, accepted-length}
 use Rattle.frame.specs.Write.{bytesOf, startBits, tf006Of, start, description, body, checkOver, plain, inRange, refuse, written, leftBy, outAfter, partsOf, headerOf}
 use Rattle.frame.specs.WriteLaws.{length-bytesOf, toBits-bytesOf, bytesOf-toBits, four-bytes}
@@ -28,7 +27,6 @@ use Rattle.frame.specs.declared.Written.{Written}
 use Rattle.frame.specs.declared.Written.the-variants as W
 use Rattle.frame.specs.declared.Seal.the-variants.{Plain, Sealed}
 use Rattle.frame.specs.declared.Frame.{Frame}
-use Rattle.frame.specs.declared.Checked.{Checked}
 use Rattle.frame.specs.declared.Checked.the-variants.{Accepted}
 
 -- ---- a code of whole bytes, read back and written again

@@ -6,7 +6,8 @@ use lib.Dec.{ltb, eqb}
 use lib.ListN.{getD}
 use Rattle.answer.specs.declared.Refusal.the-variants.{Preamble, FrameCrc, Length, MessageCrc}
 use Rattle.frame.specs.Fields.{preamble, tf003, tf015, payloadAt, authenticated, frameBytes}
-use Rattle.frame.specs.Check.{stop, want, badFrameCrc, badMessageCrc, frameOf}
+use Rattle.answer.specs.Stop.{stop}
+use Rattle.frame.specs.Check.{want, badFrameCrc, badMessageCrc, frameOf}
 use Rattle.frame.specs.declared.Checked.{Checked}
 use Rattle.frame.specs.declared.Checked.the-variants.{Accepted, Refused}
 

@@ -82,13 +82,12 @@ loop-less c = search needs
 
 loop-again : tie.Need-loop-again Inv-loop μ-loop
 loop-again c =
-    let worded = c .before in
-    let widened = worded .before in
-    let known = widened .before in
-    let cut = known .before in
-    let turn = cut .before in
-    writing-on _ _ _ _ _ _ _ _ _ _ (c .narrow .ensures) (worded .in-word .ensures) (widened .wide .ensures) (cut .chunk .ensures)
-    (turn .loop-test .taken) (turn .before .loop .inv) (λ i. known .slice-known2 .given i)
+    let turn : tie.In-loop Inv-loop μ-loop = search in
+    let step : tie.After-chunk Inv-loop μ-loop = search in
+    let old : tie.After-slice-known2 Inv-loop μ-loop = search in
+    let byte : tie.After-wide Inv-loop μ-loop = search in
+    writing-on _ _ _ _ _ _ _ _ _ _ (turn .before .loop .inv) (λ i. old .slice-known2 .given i) (turn .loop-test .taken) (step .chunk .ensures) (byte .wide .ensures)
+    (c .before .in-word .ensures) (c .narrow .ensures)
 
 same-length-2 : tie.Need-same-length-2 Inv-loop μ-loop
 same-length-2 c = search needs

@@ -1,5 +1,5 @@
--- Two codes of 32 bits put in a row are one (`put-eight-is`).
-use Rattle.bits.proofs.Steps.{put-eight-is}
+-- Two codes of 32 bits put in a row are one (`halves-put`).
+use Rattle.bits.proofs.Steps.{halves-put}
 use borrow.Author.Needs.{needs}
 use Rattle.bits.proofs.put_eight.Statement.{statement}
 use Rattle.bits.proofs.put_eight.Tie as tie
@@ -17,7 +17,7 @@ same-length : tie.Need-same-length
 same-length c = search needs
 
 returns : tie.Need-returns
-returns c = search (put-eight-is, needs)
+returns c = search (halves-put 4, needs)
 
 pub put-eight-spec : {M : Type 1} → statement M
 put-eight-spec =

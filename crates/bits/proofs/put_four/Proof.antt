@@ -1,5 +1,5 @@
--- Two codes of 16 bits put in a row are one (`put-four-is`).
-use Rattle.bits.proofs.Steps.{put-four-is}
+-- Two codes of 16 bits put in a row are one (`halves-put`).
+use Rattle.bits.proofs.Steps.{halves-put}
 use borrow.Author.Needs.{needs}
 use Rattle.bits.proofs.put_four.Statement.{statement}
 use Rattle.bits.proofs.put_four.Tie as tie
@@ -17,7 +17,7 @@ same-length : tie.Need-same-length
 same-length c = search needs
 
 returns : tie.Need-returns
-returns c = search (put-four-is, needs)
+returns c = search (halves-put 2, needs)
 
 pub put-four-spec : {M : Type 1} → statement M
 put-four-spec =

@@ -1,11 +1,7 @@
--- Two bytes put in a row are one code of 16 bits (`put-or`).
-use Prim.Native.Nat.{ℕ, _+_, _*_, _/_}
+-- Two bytes put in a row are one code of 16 bits (`two-put`).
 use native.Mathlib.Omega.{arith}
-use mathlib.Core.List.{List}
-use lib.ListN.{set, length-set}
-use Rattle.bits.specs.Bits.{toBits}
-use Rattle.bits.specs.Laws.{length-toBits}
-use Rattle.bits.proofs.Steps.{put-or, store-low}
+use lib.ListN.{length-set}
+use Rattle.bits.proofs.Steps.{two-put}
 use borrow.Author.Needs.{needs}
 use Rattle.bits.proofs.put_two.Statement.{statement}
 use Rattle.bits.proofs.put_two.Tie as tie
@@ -29,13 +25,7 @@ same-length : tie.Need-same-length
 same-length c = search needs
 
 returns : tie.Need-returns
-returns c =
-    let x = c .before .before .before .args in
-    let s : List ℕ = x .s .now in
-    let t : List ℕ = set s (x .at) (c .before .narrow .result) in
-    put-or (toBits s) (toBits t) _ (8 * x .at) (8 * (x .at + 1)) 8 8 (x .x) (omega arith) (omega (arith, length-toBits s))
-    (store-low s (x .at) _ (x .x / 256) (c .before .narrow .ensures) (omega arith))
-    (store-low t (x .at + 1) _ (x .x) (c .narrow2 .ensures) (omega (arith, length-set s (x .at) (c .before .narrow .result))))
+returns c = search (two-put, needs)
 
 pub put-two-spec : {M : Type 1} → statement M
 put-two-spec =

@@ -1,9 +1,5 @@
--- Two bytes are two fields of 8 bits in a row (`field-or`).
-use mathlib.Core.Path.{_≡_, ap, _∙_}
-use Prim.Native.Nat.{ℕ, _+_, _*_, _^_}
-use native.Mathlib.Omega.{arith}
-use Rattle.bits.specs.Bits.{Bytes, field}
-use Rattle.bits.proofs.Steps.{byte-up, field-or}
+-- Two bytes are two fields of 8 bits in a row (`two-read`).
+use Rattle.bits.proofs.Steps.{two-read}
 use borrow.Author.Needs.{needs}
 use Rattle.bits.proofs.two_at.Statement.{statement}
 use Rattle.bits.proofs.two_at.Tie as tie
@@ -36,13 +32,7 @@ shl-result-2 : tie.Need-shl-result-2
 shl-result-2 c = search needs
 
 returns : tie.Need-returns
-returns c =
-    let x = c .before .before .before .before .before .args in
-    let bytes : Bytes (x .s .now) = record { byte = λ i. c .before .shared-slice-known3 .given i .fits } in
-    let e : x .up + 8 ≡ 8 + x .up = omega arith in
-    field-or (x .s .now) (8 * x .at) (8 * (x .at + 1)) 8 8 (x .up) _ _ (omega arith) (omega arith)
-    (byte-up bytes (x .at) (x .up + 8) _ (omega arith) (omega arith) (c .before .before .wide .ensures) ∙ ap (λ (z : ℕ). field (x .s .now) (8 * x .at) 8 * 2 ^ z) e)
-    (byte-up bytes (x .at + 1) (x .up) _ (omega arith) (omega arith) (c .wide2 .ensures))
+returns c = search (two-read, needs)
 
 pub two-at-spec : {M : Type 1} → statement M
 two-at-spec =

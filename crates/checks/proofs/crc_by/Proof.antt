@@ -1,19 +1,13 @@
--- The loop's invariant: the check of what is left, from the register, is the check of all from the start; eight bytes a turn keep it. The measure is what is left.
-use mathlib.Core.Path.{_≡_, _∙_}
-use mathlib.Core.List.{List}
-use Prim.Native.Nat.{ℕ, _-_, _^_, _≤_, _<_}
-use native.Mathlib.Omega.{arith}
-use lib.ListN.{length, getD, drop}
-use Rattle.checks.specs.Crc.{crc}
-use Rattle.checks.specs.Steps.{polynomialOf}
-use Rattle.checks.proofs.Turns.{crc-words}
+-- The check of what is left, from the register, is the check of all from the start; eight bytes a turn keep it. The measure is what is left.
+use Prim.Native.Nat.{_-_}
+use lib.ListN.{length}
+use Rattle.checks.proofs.Turns.{Going, words-on}
 use borrow.Author.Needs.{needs}
 use Rattle.checks.proofs.crc_by.Statement.{statement}
 use Rattle.checks.proofs.crc_by.Tie as tie
 
 abbrev Inv-loop : tie.InvT-loop
-Inv-loop table start s reg₀ i₀ reg i =
-    (i ≤ length s) × (reg < 2 ^ 32) × (crc 32 (polynomialOf table) reg (drop i s) ≡ crc 32 (polynomialOf table) start s)
+Inv-loop table start s reg₀ i₀ reg i = Going table start s s reg i
 
 abbrev μ-loop : tie.MeasureT-loop
 μ-loop table start s reg₀ i₀ reg i = length s - i
@@ -34,15 +28,7 @@ loop-less : tie.Need-loop-less Inv-loop μ-loop
 loop-less c = search needs
 
 loop-again : tie.Need-loop-again Inv-loop μ-loop
-loop-again c =
-    let start = c .before .before .before .before in
-    let s : List ℕ = start .args .s .now in
-    let v = c .before .before .loop in
-    let bytes : (k : ℕ) → getD s k 0 < 256 = λ k. c .before .before .before .shared-slice-known .given k .fits in (
-      omega arith,
-      omega arith,
-      crc-words _ (v .reg) (c .crc-words .result) s (v .i) (start .pre .small) (v .inv .1) bytes (omega arith) (c .crc-words .ensures) ∙ v .inv .2,
-    )
+loop-again c = search (words-on, needs)
 
 crc-end-requires : tie.Need-crc-end-requires Inv-loop μ-loop
 crc-end-requires c κs = search needs

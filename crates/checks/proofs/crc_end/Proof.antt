@@ -1,8 +1,5 @@
 -- Four bytes go in, and then what is left; or fewer are left.
-use Prim.Native.Nat.{ℕ, _<_}
-use native.Mathlib.Omega.{arith}
-use lib.ListN.{getD}
-use Rattle.checks.proofs.Turns.{crc-word-rest}
+use Rattle.checks.proofs.Turns.{word-rest}
 use borrow.Author.Needs.{needs}
 use Rattle.checks.proofs.crc_end.Statement.{statement}
 use Rattle.checks.proofs.crc_end.Tie as tie
@@ -26,13 +23,7 @@ crc-bytes-requires-2 : tie.Need-crc-bytes-requires-2
 crc-bytes-requires-2 c κs = search needs
 
 returns-2 : tie.Need-returns-2
-returns-2 c =
-    let start = c .before .before .before .before in
-    let x = start .args in
-    let bytes : (k : ℕ) → getD (x .s .now) k 0 < 256 = λ k. c .before .before .before .shared-slice-known .given k .fits in
-    let y : ℕ = c .before .crc-word .result in
-    crc-word-rest _ (x .reg) (c .crc-bytes2 .result) y (x .s .now) (x .i) (start .pre .0 .small) (omega arith) bytes (omega arith)
-    (c .before .crc-word .ensures) (c .crc-bytes2 .ensures)
+returns-2 c = search (word-rest, needs)
 
 pub crc-end-spec : {M : Type 1} → statement M
 crc-end-spec =

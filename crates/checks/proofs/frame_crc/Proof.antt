@@ -1,8 +1,5 @@
 -- TF006: three bytes from register 0, the last with the four filler bits, are the definition's list of bits; the register is in reverse all the way.
-use mathlib.Core.Path.{ap, _∙_}
-use Prim.Native.Nat.{ℕ, _*_, _/_}
-use Rattle.checks.specs.Steps.{frameByte}
-use Rattle.checks.proofs.Turns.{frame-bytes}
+use Rattle.checks.proofs.Turns.{frame-is}
 use borrow.Author.Needs.{needs}
 use Rattle.checks.proofs.frame_crc.Statement.{statement}
 use Rattle.checks.proofs.frame_crc.Tie as tie
@@ -20,12 +17,7 @@ frame-byte-requires-3 : tie.Need-frame-byte-requires-3
 frame-byte-requires-3 c κs = search needs
 
 returns : tie.Need-returns
-returns c =
-    let x = c .before .before .before .args in
-    c .frame-byte3 .ensures .0
-    ∙ ap (λ (r : ℕ). frameByte r (x .c / 16 * 16))
-    (c .before .frame-byte2 .ensures .0 ∙ ap (λ (r : ℕ). frameByte r (x .b)) (c .before .before .frame-byte .ensures .0))
-    ∙ frame-bytes (x .a) (x .b) (x .c)
+returns c = search (frame-is, needs)
 
 pub frame-crc-spec : {M : Type 1} → statement M
 frame-crc-spec =

@@ -41,14 +41,7 @@ same-length : tie.Need-same-length
 same-length c = search needs
 
 returns : tie.Need-returns
-returns c = let p = c .before .before in
-    let m = p .before .before .before in
-    let w = m .before .before .before in
-    let start = w .before .before in (
-      search needs,
-      check-laid _ _ (λ i. w .before .slice-known .given i .fits) (λ i. c .slice-known2 .given i .fits) _ _ _ _ _ (start .pre .0) (start .pre .2) (w .wide .ensures .0)
-          (p .before .narrow .ensures) (m .message-crc .ensures) (p .put .ensures .1),
-    )
+returns c = search (check-laid, needs)
 
 pub put-check-spec : {M : Type 1} → statement M
 put-check-spec =

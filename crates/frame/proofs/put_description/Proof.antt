@@ -32,13 +32,7 @@ same-length : tie.Need-same-length
 same-length c = search needs
 
 returns : tie.Need-returns
-returns c = let p = c .before .before in
-    let w = p .before .before .before .before in
-    let start = w .before .before in (
-      search needs,
-      description-laid (start .args .out .now) _ (λ i. w .before .slice-known .given i .fits) (λ i. c .slice-known2 .given i .fits) _ _ _ _ (start .pre .0) (start .pre .1)
-          (w .wide .ensures .0) (p .before .narrow .ensures) (p .before .before .before .description-code .ensures) (p .put .ensures .1),
-    )
+returns c = search (description-laid, needs)
 
 pub put-description-spec : {M : Type 1} → statement M
 put-description-spec =

@@ -23,9 +23,7 @@ same-length : tie.Need-same-length
 same-length c = search needs
 
 returns : tie.Need-returns
-returns c = let p = c .before .before in
-    let start = p .before .before .before .before in
-    (search needs, payload-laid (start .args .out .now) (start .args .payload .now) _ _ _ (start .pre) (p .copy .ensures .0) (p .copy .ensures .1))
+returns c = search (payload-laid, needs)
 
 pub put-payload-spec : {M : Type 1} → statement M
 put-payload-spec =

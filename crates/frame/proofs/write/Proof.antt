@@ -1,6 +1,5 @@
 -- `write`: the tests are those of `written`, in its order; then each part is laid behind what was written before it.
-use native.Mathlib.Omega.{arith}
-use Rattle.frame.proofs.Writing.{both, write-room, write-field, write-empty, write-long, write-frame, ranged, payload-fits}
+use Rattle.frame.proofs.Writing.{both, write-room, write-field, write-empty, write-long, write-frame, ranged, payload-fits, check-known, check-room, check-near}
 use borrow.Author.Needs.{needs}
 use Rattle.frame.proofs.write.Statement.{statement}
 use Rattle.frame.proofs.write.Tie as tie
@@ -30,11 +29,7 @@ put-payload-requires : tie.Need-put-payload-requires
 put-payload-requires c κs = search (payload-fits, needs)
 
 put-check-requires : tie.Need-put-check-requires
-put-check-requires c κs = let p = c .before .before .before in
-    let d = p .before .before .before .before in
-    let t = d .before .before .before .before .before .before .before .before in
-    let r = ranged _ _ (t .before .in-range .ensures) (t .if2 .left) in
-    omega (arith, d .put-description .ensures .0, p .put-payload .ensures .0)
+put-check-requires c κs = search (check-known, check-room, check-near, needs)
 
 same-length : tie.Need-same-length
 same-length c = search needs

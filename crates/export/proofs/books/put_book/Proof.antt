@@ -1,5 +1,6 @@
 -- Both numbers are the book's.
-use Rattle.export.proofs.States.{book-put}
+use Rattle.export.specs.Books.{bookOf}
+use Rattle.export.proofs.Laws.{laid-as, cons-as}
 use borrow.Author.Needs.{needs}
 use Rattle.export.proofs.books.put_book.Statement.{statement}
 use Rattle.export.proofs.books.put_book.Tie as tie
@@ -20,7 +21,8 @@ same-length : tie.Need-same-length
 same-length c = search needs
 
 returns : tie.Need-returns
-returns c = search (book-put, needs)
+unfolding bookOf
+returns c = search (laid-as, cons-as, needs)
 
 pub put-book-spec : {M : Type 1} → statement M
 put-book-spec =

@@ -1,5 +1,5 @@
 -- The call below.
-use Rattle.export.proofs.States.{read-of, read-leaves}
+use Rattle.export.specs.Books.{readOf, readLeaves}
 use borrow.Author.Needs.{needs}
 use Rattle.export.proofs.books.read.Statement.{statement}
 use Rattle.export.proofs.books.read.Tie as tie
@@ -11,7 +11,8 @@ same-length : tie.Need-same-length
 same-length c = search needs
 
 returns : tie.Need-returns
-returns c = search (read-of, read-leaves, needs)
+unfolding readOf readLeaves
+returns c = search needs
 
 pub read-spec : {M : Type 1} → statement M
 read-spec = tie.close (tie.spec read-kept-requires same-length returns)

@@ -1,5 +1,7 @@
 -- The book is the one that the numbers say.
-use Rattle.export.proofs.States.{take-of, take-leaves}
+use Rattle.book.specs.Take.{takenOf, bytesAfter}
+use Rattle.export.specs.Books.{takeOf, takeLeaves}
+use Rattle.export.proofs.Laws.{is-done}
 use borrow.Author.Needs.{needs}
 use Rattle.export.proofs.books.take.Statement.{statement}
 use Rattle.export.proofs.books.take.Tie as tie
@@ -14,7 +16,8 @@ same-length : tie.Need-same-length
 same-length c = search needs
 
 returns : tie.Need-returns
-returns c = search (take-of, take-leaves, needs)
+unfolding takeOf takeLeaves
+returns c = search (is-done takenOf, is-done bytesAfter, needs)
 
 pub take-spec : {M : Type 1} → statement M
 take-spec = tie.close (tie.spec book-in-requires take-requires same-length returns)

@@ -1,5 +1,6 @@
 -- A case for each answer.
-use Rattle.export.proofs.Telling.{kept-number, kept-numbers, kept-refused-number, kept-refused-numbers}
+use Rattle.export.specs.Books.{toldKept}
+use Rattle.export.proofs.Laws.{number-in, numbers-in, laid-none, laid-as, cons-as}
 use borrow.Author.Needs.{needs}
 use Rattle.export.proofs.books.tell_kept.Statement.{statement}
 use Rattle.export.proofs.books.tell_kept.Tie as tie
@@ -26,10 +27,12 @@ same-length : tie.Need-same-length
 same-length c = search needs
 
 returns : tie.Need-returns
-returns c = search (kept-number, kept-numbers, needs)
+unfolding toldKept
+returns c = search (number-in toldKept, numbers-in toldKept, laid-as, cons-as, needs)
 
 returns-2 : tie.Need-returns-2
-returns-2 c = search (kept-refused-number, kept-refused-numbers, needs)
+unfolding toldKept
+returns-2 c = search (number-in toldKept, numbers-in toldKept, laid-none, needs)
 
 pub tell-kept-spec : {M : Type 1} → statement M
 tell-kept-spec =

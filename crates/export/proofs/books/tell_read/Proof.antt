@@ -1,5 +1,6 @@
 -- A case for each answer.
-use Rattle.export.proofs.Telling.{kept-read-number, kept-read-numbers, kept-read-refused-number, kept-read-refused-numbers}
+use Rattle.export.specs.Books.{toldRead}
+use Rattle.export.proofs.Laws.{number-in, numbers-in, laid-none}
 use borrow.Author.Needs.{needs}
 use Rattle.export.proofs.books.tell_read.Statement.{statement}
 use Rattle.export.proofs.books.tell_read.Tie as tie
@@ -20,10 +21,12 @@ same-length : tie.Need-same-length
 same-length c = search needs
 
 returns : tie.Need-returns
-returns c = search (kept-read-number, kept-read-numbers, needs)
+unfolding toldRead
+returns c = search (number-in toldRead, numbers-in toldRead, needs)
 
 returns-2 : tie.Need-returns-2
-returns-2 c = search (kept-read-refused-number, kept-read-refused-numbers, needs)
+unfolding toldRead
+returns-2 c = search (number-in toldRead, numbers-in toldRead, laid-none, needs)
 
 pub tell-read-spec : {M : Type 1} → statement M
 tell-read-spec =

@@ -1,5 +1,6 @@
 -- A case for each answer.
-use Rattle.export.proofs.Telling.{taken-number, taken-numbers, taken-refused-number, taken-refused-numbers}
+use Rattle.export.specs.Books.{toldTaken}
+use Rattle.export.proofs.Laws.{number-in, numbers-in, laid-none}
 use borrow.Author.Needs.{needs}
 use Rattle.export.proofs.books.tell_taken.Statement.{statement}
 use Rattle.export.proofs.books.tell_taken.Tie as tie
@@ -20,10 +21,12 @@ same-length : tie.Need-same-length
 same-length c = search needs
 
 returns : tie.Need-returns
-returns c = search (taken-number, taken-numbers, needs)
+unfolding toldTaken
+returns c = search (number-in toldTaken, numbers-in toldTaken, needs)
 
 returns-2 : tie.Need-returns-2
-returns-2 c = search (taken-refused-number, taken-refused-numbers, needs)
+unfolding toldTaken
+returns-2 c = search (number-in toldTaken, numbers-in toldTaken, laid-none, needs)
 
 pub tell-taken-spec : {M : Type 1} → statement M
 tell-taken-spec =

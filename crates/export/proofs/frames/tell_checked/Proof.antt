@@ -1,5 +1,6 @@
 -- A case for each answer.
-use Rattle.export.proofs.Telling.{accepted-number, accepted-numbers, short-number, short-numbers, refused-number, refused-numbers}
+use Rattle.export.specs.Frames.{toldChecked}
+use Rattle.export.proofs.Laws.{number-in, numbers-in, laid-none}
 use borrow.Author.Needs.{needs}
 use Rattle.export.proofs.frames.tell_checked.Statement.{statement}
 use Rattle.export.proofs.frames.tell_checked.Tie as tie
@@ -23,13 +24,16 @@ same-length : tie.Need-same-length
 same-length c = search needs
 
 returns : tie.Need-returns
-returns c = search (accepted-number, accepted-numbers, needs)
+unfolding toldChecked
+returns c = search (number-in toldChecked, numbers-in toldChecked, needs)
 
 returns-2 : tie.Need-returns-2
-returns-2 c = search (short-number, short-numbers, needs)
+unfolding toldChecked
+returns-2 c = search (number-in toldChecked, numbers-in toldChecked, laid-none, needs)
 
 returns-3 : tie.Need-returns-3
-returns-3 c = search (refused-number, refused-numbers, needs)
+unfolding toldChecked
+returns-3 c = search (number-in toldChecked, numbers-in toldChecked, laid-none, needs)
 
 pub tell-checked-spec : {M : Type 1} → statement M
 tell-checked-spec =

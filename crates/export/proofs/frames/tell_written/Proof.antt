@@ -1,5 +1,6 @@
 -- A case for each answer.
-use Rattle.export.proofs.Telling.{frame-number, frame-numbers, frame-refused-number, frame-refused-numbers}
+use Rattle.export.specs.Frames.{toldWritten}
+use Rattle.export.proofs.Laws.{number-in, numbers-in, laid-none, laid-as, cons-as}
 use borrow.Author.Needs.{needs}
 use Rattle.export.proofs.frames.tell_written.Statement.{statement}
 use Rattle.export.proofs.frames.tell_written.Tie as tie
@@ -26,10 +27,12 @@ same-length : tie.Need-same-length
 same-length c = search needs
 
 returns : tie.Need-returns
-returns c = search (frame-number, frame-numbers, needs)
+unfolding toldWritten
+returns c = search (number-in toldWritten, numbers-in toldWritten, laid-as, cons-as, needs)
 
 returns-2 : tie.Need-returns-2
-returns-2 c = search (frame-refused-number, frame-refused-numbers, needs)
+unfolding toldWritten
+returns-2 c = search (number-in toldWritten, numbers-in toldWritten, laid-none, needs)
 
 pub tell-written-spec : {M : Type 1} → statement M
 tell-written-spec =

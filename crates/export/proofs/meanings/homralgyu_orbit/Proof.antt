@@ -1,6 +1,6 @@
 -- The slice is too short, or what was told is what the call below answers.
-use Rattle.export.proofs.Laws.{short-is}
-use Rattle.export.proofs.Floats.{orbit-told, orbit-laid}
+use Rattle.export.specs.Meanings.{toldOrbit, floatsOfOrbit}
+use Rattle.export.proofs.Laws.{short-is, enough-is, is-told, is-left}
 use borrow.Author.Needs.{needs}
 use Rattle.export.proofs.meanings.homralgyu_orbit.Statement.{statement}
 use Rattle.export.proofs.meanings.homralgyu_orbit.Tie as tie
@@ -18,7 +18,7 @@ same-length : tie.Need-same-length
 same-length c = search needs
 
 returns-2 : tie.Need-returns-2
-returns-2 c = (search (orbit-told, needs), search (orbit-laid, needs))
+returns-2 c = (search (enough-is, is-told toldOrbit, needs), search (enough-is, is-left floatsOfOrbit, needs))
 
 pub homralgyu-orbit-spec : {M : Type 1} → statement M
 homralgyu-orbit-spec =

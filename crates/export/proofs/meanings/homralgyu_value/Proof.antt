@@ -1,6 +1,8 @@
 -- A slice is too short, or what was told is what the call below answers.
-use Rattle.export.proofs.Laws.{short-is, enough-is}
-use Rattle.export.proofs.Floats.{value-number, value-unit, value-float}
+use Rattle.export.specs.Numbers.{laid}
+use Rattle.export.specs.Meanings.{toldValue, floatsOfValue}
+use Rattle.values.specs.declared.Value.{Value}
+use Rattle.export.proofs.Laws.{short-is, enough-is, is-told, is-left}
 use borrow.Author.Needs.{needs}
 use Rattle.export.proofs.meanings.homralgyu_value.Statement.{statement}
 use Rattle.export.proofs.meanings.homralgyu_value.Tie as tie
@@ -24,7 +26,7 @@ same-length-2 : tie.Need-same-length-2
 same-length-2 c = search needs
 
 returns-3 : tie.Need-returns-3
-returns-3 c = (search (value-number, needs), (search (value-unit, needs), search (value-float, needs)))
+returns-3 c = (search (enough-is, is-told (λ (v : Value). toldValue v .number), needs), (search (enough-is, is-left (λ (v : Value). laid (toldValue v .numbers)), needs), search (enough-is, is-left floatsOfValue, needs)))
 
 pub homralgyu-value-spec : {M : Type 1} → statement M
 homralgyu-value-spec =

@@ -1,5 +1,6 @@
 -- Three places, one after the other.
-use Rattle.export.proofs.Floats.{second-place, third-place}
+use native.Mathlib.Omega.{arith}
+use lib.ListN.{length-set}
 use borrow.Author.Needs.{needs}
 use Rattle.export.proofs.meanings.put_orbit.Statement.{statement}
 use Rattle.export.proofs.meanings.put_orbit.Tie as tie
@@ -8,10 +9,10 @@ slice-write-orbit : tie.Need-slice-write-orbit
 slice-write-orbit c = search needs
 
 slice-write-orbit-2 : tie.Need-slice-write-orbit-2
-slice-write-orbit-2 c = search (second-place, needs)
+slice-write-orbit-2 c = simp length-set (omega arith)
 
 slice-write-orbit-3 : tie.Need-slice-write-orbit-3
-slice-write-orbit-3 c = search (third-place, needs)
+slice-write-orbit-3 c = simp length-set (omega arith)
 
 same-length : tie.Need-same-length
 same-length c = search needs

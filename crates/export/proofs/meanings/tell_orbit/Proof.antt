@@ -1,5 +1,6 @@
 -- A case for each answer.
-use Rattle.export.proofs.Floats.{orbit-number, orbit-floats, no-orbit-number, no-orbit-floats}
+use Rattle.export.specs.Meanings.{toldOrbit, floatsOfOrbit}
+use Rattle.export.proofs.Laws.{arm, arm-of}
 use borrow.Author.Needs.{needs}
 use Rattle.export.proofs.meanings.tell_orbit.Statement.{statement}
 use Rattle.export.proofs.meanings.tell_orbit.Tie as tie
@@ -20,10 +21,12 @@ same-length : tie.Need-same-length
 same-length c = search needs
 
 returns : tie.Need-returns
-returns c = (search (orbit-number, needs), search (orbit-floats, needs))
+unfolding toldOrbit floatsOfOrbit
+returns c = (search (arm toldOrbit, needs), search (arm-of floatsOfOrbit, needs))
 
 returns-2 : tie.Need-returns-2
-returns-2 c = (search (no-orbit-number, needs), search (no-orbit-floats, needs))
+unfolding toldOrbit floatsOfOrbit
+returns-2 c = (search (arm toldOrbit, needs), search (arm-of floatsOfOrbit, needs))
 
 pub tell-orbit-spec : {M : Type 1} → statement M
 tell-orbit-spec =

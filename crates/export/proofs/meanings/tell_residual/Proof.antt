@@ -1,5 +1,7 @@
 -- A case for each residual.
-use Rattle.export.proofs.Floats.{residual-invalid-unit, residual-invalid-float, residual-metres-unit, residual-metres-float, residual-tecu-unit, residual-tecu-float}
+use Rattle.export.specs.Numbers.{laid}
+use Rattle.export.specs.Meanings.{numbersOfResidual, floatsOfResidual}
+use Rattle.export.proofs.Laws.{arm-of}
 use borrow.Author.Needs.{needs}
 use Rattle.export.proofs.meanings.tell_residual.Statement.{statement}
 use Rattle.export.proofs.meanings.tell_residual.Tie as tie
@@ -32,7 +34,8 @@ same-length : tie.Need-same-length
 same-length c = search needs
 
 returns : tie.Need-returns
-returns c = (search needs, (search (residual-invalid-unit, needs), search (residual-invalid-float, needs)))
+unfolding numbersOfResidual floatsOfResidual
+returns c = (search needs, (search (arm-of (λ x. laid (numbersOfResidual x)), needs), search (arm-of floatsOfResidual, needs)))
 
 same-length-2 : tie.Need-same-length-2
 same-length-2 c = search needs
@@ -41,7 +44,8 @@ same-length-3 : tie.Need-same-length-3
 same-length-3 c = search needs
 
 returns-2 : tie.Need-returns-2
-returns-2 c = (search needs, (search (residual-metres-unit, needs), search (residual-metres-float, needs)))
+unfolding numbersOfResidual floatsOfResidual
+returns-2 c = (search needs, (search (arm-of (λ x. laid (numbersOfResidual x)), needs), search (arm-of floatsOfResidual, needs)))
 
 same-length-4 : tie.Need-same-length-4
 same-length-4 c = search needs
@@ -50,7 +54,8 @@ same-length-5 : tie.Need-same-length-5
 same-length-5 c = search needs
 
 returns-3 : tie.Need-returns-3
-returns-3 c = (search needs, (search (residual-tecu-unit, needs), search (residual-tecu-float, needs)))
+unfolding numbersOfResidual floatsOfResidual
+returns-3 c = (search needs, (search (arm-of (λ x. laid (numbersOfResidual x)), needs), search (arm-of floatsOfResidual, needs)))
 
 pub tell-residual-spec : {M : Type 1} → statement M
 tell-residual-spec =

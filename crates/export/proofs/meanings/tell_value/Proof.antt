@@ -1,5 +1,6 @@
 -- A case for each answer.
-use Rattle.export.proofs.Floats.{metres-number, metres-unit, metres-float, degrees-number, degrees-unit, degrees-float, tecu-number, tecu-unit, tecu-float, coefficient-number, coefficient-unit, coefficient-float, count-number, count-unit, count-float, residual-number, residual-unit, residual-float, yaw-number, yaw-unit, yaw-float, no-value-number, no-value-unit, no-value-float}
+use Rattle.export.specs.Meanings.{toldValue, floatsOfValue}
+use Rattle.export.proofs.Laws.{number-in, numbers-in, arm-of, laid-none}
 use borrow.Author.Needs.{needs}
 use Rattle.export.proofs.meanings.tell_value.Statement.{statement}
 use Rattle.export.proofs.meanings.tell_value.Tie as tie
@@ -71,7 +72,8 @@ same-length-2 : tie.Need-same-length-2
 same-length-2 c = search needs
 
 returns : tie.Need-returns
-returns c = (search (metres-number, needs), (search (metres-unit, needs), search (metres-float, needs)))
+unfolding toldValue floatsOfValue
+returns c = (search (number-in toldValue, needs), (search (numbers-in toldValue, needs), search (arm-of floatsOfValue, needs)))
 
 same-length-3 : tie.Need-same-length-3
 same-length-3 c = search needs
@@ -80,7 +82,8 @@ same-length-4 : tie.Need-same-length-4
 same-length-4 c = search needs
 
 returns-2 : tie.Need-returns-2
-returns-2 c = (search (degrees-number, needs), (search (degrees-unit, needs), search (degrees-float, needs)))
+unfolding toldValue floatsOfValue
+returns-2 c = (search (number-in toldValue, needs), (search (numbers-in toldValue, needs), search (arm-of floatsOfValue, needs)))
 
 same-length-5 : tie.Need-same-length-5
 same-length-5 c = search needs
@@ -89,7 +92,8 @@ same-length-6 : tie.Need-same-length-6
 same-length-6 c = search needs
 
 returns-3 : tie.Need-returns-3
-returns-3 c = (search (tecu-number, needs), (search (tecu-unit, needs), search (tecu-float, needs)))
+unfolding toldValue floatsOfValue
+returns-3 c = (search (number-in toldValue, needs), (search (numbers-in toldValue, needs), search (arm-of floatsOfValue, needs)))
 
 same-length-7 : tie.Need-same-length-7
 same-length-7 c = search needs
@@ -98,13 +102,15 @@ same-length-8 : tie.Need-same-length-8
 same-length-8 c = search needs
 
 returns-4 : tie.Need-returns-4
-returns-4 c = (search (coefficient-number, needs), (search (coefficient-unit, needs), search (coefficient-float, needs)))
+unfolding toldValue floatsOfValue
+returns-4 c = (search (number-in toldValue, needs), (search (numbers-in toldValue, needs), search (arm-of floatsOfValue, needs)))
 
 same-length-9 : tie.Need-same-length-9
 same-length-9 c = search needs
 
 returns-5 : tie.Need-returns-5
-returns-5 c = (search (count-number, needs), (search (count-unit, needs), search (count-float, needs)))
+unfolding toldValue floatsOfValue
+returns-5 c = (search (number-in toldValue, needs), (search (numbers-in toldValue, needs), search (arm-of floatsOfValue, needs)))
 
 same-length-10 : tie.Need-same-length-10
 same-length-10 c = search needs
@@ -113,7 +119,8 @@ same-length-11 : tie.Need-same-length-11
 same-length-11 c = search needs
 
 returns-6 : tie.Need-returns-6
-returns-6 c = (search (residual-number, needs), (search (residual-unit, needs), search (residual-float, needs)))
+unfolding toldValue floatsOfValue
+returns-6 c = (search (number-in toldValue, needs), (search (numbers-in toldValue, needs), search (arm-of floatsOfValue, needs)))
 
 same-length-12 : tie.Need-same-length-12
 same-length-12 c = search needs
@@ -122,10 +129,12 @@ same-length-13 : tie.Need-same-length-13
 same-length-13 c = search needs
 
 returns-7 : tie.Need-returns-7
-returns-7 c = (search (yaw-number, needs), (search (yaw-unit, needs), search (yaw-float, needs)))
+unfolding toldValue floatsOfValue
+returns-7 c = (search (number-in toldValue, needs), (search (numbers-in toldValue, needs), search (arm-of floatsOfValue, needs)))
 
 returns-8 : tie.Need-returns-8
-returns-8 c = (search (no-value-number, needs), (search (no-value-unit, needs), search (no-value-float, needs)))
+unfolding toldValue floatsOfValue
+returns-8 c = (search (number-in toldValue, needs), (search (numbers-in toldValue, laid-none, needs), search (arm-of floatsOfValue, needs)))
 
 pub tell-value-spec : {M : Type 1} → statement M
 tell-value-spec =

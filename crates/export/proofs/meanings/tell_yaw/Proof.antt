@@ -1,5 +1,7 @@
 -- A case for each yaw.
-use Rattle.export.proofs.Floats.{yaw-absent-unit, yaw-absent-float, yaw-invalid-unit, yaw-invalid-float, yaw-degrees-unit, yaw-degrees-float}
+use Rattle.export.specs.Numbers.{laid}
+use Rattle.export.specs.Meanings.{numbersOfYaw, floatsOfYaw}
+use Rattle.export.proofs.Laws.{arm-of}
 use borrow.Author.Needs.{needs}
 use Rattle.export.proofs.meanings.tell_yaw.Statement.{statement}
 use Rattle.export.proofs.meanings.tell_yaw.Tie as tie
@@ -29,13 +31,15 @@ same-length : tie.Need-same-length
 same-length c = search needs
 
 returns : tie.Need-returns
-returns c = (search needs, (search (yaw-absent-unit, needs), search (yaw-absent-float, needs)))
+unfolding numbersOfYaw floatsOfYaw
+returns c = (search needs, (search (arm-of (λ x. laid (numbersOfYaw x)), needs), search (arm-of floatsOfYaw, needs)))
 
 same-length-2 : tie.Need-same-length-2
 same-length-2 c = search needs
 
 returns-2 : tie.Need-returns-2
-returns-2 c = (search needs, (search (yaw-invalid-unit, needs), search (yaw-invalid-float, needs)))
+unfolding numbersOfYaw floatsOfYaw
+returns-2 c = (search needs, (search (arm-of (λ x. laid (numbersOfYaw x)), needs), search (arm-of floatsOfYaw, needs)))
 
 same-length-3 : tie.Need-same-length-3
 same-length-3 c = search needs
@@ -44,7 +48,8 @@ same-length-4 : tie.Need-same-length-4
 same-length-4 c = search needs
 
 returns-3 : tie.Need-returns-3
-returns-3 c = (search needs, (search (yaw-degrees-unit, needs), search (yaw-degrees-float, needs)))
+unfolding numbersOfYaw floatsOfYaw
+returns-3 c = (search needs, (search (arm-of (λ x. laid (numbersOfYaw x)), needs), search (arm-of floatsOfYaw, needs)))
 
 pub tell-yaw-spec : {M : Type 1} → statement M
 tell-yaw-spec =

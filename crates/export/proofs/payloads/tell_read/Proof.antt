@@ -1,5 +1,6 @@
 -- A case for each answer.
-use Rattle.export.proofs.Telling.{read-number, read-numbers, read-refused-number, read-refused-numbers}
+use Rattle.export.specs.Payloads.{toldRead}
+use Rattle.export.proofs.Laws.{number-in, numbers-in, laid-none, laid-as, cons-as}
 use borrow.Author.Needs.{needs}
 use Rattle.export.proofs.payloads.tell_read.Statement.{statement}
 use Rattle.export.proofs.payloads.tell_read.Tie as tie
@@ -29,10 +30,12 @@ same-length : tie.Need-same-length
 same-length c = search needs
 
 returns : tie.Need-returns
-returns c = search (read-number, read-numbers, needs)
+unfolding toldRead
+returns c = search (number-in toldRead, numbers-in toldRead, laid-as, cons-as, needs)
 
 returns-2 : tie.Need-returns-2
-returns-2 c = search (read-refused-number, read-refused-numbers, needs)
+unfolding toldRead
+returns-2 c = search (number-in toldRead, numbers-in toldRead, laid-none, needs)
 
 pub tell-read-spec : {M : Type 1} → statement M
 tell-read-spec =

@@ -1,5 +1,6 @@
 -- A case for each answer.
-use Rattle.export.proofs.Telling.{written-number, written-numbers, written-refused-number, written-refused-numbers}
+use Rattle.export.specs.Payloads.{toldWritten}
+use Rattle.export.proofs.Laws.{number-in, numbers-in, laid-none, laid-as, cons-as}
 use borrow.Author.Needs.{needs}
 use Rattle.export.proofs.payloads.tell_written.Statement.{statement}
 use Rattle.export.proofs.payloads.tell_written.Tie as tie
@@ -29,10 +30,12 @@ same-length : tie.Need-same-length
 same-length c = search needs
 
 returns : tie.Need-returns
-returns c = search (written-number, written-numbers, needs)
+unfolding toldWritten
+returns c = search (number-in toldWritten, numbers-in toldWritten, laid-as, cons-as, needs)
 
 returns-2 : tie.Need-returns-2
-returns-2 c = search (written-refused-number, written-refused-numbers, needs)
+unfolding toldWritten
+returns-2 c = search (number-in toldWritten, numbers-in toldWritten, laid-none, needs)
 
 pub tell-written-spec : {M : Type 1} → statement M
 tell-written-spec =

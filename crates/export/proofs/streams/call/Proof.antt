@@ -1,5 +1,8 @@
 -- The tray is the one that the numbers say.
-use Rattle.export.proofs.States.{call-of, call-leaves}
+use Rattle.stream.specs.declared.Tray.{Tray}
+use Rattle.stream.specs.Tray.{callAnswer, callBytes}
+use Rattle.export.specs.Streams.{callOf, callLeaves}
+use Rattle.export.proofs.Laws.{is-done}
 use borrow.Author.Needs.{needs}
 use Rattle.export.proofs.streams.call.Statement.{statement}
 use Rattle.export.proofs.streams.call.Tie as tie
@@ -14,7 +17,8 @@ same-length : tie.Need-same-length
 same-length c = search needs
 
 returns : tie.Need-returns
-returns c = search (call-of, call-leaves, needs)
+unfolding callOf callLeaves
+returns c = search (is-done (λ (t : Tray) bytes input. callAnswer bytes t input), is-done (λ (t : Tray) bytes input. callBytes bytes t input), needs)
 
 pub call-spec : {M : Type 1} → statement M
 call-spec = tie.close (tie.spec tray-in-requires call-requires same-length returns)

@@ -1,5 +1,8 @@
 -- The tray is the one that the numbers say.
-use Rattle.export.proofs.States.{finish-of, finish-leaves}
+use Rattle.stream.specs.declared.Tray.{Tray}
+use Rattle.stream.specs.Tray.{finishAnswer, finishBytes}
+use Rattle.export.specs.Streams.{finishOf, finishLeaves}
+use Rattle.export.proofs.Laws.{is-left}
 use borrow.Author.Needs.{needs}
 use Rattle.export.proofs.streams.finish.Statement.{statement}
 use Rattle.export.proofs.streams.finish.Tie as tie
@@ -14,7 +17,8 @@ same-length : tie.Need-same-length
 same-length c = search needs
 
 returns : tie.Need-returns
-returns c = search (finish-of, finish-leaves, needs)
+unfolding finishOf finishLeaves
+returns c = search (is-left (λ (t : Tray) bytes. finishAnswer bytes t), is-left (λ (t : Tray) bytes. finishBytes bytes t), needs)
 
 pub finish-spec : {M : Type 1} → statement M
 finish-spec = tie.close (tie.spec tray-in-requires finish-requires same-length returns)

@@ -1,5 +1,9 @@
 -- A slice is too short, or what was told is what the call below answers.
-use Rattle.export.proofs.States.{no-tray, no-told, no-header, rooms-are, rooms-number, rooms-tray, rooms-told, rooms-header}
+use Rattle.export.specs.Numbers.{laid}
+use Rattle.export.specs.Streams.{toldAnswer, trayTold, headerTold}
+use Rattle.stream.specs.declared.Answer.{Answer}
+use Rattle.export.proofs.Laws.{is-told, is-left}
+use Rattle.export.proofs.States.{no-tray, no-told, no-header, rooms-are}
 use borrow.Author.Needs.{needs}
 use Rattle.export.proofs.streams.homralgyu_stream_finish.Statement.{statement}
 use Rattle.export.proofs.streams.homralgyu_stream_finish.Tie as tie
@@ -32,7 +36,7 @@ same-length-4 : tie.Need-same-length-4
 same-length-4 c = search needs
 
 returns-4 : tie.Need-returns-4
-returns-4 c = (search (rooms-number, needs), (search (rooms-are, needs), (search (rooms-tray, needs), (search (rooms-told, needs), search (rooms-header, needs)))))
+returns-4 c = (search (rooms-are, is-told (λ (v : Answer). toldAnswer v .number), needs), (search (rooms-are, needs), (search (rooms-are, is-left (λ (v : Answer). laid (trayTold v)), needs), (search (rooms-are, is-left (λ (v : Answer). laid (toldAnswer v .numbers)), needs), search (rooms-are, is-left (λ (v : Answer). laid (headerTold v)), needs)))))
 
 pub homralgyu-stream-finish-spec : {M : Type 1} → statement M
 homralgyu-stream-finish-spec =

@@ -1,5 +1,6 @@
 -- The three numbers of an event.
-use Rattle.export.proofs.States.{event-put}
+use Rattle.export.specs.Streams.{eventOf}
+use Rattle.export.proofs.Laws.{laid-as, cons-as}
 use borrow.Author.Needs.{needs}
 use Rattle.export.proofs.streams.put_told.Statement.{statement}
 use Rattle.export.proofs.streams.put_told.Tie as tie
@@ -17,7 +18,8 @@ same-length : tie.Need-same-length
 same-length c = search needs
 
 returns : tie.Need-returns
-returns c = search (event-put, needs)
+unfolding eventOf
+returns c = search (laid-as, cons-as, needs)
 
 pub put-told-spec : {M : Type 1} → statement M
 put-told-spec =

@@ -1,5 +1,6 @@
 -- The three numbers of a tray.
-use Rattle.export.proofs.States.{tray-put}
+use Rattle.export.specs.Streams.{trayOf}
+use Rattle.export.proofs.Laws.{laid-as, cons-as}
 use borrow.Author.Needs.{needs}
 use Rattle.export.proofs.streams.put_tray.Statement.{statement}
 use Rattle.export.proofs.streams.put_tray.Tie as tie
@@ -23,7 +24,8 @@ same-length : tie.Need-same-length
 same-length c = search needs
 
 returns : tie.Need-returns
-returns c = search (tray-put, needs)
+unfolding trayOf
+returns c = search (laid-as, cons-as, needs)
 
 pub put-tray-spec : {M : Type 1} → statement M
 put-tray-spec =

@@ -1,5 +1,7 @@
 -- A case for each thing that is said.
-use Rattle.export.proofs.States.{hungry-number, hungry-tray, hungry-told, hungry-header, frame-number, frame-tray, frame-told, frame-header, noise-number, noise-tray, noise-told, noise-header, done-number, done-tray, done-told, done-header, refused-number, refused-tray, refused-told, refused-header}
+use Rattle.export.specs.Streams.{toldSaid, traySaid, headerSaid}
+use Rattle.export.proofs.Laws.{laid-none}
+use Rattle.export.proofs.States.{said-number, said-tray, said-told, said-header, event-as}
 use borrow.Author.Needs.{needs}
 use Rattle.export.proofs.streams.tell.Statement.{statement}
 use Rattle.export.proofs.streams.tell.Tie as tie
@@ -59,7 +61,8 @@ same-length-2 : tie.Need-same-length-2
 same-length-2 c = search needs
 
 returns : tie.Need-returns
-returns c = (search (hungry-number, needs), (search (hungry-tray, needs), (search (hungry-told, needs), search (hungry-header, needs))))
+unfolding toldSaid traySaid headerSaid
+returns c = (search (said-number, needs), (search (said-tray, needs), (search (said-told, needs), search (said-header, laid-none, needs))))
 
 same-length-3 : tie.Need-same-length-3
 same-length-3 c = search needs
@@ -71,7 +74,8 @@ same-length-5 : tie.Need-same-length-5
 same-length-5 c = search needs
 
 returns-2 : tie.Need-returns-2
-returns-2 c = (search (frame-number, needs), (search (frame-tray, needs), (search (frame-told, needs), search (frame-header, needs))))
+unfolding toldSaid traySaid headerSaid
+returns-2 c = (search (said-number, needs), (search (said-tray, needs), (search (said-told, needs), search (said-header, needs))))
 
 same-length-6 : tie.Need-same-length-6
 same-length-6 c = search needs
@@ -80,7 +84,8 @@ same-length-7 : tie.Need-same-length-7
 same-length-7 c = search needs
 
 returns-3 : tie.Need-returns-3
-returns-3 c = (search (noise-number, needs), (search (noise-tray, needs), (search (noise-told, needs), search (noise-header, needs))))
+unfolding toldSaid traySaid headerSaid
+returns-3 c = (search (said-number, needs), (search (said-tray, needs), (search (said-told, event-as, needs), search (said-header, laid-none, needs))))
 
 same-length-8 : tie.Need-same-length-8
 same-length-8 c = search needs
@@ -89,10 +94,12 @@ same-length-9 : tie.Need-same-length-9
 same-length-9 c = search needs
 
 returns-4 : tie.Need-returns-4
-returns-4 c = (search (done-number, needs), (search (done-tray, needs), (search (done-told, needs), search (done-header, needs))))
+unfolding toldSaid traySaid headerSaid
+returns-4 c = (search (said-number, needs), (search (said-tray, needs), (search (said-told, needs), search (said-header, laid-none, needs))))
 
 returns-5 : tie.Need-returns-5
-returns-5 c = (search (refused-number, needs), (search (refused-tray, needs), (search (refused-told, needs), search (refused-header, needs))))
+unfolding toldSaid traySaid headerSaid
+returns-5 c = (search (said-number, needs), (search (said-tray, laid-none, needs), (search (said-told, laid-none, needs), search (said-header, laid-none, needs))))
 
 pub tell-spec : {M : Type 1} → statement M
 tell-spec =

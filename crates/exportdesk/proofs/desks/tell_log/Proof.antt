@@ -1,5 +1,8 @@
 -- A case for each thing that is said.
-use Rattle.exportdesk.proofs.Telling.{log-told, log-untold}
+use Rattle.export.specs.Numbers.{laid}
+use Rattle.exportdesk.specs.Desks.{logTold}
+use Rattle.desk.specs.declared.Said.{Said}
+use Rattle.export.proofs.Laws.{arm-of, laid-as, cons-as, laid-none}
 use borrow.Author.Needs.{needs}
 use Rattle.exportdesk.proofs.desks.tell_log.Statement.{statement}
 use Rattle.exportdesk.proofs.desks.tell_log.Tie as tie
@@ -23,10 +26,12 @@ same-length : tie.Need-same-length
 same-length c = search needs
 
 returns : tie.Need-returns
-returns c = search (log-told, needs)
+unfolding logTold
+returns c = search (arm-of (λ (s : Said). laid (logTold s)), laid-as, cons-as, needs)
 
 returns-2 : tie.Need-returns-2
-returns-2 c = search (log-untold, needs)
+unfolding logTold
+returns-2 c = search (arm-of (λ (s : Said). laid (logTold s)), laid-none, needs)
 
 pub tell-log-spec : {M : Type 1} → statement M
 tell-log-spec =

@@ -1,5 +1,6 @@
 -- A case for each answer.
-use Rattle.exportdesk.proofs.Telling.{made-number, made-numbers, unmade-number, unmade-numbers}
+use Rattle.exportdesk.specs.Desks.{toldNew}
+use Rattle.export.proofs.Laws.{number-in, numbers-in, laid-none}
 use borrow.Author.Needs.{needs}
 use Rattle.exportdesk.proofs.desks.tell_new.Statement.{statement}
 use Rattle.exportdesk.proofs.desks.tell_new.Tie as tie
@@ -20,10 +21,12 @@ same-length : tie.Need-same-length
 same-length c = search needs
 
 returns : tie.Need-returns
-returns c = search (made-number, made-numbers, needs)
+unfolding toldNew
+returns c = search (number-in toldNew, numbers-in toldNew, needs)
 
 returns-2 : tie.Need-returns-2
-returns-2 c = search (unmade-number, unmade-numbers, needs)
+unfolding toldNew
+returns-2 c = search (number-in toldNew, numbers-in toldNew, laid-none, needs)
 
 pub tell-new-spec : {M : Type 1} → statement M
 tell-new-spec =

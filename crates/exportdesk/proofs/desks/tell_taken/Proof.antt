@@ -1,5 +1,7 @@
 -- A case for each thing that is said.
-use Rattle.exportdesk.proofs.Telling.{taken-number, taken-numbers, refused-number, refused-numbers}
+use Rattle.exportdesk.specs.Desks.{toldSaid}
+use Rattle.export.proofs.Laws.{laid-none}
+use Rattle.exportdesk.proofs.Telling.{said-number, said-numbers}
 use borrow.Author.Needs.{needs}
 use Rattle.exportdesk.proofs.desks.tell_taken.Statement.{statement}
 use Rattle.exportdesk.proofs.desks.tell_taken.Tie as tie
@@ -20,10 +22,12 @@ same-length : tie.Need-same-length
 same-length c = search needs
 
 returns : tie.Need-returns
-returns c = search (taken-number, taken-numbers, needs)
+unfolding toldSaid
+returns c = search (said-number, said-numbers, needs)
 
 returns-2 : tie.Need-returns-2
-returns-2 c = search (refused-number, refused-numbers, needs)
+unfolding toldSaid
+returns-2 c = search (said-number, said-numbers, laid-none, needs)
 
 pub tell-taken-spec : {M : Type 1} → statement M
 tell-taken-spec =

@@ -1,6 +1,9 @@
 -- A slice is too short, or the bytes are those that are found.
+use Rattle.export.specs.Numbers.{laid}
 use Rattle.exportdesk.specs.Finds.{countOf}
-use Rattle.exportdesk.proofs.Laws.{first-short, second-short, both-are, both-laid}
+use Prim.Native.Nat.{ℕ}
+use Rattle.export.proofs.Laws.{is-left}
+use Rattle.exportdesk.proofs.Laws.{first-short, second-short, both-are}
 use borrow.Author.Needs.{needs}
 use Rattle.exportdesk.proofs.finds.homralgyu_book_find.Statement.{statement}
 use Rattle.exportdesk.proofs.finds.homralgyu_book_find.Tie as tie
@@ -24,7 +27,7 @@ same-length-2 : tie.Need-same-length-2
 same-length-2 c = search needs
 
 returns-3 : tie.Need-returns-3
-returns-3 c = (search (both-are, needs), (search (both-are, needs), search (both-laid countOf, needs)))
+returns-3 c = (search (both-are, needs), (search (both-are, needs), search (both-are, is-left (λ (n : ℕ). laid (countOf n)), needs)))
 
 pub homralgyu-book-find-spec : {M : Type 1} → statement M
 homralgyu-book-find-spec =

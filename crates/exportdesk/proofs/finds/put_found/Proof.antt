@@ -1,5 +1,6 @@
 -- The count of bytes.
-use Rattle.exportdesk.proofs.Finding.{found-told}
+use Rattle.exportdesk.specs.Finds.{countOf}
+use Rattle.export.proofs.Laws.{laid-as, cons-as}
 use borrow.Author.Needs.{needs}
 use Rattle.exportdesk.proofs.finds.put_found.Statement.{statement}
 use Rattle.exportdesk.proofs.finds.put_found.Tie as tie
@@ -17,7 +18,8 @@ same-length : tie.Need-same-length
 same-length c = search needs
 
 returns : tie.Need-returns
-returns c = search (found-told, needs)
+unfolding countOf
+returns c = search (laid-as, cons-as, needs)
 
 pub put-found-spec : {M : Type 1} → statement M
 put-found-spec =

@@ -1,5 +1,5 @@
 -- Below the highest that counts, or not.
-use Rattle.exportdesk.proofs.Nine.{under, over}
+use Rattle.export.proofs.Laws.{under, over}
 use borrow.Author.Needs.{needs}
 use Rattle.exportdesk.proofs.states.at_most.Statement.{statement}
 use Rattle.exportdesk.proofs.states.at_most.Tie as tie

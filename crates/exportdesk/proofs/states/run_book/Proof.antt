@@ -1,5 +1,6 @@
 -- A closed run has no book.
-use Rattle.exportdesk.proofs.Nine.{run-book-closed, run-book-open}
+use Rattle.exportdesk.specs.States.{runBook}
+use Rattle.export.proofs.Laws.{arm}
 use borrow.Author.Needs.{needs}
 use Rattle.exportdesk.proofs.states.run_book.Statement.{statement}
 use Rattle.exportdesk.proofs.states.run_book.Tie as tie
@@ -14,10 +15,10 @@ enum-known-run : tie.Need-enum-known-run
 enum-known-run c = search needs
 
 returns : tie.Need-returns
-returns c = search (run-book-closed, needs)
+returns c = search (arm runBook, needs)
 
 returns-2 : tie.Need-returns-2
-returns-2 c = search (run-book-open, needs)
+returns-2 c = search (arm runBook, needs)
 
 pub run-book-spec : {M : Type 1} → statement M
 run-book-spec = tie.close (tie.spec enum-told no-book-requires enum-known-run returns returns-2)

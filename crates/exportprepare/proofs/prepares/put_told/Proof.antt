@@ -1,5 +1,6 @@
 -- The five numbers of an event.
-use Rattle.exportprepare.proofs.Prepared.{told-put}
+use Rattle.exportprepare.specs.Prepares.{eventOf}
+use Rattle.export.proofs.Laws.{laid-as, cons-as}
 use borrow.Author.Needs.{needs}
 use Rattle.exportprepare.proofs.prepares.put_told.Statement.{statement}
 use Rattle.exportprepare.proofs.prepares.put_told.Tie as tie
@@ -23,7 +24,8 @@ same-length : tie.Need-same-length
 same-length c = search needs
 
 returns : tie.Need-returns
-returns c = search (told-put, needs)
+unfolding eventOf
+returns c = search (laid-as, cons-as, needs) depth 8
 
 pub put-told-spec : {M : Type 1} → statement M
 put-told-spec =

@@ -1,5 +1,7 @@
 -- A case for each thing that is said.
-use Rattle.exportprepare.proofs.Prepared.{puts-hungry, puts-accepted, puts-refused-frame, puts-noise, puts-done, puts-refused}
+use Rattle.exportprepare.specs.Prepares.{toldSaid, stateSaid, headerSaid}
+use Rattle.export.proofs.Laws.{laid-none}
+use Rattle.exportprepare.proofs.Prepared.{puts, event-as}
 use borrow.Author.Needs.{needs}
 use Rattle.exportprepare.proofs.prepares.tell.Statement.{statement}
 use Rattle.exportprepare.proofs.prepares.tell.Tie as tie
@@ -62,7 +64,8 @@ same-length-3 : tie.Need-same-length-3
 same-length-3 c = search needs
 
 returns : tie.Need-returns
-returns c = search (puts-hungry, needs)
+unfolding toldSaid stateSaid headerSaid
+returns c = search (puts, laid-none, needs)
 
 same-length-4 : tie.Need-same-length-4
 same-length-4 c = search needs
@@ -77,7 +80,8 @@ same-length-7 : tie.Need-same-length-7
 same-length-7 c = search needs
 
 returns-2 : tie.Need-returns-2
-returns-2 c = search (puts-accepted, needs)
+unfolding toldSaid stateSaid headerSaid
+returns-2 c = search (puts, needs)
 
 same-length-8 : tie.Need-same-length-8
 same-length-8 c = search needs
@@ -92,7 +96,8 @@ same-length-11 : tie.Need-same-length-11
 same-length-11 c = search needs
 
 returns-3 : tie.Need-returns-3
-returns-3 c = search (puts-refused-frame, needs)
+unfolding toldSaid stateSaid headerSaid
+returns-3 c = search (puts, event-as, needs)
 
 same-length-12 : tie.Need-same-length-12
 same-length-12 c = search needs
@@ -104,7 +109,8 @@ same-length-14 : tie.Need-same-length-14
 same-length-14 c = search needs
 
 returns-4 : tie.Need-returns-4
-returns-4 c = search (puts-noise, needs)
+unfolding toldSaid stateSaid headerSaid
+returns-4 c = search (puts, event-as, laid-none, needs)
 
 same-length-15 : tie.Need-same-length-15
 same-length-15 c = search needs
@@ -116,10 +122,12 @@ same-length-17 : tie.Need-same-length-17
 same-length-17 c = search needs
 
 returns-5 : tie.Need-returns-5
-returns-5 c = search (puts-done, needs)
+unfolding toldSaid stateSaid headerSaid
+returns-5 c = search (puts, laid-none, needs)
 
 returns-6 : tie.Need-returns-6
-returns-6 c = search (puts-refused, needs)
+unfolding toldSaid stateSaid headerSaid
+returns-6 c = search (puts, laid-none, needs)
 
 pub tell-spec : {M : Type 1} → statement M
 tell-spec =
