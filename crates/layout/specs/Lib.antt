@@ -1,10 +1,12 @@
 pub mod Layout
 pub mod Parts
 pub mod Record
+pub mod Holds
 pub mod RoundTrip
 pub mod Walks
 pub mod Run
 pub mod Put
 pub mod Reaches
+pub mod Acceptance
 pub mod Tests
 pub mod Determined

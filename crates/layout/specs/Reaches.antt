@@ -13,16 +13,12 @@ use Rattle.bits.specs.Bits.{bitsOf, number}
 use Rattle.layout.specs.declared.Field.{Field}
 use Rattle.layout.specs.declared.Verdict.the-variants.{Taken}
 use Rattle.layout.specs.Layout.{Layout, done, field, pick, judge, Outcome, accepted, readL, Written, written, fitting, judgedW, behind, writeL}
+use Rattle.layout.specs.Holds.{Holds}
 use Rattle.layout.specs.Parts.{Part, absent, present, times, each}
 use Rattle.layout.specs.Record.{recordFrom, recordOf}
 use Rattle.layout.specs.RoundTrip.{read-write, fitting-acc, judgedW-acc, behind-acc, enough-acc, judged-acc, before-acc}
 
 -- ---- accepted from a place on
-
--- each field has its entry, and takes it; the sheet ends where the layout does
-unfoldable pub Holds : {A : Type 0} → Layout A → (sheet : List ℕ) (at : ℕ) → Type 0
-Holds (done v) sheet at = at ≡ length sheet
-Holds (field f next) sheet at = (at < length sheet) × (judge f (getD sheet at 0) ≡ Taken) × Holds (next (getD sheet at 0)) sheet (suc at)
 
 pub holds-inside : {A : Type 0} (l : Layout A) (sheet : List ℕ) (at : ℕ) → Holds l sheet at → at ≤ length sheet
 unfolding Holds

@@ -1,31 +1,52 @@
--- Two results of a call of this crate cannot differ: for equal inputs, answers and buffers that meet the contracts are equal. Proved.
-use mathlib.Core.Path.{_≡_, sym, _∙_}
-use mathlib.Core.List.{List}
+-- Two results of a public call of this crate cannot differ: for equal inputs, answers and lent buffers that meet the contract are equal. Proved.
+-- Written by tests/determined from the contracts in src/.
 use Prim.Native.Nat.{ℕ}
-use Rattle.bits.specs.Bits.{toBits, Bytes}
+use Rattle.bits.specs.Bits.{Bytes, toBits}
 use Rattle.bits.specs.Laws.{toBits-injective}
-use Rattle.sheet.specs.Sheet.{judged, readAnswer, sheetAfter, judgedSheet, writeAnswer, outAfter, numberOfRead, numberOfWritten}
+use Rattle.sheet.specs.Sheet.{judged, judgedSheet, numberOfRead, numberOfWritten, outAfter, readAnswer, sheetAfter, writeAnswer}
 use Rattle.sheet.specs.declared.ReadAnswer.{ReadAnswer}
 use Rattle.sheet.specs.declared.WriteAnswer.{WriteAnswer}
+use mathlib.Core.List.{List}
+use mathlib.Core.Path.{_∙_, _≡_, sym}
 
-pub judge-determined : (kind subtype : ℕ) (payload : List ℕ) (a b : ReadAnswer) → a ≡ judged kind subtype payload → b ≡ judged kind subtype payload → a ≡ b
-judge-determined kind subtype payload a b p q = p ∙ sym q
+pub judge-determined : (kind subtype : ℕ) (payload : List ℕ) (r₁ r₂ : ReadAnswer)
+    → r₁ ≡ judged kind subtype payload
+    → r₂ ≡ judged kind subtype payload
+    → r₁ ≡ r₂
+judge-determined kind subtype payload r₁ r₂ e0₁ e0₂ = e0₁ ∙ sym e0₂
 
-pub judge-sheet-determined : (kind subtype : ℕ) (sheet : List ℕ) (a b : WriteAnswer) → a ≡ judgedSheet kind subtype sheet → b ≡ judgedSheet kind subtype sheet → a ≡ b
-judge-sheet-determined kind subtype sheet a b p q = p ∙ sym q
+pub read-determined : (kind subtype : ℕ) (payload sheet : List ℕ) (r₁ r₂ : ReadAnswer) (sheet₁ sheet₂ : List ℕ)
+    → r₁ ≡ readAnswer kind subtype payload sheet
+    → r₂ ≡ readAnswer kind subtype payload sheet
+    → sheet₁ ≡ sheetAfter kind subtype payload sheet
+    → sheet₂ ≡ sheetAfter kind subtype payload sheet
+    → (r₁ ≡ r₂) × (sheet₁ ≡ sheet₂)
+read-determined kind subtype payload sheet r₁ r₂ sheet₁ sheet₂ e0₁ e0₂ e1₁ e1₂ = (e0₁ ∙ sym e0₂, e1₁ ∙ sym e1₂)
 
-pub read-determined : (kind subtype : ℕ) (payload sheet : List ℕ) (a b : ReadAnswer) (s t : List ℕ)
-    → a ≡ readAnswer kind subtype payload sheet → b ≡ readAnswer kind subtype payload sheet
-    → s ≡ sheetAfter kind subtype payload sheet → t ≡ sheetAfter kind subtype payload sheet → (a ≡ b) × (s ≡ t)
-read-determined kind subtype payload sheet a b s t ea eb es et = (ea ∙ sym eb, es ∙ sym et)
+pub judge-sheet-determined : (kind subtype : ℕ) (sheet : List ℕ) (r₁ r₂ : WriteAnswer)
+    → r₁ ≡ judgedSheet kind subtype sheet
+    → r₂ ≡ judgedSheet kind subtype sheet
+    → r₁ ≡ r₂
+judge-sheet-determined kind subtype sheet r₁ r₂ e0₁ e0₂ = e0₁ ∙ sym e0₂
 
-pub write-determined : (kind subtype : ℕ) (sheet out : List ℕ) (a b : WriteAnswer) (s t : List ℕ) → Bytes s → Bytes t
-    → a ≡ writeAnswer kind subtype sheet out → b ≡ writeAnswer kind subtype sheet out
-    → toBits s ≡ outAfter kind subtype sheet out → toBits t ≡ outAfter kind subtype sheet out → (a ≡ b) × (s ≡ t)
-write-determined kind subtype sheet out a b s t hs ht ea eb es et = (ea ∙ sym eb, toBits-injective hs ht (es ∙ sym et))
+pub write-determined : (kind subtype : ℕ) (sheet out : List ℕ) (r₁ r₂ : WriteAnswer) (out₁ out₂ : List ℕ)
+    → r₁ ≡ writeAnswer kind subtype sheet out
+    → r₂ ≡ writeAnswer kind subtype sheet out
+    → Bytes out₁
+    → Bytes out₂
+    → toBits out₁ ≡ outAfter kind subtype sheet out
+    → toBits out₂ ≡ outAfter kind subtype sheet out
+    → (r₁ ≡ r₂) × (out₁ ≡ out₂)
+write-determined kind subtype sheet out r₁ r₂ out₁ out₂ e0₁ e0₂ e1-bytes₁ e1-bytes₂ e1₁ e1₂ = (e0₁ ∙ sym e0₂, toBits-injective e1-bytes₁ e1-bytes₂ (e1₁ ∙ sym e1₂))
 
-pub number-read-determined : (r : ReadAnswer) (a b : ℕ) → a ≡ numberOfRead r → b ≡ numberOfRead r → a ≡ b
-number-read-determined r a b p q = p ∙ sym q
+pub number-read-determined : (answer : ReadAnswer) (r₁ r₂ : ℕ)
+    → r₁ ≡ numberOfRead answer
+    → r₂ ≡ numberOfRead answer
+    → r₁ ≡ r₂
+number-read-determined answer r₁ r₂ e0₁ e0₂ = e0₁ ∙ sym e0₂
 
-pub number-written-determined : (r : WriteAnswer) (a b : ℕ) → a ≡ numberOfWritten r → b ≡ numberOfWritten r → a ≡ b
-number-written-determined r a b p q = p ∙ sym q
+pub number-written-determined : (answer : WriteAnswer) (r₁ r₂ : ℕ)
+    → r₁ ≡ numberOfWritten answer
+    → r₂ ≡ numberOfWritten answer
+    → r₁ ≡ r₂
+number-written-determined answer r₁ r₂ e0₁ e0₂ = e0₁ ∙ sym e0₂

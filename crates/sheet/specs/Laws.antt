@@ -60,7 +60,7 @@ begins-pick : (b : Bool) {l m : Part (Layout Message)} → Begins l → Begins m
 begins-pick true p q = p
 begins-pick false p q = q
 
-begins-for : (kind subtype : ℕ) → Begins (layoutFor kind subtype)
+pub begins-for : (kind subtype : ℕ) → Begins (layoutFor kind subtype)
 unfolding sf lineOf find table
 begins-for kind subtype =
     begins-pick (eqb kind 0) (begins-by ocbLayout (λ c. begins (omega arith)) subtype) (
@@ -75,7 +75,7 @@ first-read w c true Taken (refused why) e = let z : _≡_ {A = ℕ} 0 1 = cc in 
 first-read w c true (Fault why) o e = let z : _≡_ {A = ℕ} 0 1 = cc in absurd (omega arith)
 first-read w c false v o e = let z : _≡_ {A = ℕ} 0 1 = cc in absurd (omega arith)
 
-has-bit : (p : Part (Layout Message)) → Begins p → (l : Layout Message) (bits cs : List ℕ) (n : ℕ) {m : Message} → p ≡ present l → readL l bits ≡ accepted m cs n → 0 < n
+pub has-bit : (p : Part (Layout Message)) → Begins p → (l : Layout Message) (bits cs : List ℕ) (n : ℕ) {m : Message} → p ≡ present l → readL l bits ≡ accepted m cs n → 0 < n
 unfolding readL
 has-bit absent nowhere l bits cs n e r = let z : _≡_ {A = ℕ} 0 1 = cc in absurd (omega arith)
 has-bit (present (field f next)) (begins h) l bits cs n {m} e r =
@@ -133,6 +133,7 @@ pub record WasRead (kind subtype : ℕ) (payload sheet : List ℕ) (bits entries
   pub codes : List ℕ
   pub here : layoutFor kind subtype ≡ present layout
   pub reads : readL layout (toBits payload) ≡ accepted message codes bits
+  pub room : sheetRoom ≤ length sheet
   pub good : badLength (length payload) ≡ false
   pub count : entries ≡ length codes
   pub leaves : sheetAfter kind subtype payload sheet ≡ codes ++ drop (length codes) sheet
@@ -143,9 +144,9 @@ unfolding readAnswer sheetAfter
 was-read kind subtype payload sheet bits entries e =
     go (ltb (length sheet) sheetRoom) (layoutFor kind subtype) (badLength (length payload)) refl refl refl
   where
-    last : (l : Layout Message) (o : Outcome Message) → layoutFor kind subtype ≡ present l → badLength (length payload) ≡ false → readL l (toBits payload) ≡ o
+    last : (l : Layout Message) (o : Outcome Message) → sheetRoom ≤ length sheet → layoutFor kind subtype ≡ present l → badLength (length payload) ≡ false → readL l (toBits payload) ≡ o
         → sheetAfter kind subtype payload sheet ≡ sheetBy o sheet → readAnswerBy o ≡ reader.Read bits entries → WasRead kind subtype payload sheet bits entries
-    last l (accepted m cs n) p g r s e =
+    last l (accepted m cs n) h p g r s e =
         let q : n ≡ bits = cc in
         record {
           layout = l;
@@ -153,23 +154,24 @@ was-read kind subtype payload sheet bits entries e =
           codes = cs;
           here = p;
           reads = r ∙ ap (accepted m cs) q;
+          room = h;
           good = g;
           count = cc;
           leaves = s;
         }
-    last l (refused why) p g r s e = let z : _≡_ {A = ℕ} 0 1 = cc in absurd (omega arith)
+    last l (refused why) h p g r s e = let z : _≡_ {A = ℕ} 0 1 = cc in absurd (omega arith)
 
     go : (x : Bool) (p : Part (Layout Message)) (y : Bool) → ltb (length sheet) sheetRoom ≡ x → layoutFor kind subtype ≡ p → badLength (length payload) ≡ y
         → WasRead kind subtype payload sheet bits entries
-    go x p y a b c = by x p y b c (reading-with kind subtype payload sheet a b c) (ap readAnswerBy (sym (reading-with kind subtype payload sheet a b c)) ∙ e)
+    go x p y a b c = by x p y a b c (reading-with kind subtype payload sheet a b c) (ap readAnswerBy (sym (reading-with kind subtype payload sheet a b c)) ∙ e)
       where
-        by : (x : Bool) (p : Part (Layout Message)) (y : Bool) → layoutFor kind subtype ≡ p → badLength (length payload) ≡ y
+        by : (x : Bool) (p : Part (Layout Message)) (y : Bool) → ltb (length sheet) sheetRoom ≡ x → layoutFor kind subtype ≡ p → badLength (length payload) ≡ y
             → reading kind subtype payload sheet ≡ readingWith payload x p y → readAnswerBy (readingWith payload x p y) ≡ reader.Read bits entries
             → WasRead kind subtype payload sheet bits entries
-        by true p y b c r e = let z : _≡_ {A = ℕ} 0 1 = cc in absurd (omega arith)
-        by false absent y b c r e = let z : _≡_ {A = ℕ} 0 1 = cc in absurd (omega arith)
-        by false (present l) true b c r e = let z : _≡_ {A = ℕ} 0 1 = cc in absurd (omega arith)
-        by false (present l) false b c r e = last l (readL l (toBits payload)) b c refl (ap (λ x. sheetBy x sheet) r) e
+        by true p y a b c r e = let z : _≡_ {A = ℕ} 0 1 = cc in absurd (omega arith)
+        by false absent y a b c r e = let z : _≡_ {A = ℕ} 0 1 = cc in absurd (omega arith)
+        by false (present l) true a b c r e = let z : _≡_ {A = ℕ} 0 1 = cc in absurd (omega arith)
+        by false (present l) false a b c r e = last l (readL l (toBits payload)) (ltb-false (length sheet) sheetRoom a) b c refl (ap (λ x. sheetBy x sheet) r) e
 
 pub read-has-bit : {kind subtype : ℕ} {payload sheet : List ℕ} {bits entries : ℕ} → WasRead kind subtype payload sheet bits entries → 0 < bits
 read-has-bit {kind} {subtype} {payload} {bits} w =

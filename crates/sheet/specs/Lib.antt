@@ -3,3 +3,4 @@ pub mod Passes
 pub mod Determined
 pub mod Laws
 pub mod Theorems
+pub mod Acceptance

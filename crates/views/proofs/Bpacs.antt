@@ -6,7 +6,7 @@ use Rattle.answer.specs.declared.Refusal.{Refusal}
 use Rattle.bpac.specs.Bpac as bpac
 use Rattle.fields.specs.Fields.{sf}
 use Rattle.layout.specs.Layout.{done}
-use Rattle.layout.specs.Reaches.{Holds}
+use Rattle.layout.specs.Holds.{Holds}
 use Rattle.layout.specs.Walks.{Walks}
 use Rattle.message.specs.declared.State.{State}
 use Rattle.message.specs.Machine.{fieldOf, stepOf}

@@ -9,7 +9,7 @@ use Rattle.hpac.specs.Hpac as hpac
 use Rattle.fields.specs.Fields.{sf}
 use Rattle.layout.specs.Layout.{done}
 use Rattle.layout.specs.Parts.{Part, absent, present}
-use Rattle.layout.specs.Reaches.{Holds}
+use Rattle.layout.specs.Holds.{Holds}
 use Rattle.layout.specs.Walks.{Walks}
 use Rattle.message.specs.declared.State.{State}
 use Rattle.message.specs.Machine.{fieldOf, stepOf}

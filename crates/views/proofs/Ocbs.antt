@@ -14,7 +14,8 @@ use Rattle.codes.specs.declared.Constellation.{Constellation}
 use Rattle.codes.specs.Fields.{satellitesOf, satelliteAt}
 use Rattle.layout.specs.Layout.{Layout, done}
 use Rattle.layout.specs.Parts.{each}
-use Rattle.layout.specs.Reaches.{Holds, holds-inside, reaches-holds, manyEnd, manyOf, length-many}
+use Rattle.layout.specs.Holds.{Holds}
+use Rattle.layout.specs.Reaches.{holds-inside, reaches-holds, manyEnd, manyOf, length-many}
 use Rattle.message.specs.Messages.{Message, ocbMessage}
 use Rattle.ocb.specs.Ocb as ocb
 use Rattle.values.specs.declared.Yaw.{Yaw}

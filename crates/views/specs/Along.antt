@@ -12,7 +12,7 @@ use Rattle.layout.specs.declared.Field.{Field}
 use Rattle.layout.specs.declared.Verdict.the-variants.{Taken}
 use Rattle.layout.specs.Layout.{Layout, done, field, judge, pick}
 use Rattle.layout.specs.Parts.{Part, absent, present, optional, times, each}
-use Rattle.layout.specs.Reaches.{Holds}
+use Rattle.layout.specs.Holds.{Holds}
 use Rattle.layout.specs.Record.{recordFrom}
 use Rattle.layout.specs.Run.{taken-fits}
 use Rattle.layout.specs.Walks.{Walks, ends, goes}

@@ -9,7 +9,7 @@ use Rattle.bpac.specs.Bpac as bpac
 use Rattle.layout.specs.declared.Field.{Field}
 use Rattle.layout.specs.Layout.{Layout, done, field}
 use Rattle.layout.specs.Parts.{times}
-use Rattle.layout.specs.Reaches.{Holds}
+use Rattle.layout.specs.Holds.{Holds}
 use Rattle.layout.specs.Record.{recordFrom, recordOf}
 use Rattle.fields.specs.Fields.{table, find, lineOf, sf}
 use Rattle.views.specs.declared.bpacarea.BpacArea.{BpacArea}

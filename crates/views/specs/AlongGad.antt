@@ -7,7 +7,7 @@ use lib.ListN.{getD}
 use Rattle.gad.specs.Gad as gad
 use Rattle.layout.specs.Layout.{Layout, done}
 use Rattle.layout.specs.Parts.{times}
-use Rattle.layout.specs.Reaches.{Holds}
+use Rattle.layout.specs.Holds.{Holds}
 use Rattle.layout.specs.Record.{recordFrom, recordOf}
 use Rattle.fields.specs.Fields.{table, find, lineOf, sf}
 use Rattle.views.specs.declared.gadarea.GadArea.{GadArea}

@@ -15,7 +15,7 @@ use Rattle.fields.specs.Fields.{sf}
 use Rattle.layout.specs.declared.Field.{Field}
 use Rattle.layout.specs.Layout.{Layout, done, field}
 use Rattle.layout.specs.Parts.{Part, optional, times}
-use Rattle.layout.specs.Reaches.{Holds}
+use Rattle.layout.specs.Holds.{Holds}
 use Rattle.layout.specs.Record.{recordFrom, recordOf}
 use Rattle.views.specs.declared.hpacarea.HpacArea.{HpacArea}
 use Rattle.views.specs.declared.hpacarea.HpacAnswer.{HpacAnswer}

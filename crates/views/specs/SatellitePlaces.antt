@@ -16,7 +16,8 @@ use Rattle.layout.specs.Layout.{Layout, done, field, pick}
 use Rattle.layout.specs.Parts.{Part, each}
 use Rattle.layout.specs.Record.{recordFrom, recordOf}
 use Rattle.message.specs.Messages.{ocbLayout}
-use Rattle.layout.specs.Reaches.{Holds, Reaches, here, on, reaches-record, reaches-then, many, manyOf, partIf, length-many, many-end, reaches-to, reaches-times, reaches-each}
+use Rattle.layout.specs.Holds.{Holds}
+use Rattle.layout.specs.Reaches.{Reaches, here, on, reaches-record, reaches-then, many, manyOf, partIf, length-many, many-end, reaches-to, reaches-times, reaches-each}
 use Rattle.ocb.specs.Ocb as ocb
 use Rattle.views.specs.Entries.{entriesOf}
 use Rattle.views.specs.Parts.{reaches-part}

@@ -14,7 +14,8 @@ use Rattle.fields.specs.Fields.{yaw, sixfold, table, find, lineOf, sf}
 use Rattle.layout.specs.declared.Verdict.the-variants.{Taken}
 use Rattle.layout.specs.Layout.{Layout, done, field, pick, judge}
 use Rattle.layout.specs.Parts.{Part, present, optional}
-use Rattle.layout.specs.Reaches.{Holds, here, on, reaches-holds, reaches-to, partIf}
+use Rattle.layout.specs.Holds.{Holds}
+use Rattle.layout.specs.Reaches.{here, on, reaches-holds, reaches-to, partIf}
 use Rattle.message.specs.Messages.{ocbMessage, ocbLayout, byConstellation, constellationOf}
 use Rattle.ocb.specs.Ocb as ocb
 use Rattle.sheet.specs.declared.WriteAnswer.the-variants as writer

@@ -11,7 +11,8 @@ use Rattle.codes.specs.declared.Constellation.{Constellation}
 use Rattle.codes.specs.declared.Constellation.the-variants.{Gps, Glonass, Galileo, BeiDou, Qzss}
 use Rattle.layout.specs.Layout.{Layout, pick, Written, written, unwritten, writeL}
 use Rattle.layout.specs.Parts.{Part, absent, present}
-use Rattle.layout.specs.Reaches.{Holds, written-holds}
+use Rattle.layout.specs.Holds.{Holds}
+use Rattle.layout.specs.Reaches.{written-holds}
 use Rattle.layout.specs.Walks.{Walks}
 use Rattle.message.specs.declared.Start.{Start}
 use Rattle.message.specs.declared.State.{State}

@@ -9,7 +9,8 @@ use lib.ListN.{getD}
 use Rattle.layout.specs.declared.Verdict.the-variants.{Taken}
 use Rattle.layout.specs.Layout.{Layout, judge}
 use Rattle.layout.specs.Parts.{each}
-use Rattle.layout.specs.Reaches.{Holds, Reaches, reaches-holds, manyOf}
+use Rattle.layout.specs.Holds.{Holds}
+use Rattle.layout.specs.Reaches.{Reaches, reaches-holds, manyOf}
 use Rattle.values.specs.declared.Value.the-variants.{Metres, Degrees, Tecu}
 use Rattle.values.specs.declared.CountAnswer.the-variants as count
 use Rattle.values.specs.declared.YawAnswer.the-variants as yawAnswer
