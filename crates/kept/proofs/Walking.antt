@@ -7,7 +7,7 @@ use native.Mathlib.Omega.{arith}
 use lib.Dec.{leb, ltb, eqb}
 use lib.ListN.{length, take, drop, length-append, length-drop, drop-of-length-le}
 use lib.Seq.{take-all, drop-drop, drop-cons}
-use borrow.Author.Tests.{lt-ltb, le-ltb, lt-leb, le-leb, eq-eqb, ne-eqb, not-false}
+use borrow.Author.Tests.{lt-ltb, le-ltb, lt-leb, le-leb, eq-eqb, ne-eqb}
 use Rattle.answer.specs.Stop.{stop}
 use Rattle.answer.specs.declared.Refusal.{Refusal}
 use Rattle.answer.specs.declared.Refusal.the-variants.{Room, Form, Leftover}
@@ -20,8 +20,8 @@ use Rattle.book.specs.declared.Book.{Book}
 use Rattle.groups.specs.Groups.{readGroups}
 use Rattle.groups.specs.declared.Read.{Read}
 use Rattle.groups.specs.declared.Read.the-variants as reading
-use Rattle.kept.specs.Kept.{Said, said, refused, behind, number, whole, not-kept, answerOf, leftBy, readKept, fits, withArea, readAreas, readCount, readAiou, readHead}
-use Rattle.kept.specs.RoundTrip.{passed}
+use Rattle.kept.specs.Kept.{Said, said, refused, number, whole, not-kept, answerOf, leftBy, readKept, fits, withArea, readAreas, readCount, readAiou, readHead}
+use Rattle.kept.specs.ReadLaws.{head-sound}
 use Rattle.kept.specs.Walk.{nextBy, nextOf, HeadIs, Areas, EndIs, storedBy, isSaid, step-on, step-off, step-form, step-past, read-le, next-le}
 use Rattle.kept.specs.declared.Next.{Next}
 use Rattle.kept.specs.declared.Next.the-variants as next
@@ -100,33 +100,6 @@ module _ (s : List ℕ) (v : Next) (e : v ≡ nextOf s 0) where
     pub head-on : x ≡ 1 → (r : Head) → HeadIs s (readAiou (drop end s)) r → HeadIs s (readHead s) r
     unfolding readHead
     head-on k r = subst (λ o. HeadIs s o r) (sym (step-past s 0 v e (λ f. not (eqb f 1)) (λ f s. readAiou s) x end q (ap not (eq-eqb x 1 k))))
-
--- a head that is read is sound
-count-head : (aiou : ℕ) (s : List ℕ) (book : Book) (rest : List ℕ) → readCount aiou s ≡ said book rest → headSound book ≡ true
-unfolding readCount
-count-head aiou s book rest = go (readGroups s)
-  where
-    go : (r : Read) → behind r s (λ count s. stop (not (headSound (bookOf aiou count))) (refused Form) (said (bookOf aiou count) s)) ≡ said book rest → headSound book ≡ true
-    go (reading.Refused r) e = let w : _≡_ {A = ℕ} 0 1 = cc in absurd (omega arith)
-    go (reading.Number x n) e =
-        let t = passed (not (headSound (bookOf aiou x))) Form (said (bookOf aiou x) (drop n s)) book rest e in
-        let z : bookOf aiou x ≡ book = said-value (t .1) in
-        ap headSound (sym z) ∙ not-false (headSound (bookOf aiou x)) (t .0)
-      where
-        said-value : {a b : Book} {u v : List ℕ} → _≡_ {A = Said Book} (said a u) (said b v) → a ≡ b
-        said-value q = cc
-
-head-sound : (s : List ℕ) (book : Book) (rest : List ℕ) → readHead s ≡ said book rest → headSound book ≡ true
-unfolding readHead readAiou
-head-sound s book rest = go (readGroups s)
-  where
-    aiou : (s : List ℕ) (r : Read) → behind r s (λ aiou s. stop (ltb 16 aiou) (refused Form) (readCount aiou s)) ≡ said book rest → headSound book ≡ true
-    aiou s (reading.Refused r) e = let w : _≡_ {A = ℕ} 0 1 = cc in absurd (omega arith)
-    aiou s (reading.Number x n) e = count-head x (drop n s) book rest (passed (ltb 16 x) Form (readCount x (drop n s)) book rest e .1)
-
-    go : (r : Read) → behind r s (λ f s. stop (not (eqb f 1)) (refused Form) (readAiou s)) ≡ said book rest → headSound book ≡ true
-    go (reading.Refused r) e = let w : _≡_ {A = ℕ} 0 1 = cc in absurd (omega arith)
-    go (reading.Number x n) e = aiou (drop n s) (readGroups (drop n s)) (passed (not (eqb x 1)) Form (readAiou (drop n s)) book rest e .1)
 
 -- ---- an area
 

@@ -1,5 +1,10 @@
 pub mod Kept
+pub mod Ends
 pub mod Walk
 pub mod RoundTrip
+pub mod ReadLaws
+pub mod EndsLaws
+pub mod FormLaws
+pub mod Theorems
 pub mod Determined
 pub mod Examples

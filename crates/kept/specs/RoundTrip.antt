@@ -4,7 +4,7 @@ use mathlib.Core.Bool.{Bool, true, false, not, _&&_}
 use mathlib.Core.List.{List, [], _∷_, _++_, append-assoc, append-nil}
 use Prim.Native.Nat.{ℕ, zero, suc, _+_, _-_, _^_, _≤_, _<_}
 use native.Mathlib.Omega.{arith}
-use lib.Dec.{leb, ltb, eqb}
+use lib.Dec.{ltb, eqb}
 use lib.ListN.{length, drop}
 use lib.Seq.{drop-append-seam}
 use borrow.Author.Tests.{le-leb, le-ltb, not-false, eqb-true}
@@ -13,7 +13,8 @@ use Rattle.answer.specs.declared.Refusal.{Refusal}
 use Rattle.answer.specs.declared.Refusal.the-variants.{Room, Form}
 use Rattle.bits.specs.Bits.{Bytes}
 use Rattle.bits.specs.Laws.{bytes-drop}
-use Rattle.area.specs.Area.{sf031}
+use Rattle.area.specs.Area.{sf031, isArea}
+use Rattle.area.specs.Laws.{area-lt}
 use Rattle.sizes.specs.Sizes.{bookBytes}
 use Rattle.book.specs.Book.{bookOf, areasIn, headSound, sound}
 use Rattle.book.specs.Laws.{Ascending, Areas, Sound, head-parts, sound-head, sound-lists, length-areas}
@@ -26,45 +27,63 @@ use Rattle.kept.specs.Kept.{form, keptOf, keptBytes, Said, said, refused
 
 -- ---- written and read
 
-number-said : {A : Type 0} (x : ℕ) (t : List ℕ) (k : ℕ → List ℕ → Said A) → x < 2 ^ 64 → number (groupsOf x ++ t) k ≡ k x t
+pub number-said : {A : Type 0} (x : ℕ) (t : List ℕ) (k : ℕ → List ℕ → Said A) → x < 2 ^ 64 → number (groupsOf x ++ t) k ≡ k x t
 number-said x t k h =
     ap (λ r. behind r (groupsOf x ++ t) k) (read-written t x h) ∙ ap (k x) (drop-append-seam (groupsOf x) t)
 
 -- IDs are below 256, so that many areas leave room below
-ids-left : (l : List ℕ) (least : ℕ) → least ≤ 256 → Ascending least l → least + length l ≤ 256
+pub ids-left : (l : List ℕ) (least : ℕ) → least ≤ 256 → Ascending least l → least + length l ≤ 256
 ids-left [] least h p = omega arith
 ids-left (a ∷ l) least h (Ascending.more k s p) = omega (arith, ids-left l (suc (sf031 a)) (omega arith) p)
 
-areas-read : (l t : List ℕ) (least : ℕ) → Ascending least l → Areas l → readAreas (length l) least (groupsOfAll l ++ t) ≡ said l t
+pub fits-if : (n least a : ℕ) → least ≤ sf031 a → suc (sf031 a) + n ≤ 256 → isArea a ≡ true → fits n least a ≡ true
+fits-if n least a k h g = ap₂ (λ x y. x && y) (le-leb least (sf031 a) k) (ap₂ (λ x y. x && y) (le-leb (sf031 a + n) 255 (omega arith)) g)
+
+-- an area that fits is read, and then the others
+pub area-read : (n least a : ℕ) (t : List ℕ) → least ≤ sf031 a → suc (sf031 a) + n ≤ 256 → isArea a ≡ true → readAreas (suc n) least (groupsOf a ++ t) ≡ withArea a (readAreas n (suc (sf031 a)) t)
+unfolding readAreas
+area-read n least a t k h g =
+    let next : ℕ → List ℕ → Said (List ℕ) = λ a rest. stop (not (fits n least a)) (refused Form) (withArea a (readAreas n (suc (sf031 a)) rest)) in
+    let good : fits n least a ≡ true = fits-if n least a k h g in
+    number-said a t next (omega (arith, area-lt a g)) ∙ ap (λ b. stop (not b) (refused Form) (withArea a (readAreas n (suc (sf031 a)) t))) good
+
+pub areas-read : (l t : List ℕ) (least : ℕ) → Ascending least l → Areas l → readAreas (length l) least (groupsOfAll l ++ t) ≡ said l t
 unfolding readAreas groupsOfAll
 areas-read [] t least p q = refl
 areas-read (a ∷ l) t least (Ascending.more k s p) (Areas.more g q) =
-    let next : ℕ → List ℕ → Said (List ℕ) = λ a rest. stop (not (fits (length l) least a)) (refused Form) (withArea a (readAreas (length l) (suc (sf031 a)) rest)) in
-    let low : leb least (sf031 a) ≡ true = le-leb _ _ k in
-    let high : leb (sf031 a + length l) 255 ≡ true = le-leb (sf031 a + length l) 255 (omega (arith, ids-left l (suc (sf031 a)) (omega arith) p)) in
-    let good : fits (length l) least a ≡ true = ap₂ (λ x y. x && y) low (ap₂ (λ x y. x && y) high g) in
-    ap (λ s. number s next) (append-assoc (groupsOf a) (groupsOfAll l) t)
-    ∙ number-said a (groupsOfAll l ++ t) next (omega arith)
-    ∙ ap (λ b. stop (not b) (refused Form) (withArea a (readAreas (length l) (suc (sf031 a)) (groupsOfAll l ++ t)))) good
+    ap (readAreas (suc (length l)) least) (append-assoc (groupsOf a) (groupsOfAll l) t)
+    ∙ area-read (length l) least a (groupsOfAll l ++ t) k (ids-left l (suc (sf031 a)) (omega arith) p) g
     ∙ ap (withArea a) (areas-read l t (suc (sf031 a)) p q)
+
+-- the head, number by number
+pub form-read : (t : List ℕ) → readHead (groupsOf form ++ t) ≡ readAiou t
+unfolding readHead
+form-read t = number-said form t (λ f s. stop (not (eqb f form)) (refused Form) (readAiou s)) (omega arith)
+
+pub aiou-read : (aiou : ℕ) (t : List ℕ) → aiou ≤ 16 → readAiou (groupsOf aiou ++ t) ≡ readCount aiou t
+unfolding readAiou
+aiou-read aiou t h =
+    let y : ltb 16 aiou ≡ false = le-ltb 16 aiou h in
+    number-said aiou t (λ aiou s. stop (ltb 16 aiou) (refused Form) (readCount aiou s)) (omega arith) ∙ ap (λ b. stop b (refused Form) (readCount aiou t)) y
+
+pub count-read : (book : Book) (t : List ℕ) → headSound book ≡ true → readCount (book .«aiou_plus_one») (groupsOf (book .count) ++ t) ≡ said book t
+unfolding readCount
+count-read book t e =
+    let next : ℕ → List ℕ → Said Book
+    = λ count s. stop (not (headSound (bookOf (book .«aiou_plus_one») count))) (refused Form) (said (bookOf (book .«aiou_plus_one») count) s) in
+    number-said (book .count) t next (omega (arith, head-parts book e)) ∙ ap (λ b. stop (not b) (refused Form) (said book t)) e
 
 -- What is written reads back as that book: a sound head, and so many areas, ascending.
 pub written-reads : (book : Book) (l bytes : List ℕ) → bookBytes ≤ length bytes → headSound book ≡ true → length l ≡ book .count → Ascending 0 l → Areas l
     → readKept (keptOf book l) bytes ≡ kept book l
-unfolding readKept readHead readAiou readCount keptOf groupsOfAll
+unfolding readKept keptOf groupsOfAll
 written-reads book l bytes h e n p q =
-    let parts = head-parts book e in
     let t : List ℕ = groupsOfAll l in
-    let three : ℕ → List ℕ → Said Book
-    = λ count s. stop (not (headSound (bookOf (book .«aiou_plus_one») count))) (refused Form) (said (bookOf (book .«aiou_plus_one») count) s) in
     let z : ltb (length bytes) bookBytes ≡ false = le-ltb _ _ h in
-    let y : ltb 16 (book .«aiou_plus_one») ≡ false = le-ltb 16 (book .«aiou_plus_one») (parts .0) in
-    let head : readHead (groupsOf 1 ++ (groupsOf (book .«aiou_plus_one») ++ (groupsOf (book .count) ++ t))) ≡ said book t
-    = number-said 1 (groupsOf (book .«aiou_plus_one») ++ (groupsOf (book .count) ++ t)) (λ f s. stop (not (eqb f form)) (refused Form) (readAiou s)) (omega arith)
-    ∙ number-said (book .«aiou_plus_one») (groupsOf (book .count) ++ t) (λ aiou s. stop (ltb 16 aiou) (refused Form) (readCount aiou s)) (omega arith)
-    ∙ ap (λ b. stop b (refused Form) (readCount (book .«aiou_plus_one») (groupsOf (book .count) ++ t))) y
-    ∙ number-said (book .count) t three (omega arith)
-    ∙ ap (λ b. stop (not b) (refused Form) (said book t)) e in
+    let head : readHead (groupsOf form ++ (groupsOf (book .«aiou_plus_one») ++ (groupsOf (book .count) ++ t))) ≡ said book t
+    = form-read (groupsOf (book .«aiou_plus_one») ++ (groupsOf (book .count) ++ t))
+    ∙ aiou-read (book .«aiou_plus_one») (groupsOf (book .count) ++ t) (head-parts book e .0)
+    ∙ count-read book t e in
     let areas : readAreas (book .count) 0 t ≡ said l []
     = ap₂ (λ n t. readAreas n 0 t) (sym n) (sym (append-nil t)) ∙ areas-read l [] 0 p q in
     rw z (ap behindHead head ∙ ap (whole book) areas)
@@ -98,7 +117,7 @@ pub passed : {A : Type 0} (b : Bool) (r : Refusal) (o : Said A) (v : A) (rest : 
 passed true r o v rest e = let w : _≡_ {A = ℕ} 0 1 = cc in absurd (omega arith)
 passed false r o v rest e = (refl, e)
 
-areas-written : (n least : ℕ) (s l rest : List ℕ) → Bytes s → readAreas n least s ≡ said l rest → s ≡ groupsOfAll l ++ rest
+pub areas-written : (n least : ℕ) (s l rest : List ℕ) → Bytes s → readAreas n least s ≡ said l rest → s ≡ groupsOfAll l ++ rest
 unfolding readAreas groupsOfAll
 areas-written zero least s l rest b e =
     let x : [] ≡ l = cc in
@@ -134,9 +153,23 @@ count-written aiou s book rest b e =
         let er : t ≡ rest = cc in
         (is ∙ ap₂ (λ n t. groupsOf n ++ t) (ap (λ (b : Book). b .count) eb) er, ap (λ (b : Book). b .«aiou_plus_one») eb, subst (λ t. Bytes t) er bt)
 
+-- the bytes begin with the head that was read
+pub head-written : (s : List ℕ) (book : Book) (rest : List ℕ) → Bytes s → readHead s ≡ said book rest
+    → (s ≡ groupsOf form ++ (groupsOf (book .«aiou_plus_one») ++ (groupsOf (book .count) ++ rest))) × Bytes rest
+unfolding readHead readAiou
+head-written s book rest b p =
+    let g₁ : Begins s (λ f s. stop (not (eqb f form)) (refused Form) (readAiou s)) book rest = begins s (λ f s. stop (not (eqb f form)) (refused Form) (readAiou s)) book rest b p in
+    let w₁ = passed (not (eqb (g₁ .x) 1)) Form (readAiou (g₁ .behind-it)) book rest (g₁ .reads) in
+    let one : g₁ .x ≡ 1 = eqb-true (g₁ .x) 1 (not-false (eqb (g₁ .x) 1) (w₁ .0)) in
+    let g₂ : Begins (g₁ .behind-it) (λ aiou s. stop (ltb 16 aiou) (refused Form) (readCount aiou s)) book rest
+    = begins (g₁ .behind-it) (λ aiou s. stop (ltb 16 aiou) (refused Form) (readCount aiou s)) book rest (g₁ .bytes) (w₁ .1) in
+    let w₂ = passed (ltb 16 (g₂ .x)) Form (readCount (g₂ .x) (g₂ .behind-it)) book rest (g₂ .reads) in
+    let c = count-written (g₂ .x) (g₂ .behind-it) book rest (g₂ .bytes) (w₂ .1) in
+    (g₁ .is ∙ ap₂ (λ x u. groupsOf x ++ u) one (g₂ .is ∙ ap₂ (λ a u. groupsOf a ++ u) (c .1) (c .0)), c .2)
+
 -- What reads is, written again, the same bytes.
 pub read-writes : (s bytes : List ℕ) (book : Book) (l : List ℕ) → Bytes s → readKept s bytes ≡ kept book l → keptOf book l ≡ s
-unfolding readKept readHead readAiou keptOf groupsOfAll
+unfolding readKept keptOf groupsOfAll
 read-writes s bytes book l b e = room (ltb (length bytes) bookBytes) e
   where
     areas : (n : ℕ) (t : List ℕ) (o : Said (List ℕ)) → readAreas n 0 t ≡ o → Bytes t → (bk : Book) → whole bk o ≡ kept book l → (bk ≡ book) × (t ≡ groupsOfAll l)
@@ -150,16 +183,9 @@ read-writes s bytes book l b e = room (ltb (length bytes) bookBytes) e
     found : (o : Said Book) → readHead s ≡ o → behindHead o ≡ kept book l → groupsOf 1 ++ (groupsOf (book .«aiou_plus_one») ++ (groupsOf (book .count) ++ groupsOfAll l)) ≡ s
     found (refused r) p q = let w : _≡_ {A = ℕ} 0 1 = cc in absurd (omega arith)
     found (said bk t) p q =
-        let g₁ : Begins s (λ f s. stop (not (eqb f form)) (refused Form) (readAiou s)) bk t = begins s (λ f s. stop (not (eqb f form)) (refused Form) (readAiou s)) bk t b p in
-        let w₁ = passed (not (eqb (g₁ .x) 1)) Form (readAiou (g₁ .behind-it)) bk t (g₁ .reads) in
-        let one : g₁ .x ≡ 1 = eqb-true (g₁ .x) 1 (not-false (eqb (g₁ .x) 1) (w₁ .0)) in
-        let g₂ : Begins (g₁ .behind-it) (λ aiou s. stop (ltb 16 aiou) (refused Form) (readCount aiou s)) bk t
-        = begins (g₁ .behind-it) (λ aiou s. stop (ltb 16 aiou) (refused Form) (readCount aiou s)) bk t (g₁ .bytes) (w₁ .1) in
-        let w₂ = passed (ltb 16 (g₂ .x)) Form (readCount (g₂ .x) (g₂ .behind-it)) bk t (g₂ .reads) in
-        let c = count-written (g₂ .x) (g₂ .behind-it) bk t (g₂ .bytes) (w₂ .1) in
-        let f = areas (bk .count) t (readAreas (bk .count) 0 t) refl (c .2) bk q in
-        sym (g₁ .is ∙ ap₂ (λ x u. groupsOf x ++ u) one (g₂ .is ∙ ap₂ (λ a u. groupsOf a ++ u) (c .1 ∙ ap (λ (b : Book). b .«aiou_plus_one») (f .0))
-        (c .0 ∙ ap₂ (λ n u. groupsOf n ++ u) (ap (λ (b : Book). b .count) (f .0)) (f .1))))
+        let h = head-written s bk t b p in
+        let f = areas (bk .count) t (readAreas (bk .count) 0 t) refl (h .1) bk q in
+        sym (h .0 ∙ ap₂ (λ (b : Book) (u : List ℕ). groupsOf form ++ (groupsOf (b .«aiou_plus_one») ++ (groupsOf (b .count) ++ u))) (f .0) (f .1))
 
     room : (z : Bool) → stop z (not-kept Room) (behindHead (readHead s)) ≡ kept book l
         → groupsOf 1 ++ (groupsOf (book .«aiou_plus_one») ++ (groupsOf (book .count) ++ groupsOfAll l)) ≡ s
