@@ -1,23 +1,37 @@
--- Two results of a public call cannot differ: what meets the contract twice is equal.
-use mathlib.Core.Path.{_≡_, sym, _∙_}
-use mathlib.Core.List.{List}
+-- Two results of a public call of this crate cannot differ: for equal inputs, answers and lent buffers that meet the contract are equal. Proved.
+-- Written by tests/determined from the contracts in src/.
 use Prim.Native.Nat.{ℕ}
-use Rattle.stream.specs.declared.Tray.{Tray}
-use Rattle.stream.specs.declared.Said.{Said}
+use Rattle.stream.specs.Tray.{callAnswer, callBytes, finishAnswer, finishBytes, freshTray, numberOfSaid}
 use Rattle.stream.specs.declared.Answer.{Answer}
-use Rattle.stream.specs.Tray.{freshTray, numberOfSaid, callAnswer, callBytes, finishAnswer, finishBytes}
+use Rattle.stream.specs.declared.Said.{Said}
+use Rattle.stream.specs.declared.Tray.{Tray}
+use mathlib.Core.List.{List}
+use mathlib.Core.Path.{_∙_, _≡_, sym}
 
-pub fresh-determined : (t t′ : Tray) → t ≡ freshTray → t′ ≡ freshTray → t ≡ t′
-fresh-determined t t′ p q = p ∙ sym q
+pub fresh-determined : (r₁ r₂ : Tray)
+    → r₁ ≡ freshTray
+    → r₂ ≡ freshTray
+    → r₁ ≡ r₂
+fresh-determined r₁ r₂ e0₁ e0₂ = e0₁ ∙ sym e0₂
 
-pub number-determined : (said : Said) (r r′ : ℕ) → r ≡ numberOfSaid said → r′ ≡ numberOfSaid said → r ≡ r′
-number-determined said r r′ p q = p ∙ sym q
+pub call-determined : (bytes : List ℕ) (tray : Tray) (input : List ℕ) (r₁ r₂ : Answer) (bytes₁ bytes₂ : List ℕ)
+    → r₁ ≡ callAnswer bytes tray input
+    → r₂ ≡ callAnswer bytes tray input
+    → bytes₁ ≡ callBytes bytes tray input
+    → bytes₂ ≡ callBytes bytes tray input
+    → (r₁ ≡ r₂) × (bytes₁ ≡ bytes₂)
+call-determined bytes tray input r₁ r₂ bytes₁ bytes₂ e0₁ e0₂ e1₁ e1₂ = (e0₁ ∙ sym e0₂, e1₁ ∙ sym e1₂)
 
-pub call-determined : (bytes : List ℕ) (tray : Tray) (input : List ℕ) (r r′ : Answer) (b b′ : List ℕ)
-    → r ≡ callAnswer bytes tray input → b ≡ callBytes bytes tray input → r′ ≡ callAnswer bytes tray input → b′ ≡ callBytes bytes tray input
-    → (r ≡ r′) × (b ≡ b′)
-call-determined bytes tray input r r′ b b′ p q p′ q′ = (p ∙ sym p′, q ∙ sym q′)
+pub finish-determined : (bytes : List ℕ) (tray : Tray) (r₁ r₂ : Answer) (bytes₁ bytes₂ : List ℕ)
+    → r₁ ≡ finishAnswer bytes tray
+    → r₂ ≡ finishAnswer bytes tray
+    → bytes₁ ≡ finishBytes bytes tray
+    → bytes₂ ≡ finishBytes bytes tray
+    → (r₁ ≡ r₂) × (bytes₁ ≡ bytes₂)
+finish-determined bytes tray r₁ r₂ bytes₁ bytes₂ e0₁ e0₂ e1₁ e1₂ = (e0₁ ∙ sym e0₂, e1₁ ∙ sym e1₂)
 
-pub finish-determined : (bytes : List ℕ) (tray : Tray) (r r′ : Answer) (b b′ : List ℕ)
-    → r ≡ finishAnswer bytes tray → b ≡ finishBytes bytes tray → r′ ≡ finishAnswer bytes tray → b′ ≡ finishBytes bytes tray → (r ≡ r′) × (b ≡ b′)
-finish-determined bytes tray r r′ b b′ p q p′ q′ = (p ∙ sym p′, q ∙ sym q′)
+pub number-determined : (said : Said) (r₁ r₂ : ℕ)
+    → r₁ ≡ numberOfSaid said
+    → r₂ ≡ numberOfSaid said
+    → r₁ ≡ r₂
+number-determined said r₁ r₂ e0₁ e0₂ = e0₁ ∙ sym e0₂

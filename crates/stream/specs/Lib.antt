@@ -1,9 +1,11 @@
 pub mod Scan
+pub mod Account
 pub mod Tray
 pub mod Driver
 pub mod Theorems
 pub mod Determined
 pub mod Check
+pub mod Counted
 pub mod Machine
 pub mod Ahead
 pub mod Kept
