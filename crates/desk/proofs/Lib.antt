@@ -1,5 +1,4 @@
 pub mod State
-pub mod Carrying
 pub mod Tests
 pub mod Books
 pub mod Runs

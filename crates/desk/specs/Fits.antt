@@ -1,5 +1,5 @@
 -- Laws: what a verdict on a frame can be, given the desk. Proved; assumes nothing.
-use mathlib.Core.Path.{_≡_, refl}
+use mathlib.Core.Path.{_≡_, refl, ap, sym, _∙_}
 use mathlib.Core.Bool.{Bool, true, false, cond, not, _&&_, _||_}
 use mathlib.Core.List.{List}
 use Prim.Native.Nat.{ℕ, _≤_, _<_}
@@ -51,7 +51,29 @@ module _ (desk : Desk) (live run : List ℕ) (e : deskSound desk live run ≡ tr
   pub sound-run : runSound (desk .run) run ≡ true
   sound-run = both-right (sound (desk .book) live) (runSound (desk .run) run) books
 
+  -- and of its open run
+  pub sound-open : (tag : ℕ) (book : Book) → desk .run ≡ Open tag book → sound book run ≡ true
+  sound-open tag book o = both-right (ltb tag tags) (sound book run) (sym (ap (λ r. runSound r run) o) ∙ sound-run)
+
 -- ---- a frame is taken only by a sound desk with room
+
+-- no lent buffer is short
+pub record Room (live run log : List ℕ) : Type 0 where
+  pub live-room : bookBytes ≤ length live
+  pub run-room : bookBytes ≤ length run
+  pub log-room : logRoom ≤ length log
+
+pub has-room : (live run log : List ℕ) → noRoom live run log ≡ false → Room live run log
+unfolding noRoom
+has-room live run log e = go (ltb (length live) bookBytes) (ltb (length run) bookBytes) (ltb (length log) logRoom) refl refl refl e
+  where
+    go : (a b c : Bool) → ltb (length live) bookBytes ≡ a → ltb (length run) bookBytes ≡ b
+        → ltb (length log) logRoom ≡ c
+        → (a || (b || c)) ≡ false → Room live run log
+    go false false false p q r e = record { live-room = ltb-false _ _ p; run-room = ltb-false _ _ q; log-room = ltb-false _ _ r }
+    go true b c p q r e = let z : _≡_ {A = ℕ} 0 1 = cc in absurd (omega arith)
+    go false true c p q r e = let z : _≡_ {A = ℕ} 0 1 = cc in absurd (omega arith)
+    go false false true p q r e = let z : _≡_ {A = ℕ} 0 1 = cc in absurd (omega arith)
 
 pub record Ready (desk : Desk) (live run : List ℕ) : Type 0 where
   pub state : deskSound desk live run ≡ true
@@ -108,22 +130,13 @@ module _ (desk : Desk) (live run : List ℕ) where
   fits-frame ready frame (check.Short wanted) = not-taken
   fits-frame ready frame (check.Refused why) = not-taken
 
-  room-run : (log : List ℕ) → noRoom live run log ≡ false → bookBytes ≤ length run
-  unfolding noRoom
-  room-run log e = go (ltb (length live) bookBytes) (ltb (length run) bookBytes) refl (ltb (length log) logRoom) e
-    where
-      go : (a b : Bool) → ltb (length run) bookBytes ≡ b → (c : Bool) → (a || (b || c)) ≡ false → bookBytes ≤ length run
-      go false false q c e = ltb-false (length run) bookBytes q
-      go true b q c e = let z : _≡_ {A = ℕ} 0 1 = cc in absurd (omega arith)
-      go false true q c e = let z : _≡_ {A = ℕ} 0 1 = cc in absurd (omega arith)
-
   pub fits : (frame log : List ℕ) → Fits desk live run (verdict (hands desk frame live run log))
   unfolding verdict
   fits frame log =
       let rest : Verdict = byFrame desk live (checked frame) frame in
       fits-stop (noRoom live run log) refusal.Room (stop (not (deskSound desk live run)) (refused refusal.State) rest) (λ r.
       fits-stop (not (deskSound desk live run)) refusal.State rest (λ s.
-      fits-frame (record { state = not-false (deskSound desk live run) s; room = room-run log r }) frame (checked frame)))
+      fits-frame (record { state = not-false (deskSound desk live run) s; room = has-room live run log r .run-room }) frame (checked frame)))
 
   -- and a kept book that is taken is sound where it is copied to
   fits-book-in : Ready desk live run → (book : Book) (bytes : List ℕ) → sound book bytes ≡ true → Fits desk live run (defines book (copied book bytes live))

@@ -1,10 +1,17 @@
 -- Definitions to believe: a desk that is given frames and kept books one after the other, and the live book as it was when the open run was opened.
+use mathlib.Core.Path.{_≡_}
+use mathlib.Core.Bool.{Bool, true, false}
 use mathlib.Core.List.{List, [], _∷_, _++_}
 use Prim.Native.Nat.{ℕ}
+use Rattle.area.specs.declared.AreaId.{AreaId}
+use Rattle.book.specs.Book.{found}
 use Rattle.book.specs.declared.Book.{Book}
 use Rattle.log.specs.Log.{opened, logOf}
+use Rattle.desk.specs.Desk.{deskSound}
 use Rattle.desk.specs.Take.{Verdict, refused, defines, continues, opens, hands, verdict, handsBook, bookVerdict, deskBy, liveBy, runBytesBy, entriesBy}
 use Rattle.desk.specs.declared.Desk.{Desk}
+use Rattle.desk.specs.declared.Run.{Run}
+use Rattle.desk.specs.declared.Run.the-variants.{Closed, Open}
 
 -- what a desk has between two frames: its state, and the bytes of the live book and of the run's
 pub record Held : Type 0 where
@@ -23,6 +30,10 @@ verdictOn held (keptBook book bytes) = bookVerdict (handsBook (held .desk) book 
 
 abbrev pub heldBy : Held → Verdict → Held
 heldBy held v = record { desk = deskBy (held .desk) v; live = liveBy (held .live) v; run = runBytesBy (held .desk) (held .live) (held .run) v }
+
+-- a sound desk with its two books
+abbrev pub heldSound : Held → Bool
+heldSound held = deskSound (held .desk) (held .live) (held .run)
 
 -- the numbers that are added to the run log
 abbrev pub entriesOf : Held → Verdict → List ℕ
@@ -62,3 +73,22 @@ toldBy opening (refused why) = []
 toldBy opening (defines book bytes) = []
 toldBy opening (continues book message) = logOf (opening .book) (opening .bytes) message
 toldBy opening (opens tag message) = opened tag (opening .book) ++ logOf (opening .book) (opening .bytes) message
+
+-- the run's book, if a run is open, is the live book as it was when the run was opened: under each ID the same six bytes
+pub data Kept (run : List ℕ) (opening : Snapshot) : Run → Type 0 where
+  closed : Kept run opening Closed
+  kept : {tag : ℕ} {book : Book} → book ≡ opening .book → ((id : AreaId) → found book run id ≡ found book (opening .bytes) id) → Kept run opening (Open tag book)
+
+abbrev pub KeptOn : Course → Type 0
+KeptOn course = Kept (course .held .run) (course .opening) (course .held .desk .run)
+
+-- none of what is given opens a run
+abbrev pub isOpening : Verdict → Bool
+isOpening (refused why) = false
+isOpening (defines book bytes) = false
+isOpening (continues book message) = false
+isOpening (opens tag message) = true
+
+pub data NoneOpens : Course → List Given → Type 0 where
+  none : {course : Course} → NoneOpens course []
+  more : {course : Course} {given : Given} {rest : List Given} → isOpening (verdictOn (course .held) given) ≡ false → NoneOpens (onward course given) rest → NoneOpens course (given ∷ rest)

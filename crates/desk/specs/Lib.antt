@@ -1,9 +1,13 @@
 pub mod Desk
 pub mod Take
+pub mod Answers
 pub mod Lookup
 pub mod Steps
+pub mod Carrying
+pub mod Payloads
 pub mod Copied
 pub mod Fits
+pub mod Answering
 pub mod History
 pub mod Continues
 pub mod Theorems

@@ -1,11 +1,12 @@
 -- Definitions to believe: looking an area up (document 01, "Book and run").
 use mathlib.Core.Bool.{cond, not, _||_}
+use mathlib.Core.Path.{_≡_}
 use mathlib.Core.List.{List, []}
 use Prim.Native.Nat.{ℕ, _*_}
-use denote.Ref.{RefT}
+use denote.Ref.{RefT, ptr}
 use lib.Dec.{ltb}
 use lib.ListN.{length, take, drop}
-use Rattle.bits.specs.Part.{PartOf}
+use Rattle.bits.specs.Part.{PartOf, part-determined}
 use Rattle.area.specs.declared.AreaId.{AreaId}
 use Rattle.sizes.specs.Sizes.{bookBytes}
 use Rattle.book.specs.Book.{isHeld, placeOf}
@@ -47,3 +48,10 @@ pub data Lies {X : Type 0} (r live run : RefT X) : Spot → Type 0 where
   live-part : {at : ℕ} → PartOf r live at → Lies r live run (inLive at)
   run-part : {at : ℕ} → PartOf r run at → Lies r live run (inRun at)
   empty-part : PartOf r live 0 → Lies r live run nowhere
+
+-- two parts that lie there start at the same byte of the same book; proved
+pub spot-determined : {X : Type 0} {r r′ live run : RefT X} {spot : Spot} → Lies r live run spot → Lies r′ live run spot
+    → (ptr r .0 ≡ ptr r′ .0) × (ptr r .1 ≡ ptr r′ .1)
+spot-determined (live-part p) (live-part q) = part-determined p q
+spot-determined (run-part p) (run-part q) = part-determined p q
+spot-determined (empty-part p) (empty-part q) = part-determined p q

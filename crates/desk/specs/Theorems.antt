@@ -1,7 +1,8 @@
 -- Theorems on the desk. A sound desk stays sound. Which definition placed this residual: that of the live book as it was when its run was opened, whatever GAD came
--- since; so two definitions never mix in one run. A GAD changes no later entry of the open run. Proved; assumes nothing.
+-- since; so two definitions never mix in one run. A GAD changes no later entry of the open run. A log always has
+-- room, and no frame is refused by UNKNOWN_TYPE. Proved; assumes nothing.
 use mathlib.Core.Path.{_≡_, refl, ap, ap₂, sym, _∙_, subst}
-use mathlib.Core.Bool.{Bool, true, false, cond, _&&_}
+use mathlib.Core.Bool.{Bool, true, false, cond, _&&_, true≢false}
 use mathlib.Core.List.{List, [], _∷_, _++_}
 use Prim.Native.Nat.{ℕ, _*_, _≤_}
 use native.Mathlib.Omega.{arith}
@@ -10,31 +11,31 @@ use lib.ListN.{length, take, drop}
 use borrow.Author.Tests.{lt-ltb, le-leb, le-ltb}
 use Rattle.area.specs.declared.AreaId.{AreaId}
 use Rattle.hpac.specs.Hpac.{Area, Hpac}
-use Rattle.sizes.specs.Sizes.{tags, bookBytes}
+use Rattle.sizes.specs.Sizes.{tags, bookBytes, logRoom}
 use Rattle.book.specs.Book.{noBook, headSound, areasSound, sound, isHeld, placeOf, found}
 use Rattle.book.specs.Laws.{sound-room}
 use Rattle.book.specs.declared.Book.{Book}
 use Rattle.log.specs.Log.{joined, opened, areaId, bitsFor, reasonFor, reasonOf, troposphereSaid, ionosphereSaid, entryOf, logOf}
-use Rattle.answer.specs.declared.Refusal.the-variants.{Field}
+use Rattle.answer.specs.declared.Refusal.{Refusal}
+use Rattle.answer.specs.declared.Refusal.the-variants.{Field, UnknownType}
 use Rattle.message.specs.Messages.{constellationFor}
 use Rattle.message.specs.declared.Subtype.{Subtype}
 use Rattle.message.specs.declared.Subtype.the-variants as subtype
 use Rattle.desk.specs.Desk.{sourceInRange, madeFor, newDesk, deskSound}
-use Rattle.desk.specs.Take.{Verdict, refused, defines, continues, opens, copied, deskBy}
+use Rattle.desk.specs.Answers.{answers}
+use Rattle.desk.specs.Take.{Handed, Verdict, refused, defines, continues, opens, verdict, copied, deskBy, loggedBy, frameTaken, numberOfSaid}
 use Rattle.desk.specs.Lookup.{inRun, nowhere, spotOf, bytesAt}
 use Rattle.desk.specs.Copied.{copied-sound, copied-found}
 use Rattle.desk.specs.Fits.{sound-source, sound-live, sound-run, Fits, new-areas, same-run, new-run, fits, fits-kept}
-use Rattle.desk.specs.History.{Held, Given, frameWith, keptBook, verdictOn, heldBy, entriesOf, Snapshot, openingBy, Course, onward, along, toldBy}
+use Rattle.desk.specs.History.{Held, Given, frameWith, keptBook, verdictOn, heldBy, heldSound, entriesOf, Snapshot, openingBy, Course, onward, along, toldBy, Kept, closed, kept, KeptOn, isOpening, NoneOpens, none, more}
 use Rattle.desk.specs.Continues.{still-continues}
+use Rattle.desk.specs.Answering.{verdictAnswers, answered, log-kept, number-six}
 use Rattle.desk.specs.declared.Desk.{Desk}
 use Rattle.desk.specs.declared.NewDesk.the-variants.{Made, Refused}
 use Rattle.desk.specs.declared.Run.{Run}
 use Rattle.desk.specs.declared.Run.the-variants.{Closed, Open}
 
 -- ---- a sound desk stays sound
-
-abbrev pub heldSound : Held → Bool
-heldSound held = deskSound (held .desk) (held .live) (held .run)
 
 -- what a verdict can be, on a frame and on a kept book
 pub fits-on : (held : Held) (given : Given) → Fits (held .desk) (held .live) (held .run) (verdictOn held given)
@@ -84,14 +85,6 @@ log-same book s t h message = go (message .areas)
     go : (xs : List Area) → joined (entryOf book s (message .aiou)) xs ≡ joined (entryOf book t (message .aiou)) xs
     go [] = refl
     go (x ∷ xs) = ap₂ (λ a b. a ++ b) (entry-same book s t h (message .aiou) x) (go xs)
-
--- the run's book, if a run is open, is the live book as it was when the run was opened: under each ID the same six bytes
-pub data Kept (run : List ℕ) (opening : Snapshot) : Run → Type 0 where
-  closed : Kept run opening Closed
-  kept : {tag : ℕ} {book : Book} → book ≡ opening .book → ((id : AreaId) → found book run id ≡ found book (opening .bytes) id) → Kept run opening (Open tag book)
-
-abbrev pub KeptOn : Course → Type 0
-KeptOn course = Kept (course .held .run) (course .opening) (course .held .desk .run)
 
 pub stays-kept : (course : Course) (given : Given) → KeptOn course → KeptOn (onward course given)
 stays-kept course given k = go (verdictOn held given) (fits-on held given)
@@ -155,16 +148,6 @@ placed-with opening aiou x e = rw e
 
 -- ---- an area book that is changed between two messages never mixes in one run
 
-abbrev pub isOpening : Verdict → Bool
-isOpening (refused why) = false
-isOpening (defines book bytes) = false
-isOpening (continues book message) = false
-isOpening (opens tag message) = true
-
-pub data NoneOpens : Course → List Given → Type 0 where
-  none : {course : Course} → NoneOpens course []
-  more : {course : Course} {given : Given} {rest : List Given} → isOpening (verdictOn (course .held) given) ≡ false → NoneOpens (onward course given) rest → NoneOpens course (given ∷ rest)
-
 opening-stays : (course : Course) (since : List Given) → NoneOpens course since → along course since .opening ≡ course .opening
 unfolding along
 opening-stays course [] none = refl
@@ -221,3 +204,23 @@ looks-up desk live run tag book e h o id =
     go : (b : Bool) → bytesAt live run (cond b (inRun (6 * placeOf (id .0) (book .count) run)) nowhere) ≡ cond b (take 6 (drop (6 * placeOf (id .0) (book .count) run) run)) []
     go true = refl
     go false = refl
+
+-- ---- what a desk answers to a frame
+
+-- "Log room: 4,096 bytes per frame, always enough": whatever the desk, the frame and the buffers are, what is logged takes no more; so a log keeps its length.
+pub log-room : (handed : Handed) → length (loggedBy (handed .desk) (handed .live) (handed .run) (verdict handed)) ≤ logRoom
+log-room handed = answered handed .room
+
+pub log-length : (handed : Handed) → length (frameTaken handed .log) ≡ length (handed .log)
+log-length handed = log-kept handed
+
+-- A desk refuses a frame only by a refusal of `answers` ..
+pub refusals : (handed : Handed) (why : Refusal) → verdict handed ≡ refused why → answers why ≡ true
+refusals handed why e = subst (λ v. verdictAnswers v ≡ true) e (answered handed .refusal)
+
+-- .. so never by UNKNOWN_TYPE: a type that it does not know is NOT_OURS.
+pub never-unknown-type : (handed : Handed) → verdict handed ≡ refused UnknownType → ⊥
+never-unknown-type handed e = true≢false (sym (refusals handed UnknownType e))
+
+pub never-six : (handed : Handed) → numberOfSaid (frameTaken handed .answer .said) ≡ 6 → ⊥
+never-six handed n = number-six handed n
