@@ -1,6 +1,7 @@
 pub mod Uncut
 pub mod Prepare
 pub mod Driver
+pub mod Lender
 pub mod Steps
 pub mod Stays
 pub mod Driving

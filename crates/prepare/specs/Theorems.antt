@@ -15,18 +15,19 @@ use Rattle.stream.specs.Driver.{Caller, waits}
 use Rattle.stream.specs.Theorems as stream
 use Rattle.desk.specs.Take as desk
 use Rattle.sizes.specs.Sizes.{bookBytes, logRoom}
-use Rattle.desk.specs.History.{Held, Snapshot, heldBy}
+use Rattle.desk.specs.History.{Held, Snapshot, heldBy, KeptOn}
 use Rattle.desk.specs.declared.Desk.{Desk}
 use Rattle.desk.specs.declared.NewDesk.the-variants.{Made}
 use Rattle.desk.specs.Desk.{newDesk}
-use Rattle.desk.specs.Theorems.{new-sound, KeptOn, closed-kept}
+use Rattle.desk.specs.Theorems.{new-sound, closed-kept}
 use Rattle.prepare.specs.Uncut.{Told, verdictOn, toldBy, toldOf, booksAfter, toldAll, booksAll, entriesOf, runLog, uncutTold, uncutLog, uncutBooks}
 use Rattle.prepare.specs.Prepare.{Handed, callOutcome, finishOutcome, answerOf, booksOf, written, booksIn, Result, byCall, byFinish}
 use Rattle.prepare.specs.Driver.{State, Sound, lent, callLeaves, finishLeaves, Feeds, start, Whole}
+use Rattle.prepare.specs.Lender.{Lender, LendsRoom, oneLog, WholeBy}
 use Rattle.prepare.specs.Placed.{placedLog, openingAll}
 use Rattle.prepare.specs.Placing.{placed, still-kept}
 use Rattle.prepare.specs.Stays.{verdict-past, new-closed}
-use Rattle.prepare.specs.Driving.{Ready, feeds-so, feeds-ready, closes-so, so-feeds, so-closes, told-append, books-append, log-append}
+use Rattle.prepare.specs.Driving.{Ready, feeds-so, feeds-ready, closes-so, whole-on, so-feeds, so-closes, feeds-any, any-whole, feeds-before, closes-before, told-append, books-append, log-append}
 
 one : (l : List ℕ) → flatten (l ∷ []) ≡ l
 unfolding flatten
@@ -54,13 +55,19 @@ module _ {bytes : List ℕ} {books : Held} (clear : streaming.Clear bytes) (soun
       = g .books ∙ ap (λ d. booksAll d (g .events)) (f .books) ∙ sym (books-append books (f .events) (g .events)) ∙ ap (booksAll books) (z .0) in
       (t, ap runLog t, λ i. record { bytes = z .2 i; tray = z .1 i; books = d i })
 
-  -- And the calls end, whatever the portions are, and whatever log each call is lent.
-  pub prepared-ends : {c : Caller} (lends : State → List ℕ) → ((s : State) → logRoom ≤ length (lends s)) → (portions : List (List ℕ)) → Whole c bytes books portions
-  prepared-ends lends room portions =
+  -- And the calls end, whatever the portions are, and whatever log each call is lent: what is lent may depend on all that was told before, on the state, and on what the
+  -- last call left of its log.
+  pub prepared-ends : {c : Caller} (lends : Lender) → LendsRoom lends → (log : List ℕ) → logRoom ≤ length log → (portions : List (List ℕ))
+      → WholeBy c lends bytes books log portions
+  prepared-ends lends rooms log room portions =
       let w = stream.stream-ends clear portions in
-      let f = so-feeds lends room (w .feeds) books ready in
-      let g = so-closes lends room (w .closes) (booksAll books (w .before)) (feeds-ready f ready) in
-      record { before = _; between = _; feeds = f; after = _; end = _; closes = g }
+      let f = so-feeds lends rooms (w .feeds) books ready [] log room in
+      let y = feeds-ready (feeds-any lends rooms (f .feeds) room .0) ready in
+      whole-on f (so-closes lends rooms (w .closes) (booksAll books (w .before)) y (f .before₁) (f .left₁) (f .room))
+
+  -- So they do for one log that is lent again and again.
+  pub one-log-ends : {c : Caller} (log : List ℕ) → logRoom ≤ length log → (portions : List (List ℕ)) → WholeBy c oneLog bytes books log portions
+  one-log-ends log room portions = prepared-ends oneLog (λ _ h. h) log room portions
 
   -- Before finish, once the last call has said hungry, what is told and the state, every byte of tray and books included, depend on the joined bytes alone.
   pub cut : {portions portions′ : List (List ℕ)} {ts ts′ : List Told} {s s′ : State}
@@ -91,7 +98,9 @@ module _ {bytes : List ℕ} {books : Held} (clear : streaming.Clear bytes) (soun
   pub prefix-uncut : {c : Caller} {portions : List (List ℕ)} {ts : List Told} {s : State} → Feeds c (start bytes books) portions ts s → (more : List ℕ)
       → (rest : List Told) × (uncutTold books (flatten portions ++ more) ≡ ts ++ rest) × (uncutLog books (flatten portions ++ more) ≡ runLog ts ++ runLog rest)
   prefix-uncut {portions = portions} {ts} f more =
-      let w = prepared-ends (λ _. replicate logRoom 0) (λ _. omega (arith, length-replicate {A = ℕ} logRoom 0)) ((flatten portions ++ more) ∷ []) in
+      let log = replicate {A = ℕ} logRoom 0 in
+      let room : logRoom ≤ length log = omega (arith, length-replicate {A = ℕ} logRoom 0) in
+      let w = any-whole oneLog (λ _ h. h) (one-log-ends log room ((flatten portions ++ more) ∷ [])) room in
       let p = prefix f (w .feeds) more (one (flatten portions ++ more)) in
       let e : uncutTold books (flatten portions ++ more) ≡ ts ++ (p .0 ++ w .after)
       = ap (uncutTold books) (sym (one (flatten portions ++ more))) ∙ sym (prepared w .0) ∙ ap (λ us. us ++ w .after) (p .1) ∙ append-assoc ts (p .0) (w .after) in
@@ -110,6 +119,17 @@ module _ {bytes : List ℕ} {books : Held} (clear : streaming.Clear bytes) (soun
         (still-kept (record { held = books; opening = opening }) sound k (scan (flatten portions))),
   )
 
+-- ---- who lends the logs
+
+module _ {bytes log : List ℕ} {books : Held} {c : Caller} {lends : Lender} {portions : List (List ℕ)} (w : WholeBy c lends bytes books log portions) where
+  -- Whoever lends, such calls are calls of `Driver.antt`: so `prepared` and `in-force` hold of them, and before finish `cut` and `prefix`.
+  pub any-lender : LendsRoom lends → logRoom ≤ length log → Whole c bytes books portions
+  any-lender rooms room = any-whole lends rooms w room
+
+  -- What a lender may look at is all that was told before.
+  pub lender-knows : (w .between .before ≡ w .before) × (w .end .before ≡ w .before ++ w .after)
+  lender-knows = let f = feeds-before (w .feeds) in (f, closes-before (w .closes) ∙ ap (λ ts. ts ++ w .after) f)
+
 -- A sound state stays sound: so it is before finish, whatever the portions were.
 pub stays-sound : {bytes : List ℕ} {books : Held} → streaming.Clear bytes → Sound books → {c : Caller} {portions : List (List ℕ)} {ts : List Told} {s : State}
     → Feeds c (start bytes books) portions ts s → (streaming.Ready (s .bytes) (s .tray)) × Sound (s .books)
@@ -125,7 +145,7 @@ module _ (solution processor constellation : ℕ) (desk : Desk) (e : newDesk sol
 
 -- ---- what these theorems carry from call to call is what the contracts hand back
 
-handed-back : (handed : Handed) (o : Outcome)
+pub handed-back : (handed : Handed) (o : Outcome)
     → booksIn (answerOf handed o .desk) (booksOf handed o .live) (booksOf handed o .run) ≡ booksOf handed o
 handed-back handed (refused why) = refl
 handed-back handed (told event contents used) = refl

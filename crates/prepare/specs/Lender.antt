@@ -1,0 +1,83 @@
+-- Definitions to believe: the calls of Driver.antt, with the one who lends their logs: what a call is lent may depend on all that was told before it, on the state,
+-- and on what the last call left of its log. So one log may be lent again and again.
+use mathlib.Core.Path.{_≡_}
+use mathlib.Core.List.{List, [], _∷_, _++_}
+use Prim.Native.Nat.{ℕ, _≤_}
+use lib.ListN.{length, drop}
+use Rattle.stream.specs.Driver.{Caller, GoesOn}
+use Rattle.sizes.specs.Sizes.{logRoom}
+use Rattle.desk.specs.History.{Held}
+use Rattle.prepare.specs.declared.Said.the-variants as said
+use Rattle.prepare.specs.declared.Answer.{Answer}
+use Rattle.prepare.specs.Uncut.{Told}
+use Rattle.prepare.specs.Driver.{State, callSays, callLeaves, callLogs, finishSays, finishLeaves, finishLogs, Tells, start}
+
+-- between two calls: all that was told so far, the state, and the log as the last call left it
+pub record Point : Type 0 where
+  pub before : List Told
+  pub state : State
+  pub left : List ℕ
+
+abbrev pub point : (before : List Told) → State → (left : List ℕ) → Point
+point before state left = record { before = before; state = state; left = left }
+
+-- what the next call is lent
+abbrev pub Lender : Type 0
+Lender = Point → List ℕ
+
+-- one log, lent again and again
+abbrev pub oneLog : Lender
+oneLog x = x .left
+
+-- where the last call left room, there is room in what is lent next
+abbrev pub LendsRoom : Lender → Type 0
+LendsRoom lends = (x : Point) → logRoom ≤ length (x .left) → logRoom ≤ length (lends x)
+
+-- ---- a call and finish, lent what the lender lends
+
+module _ (lends : Lender) (x : Point) where
+  module _ (input : List ℕ) where
+    abbrev pub callAnswers : Answer
+    callAnswers = callSays (x .state) (lends x) input
+
+    abbrev pub CallTells : Told → Type 0
+    CallTells told = Tells (callAnswers .said) (callAnswers .log) (callLeaves (x .state) (lends x) input .bytes) (callLogs (x .state) (lends x) input) told
+
+    abbrev pub called : (before : List Told) → Point
+    called before = point before (callLeaves (x .state) (lends x) input) (callLogs (x .state) (lends x) input)
+
+  abbrev pub finishAnswers : Answer
+  finishAnswers = finishSays (x .state) (lends x)
+
+  abbrev pub FinishTells : Told → Type 0
+  FinishTells told = Tells (finishAnswers .said) (finishAnswers .log) (finishLeaves (x .state) (lends x) .bytes) (finishLogs (x .state) (lends x)) told
+
+  abbrev pub finished : (before : List Told) → Point
+  finished before = point before (finishLeaves (x .state) (lends x)) (finishLogs (x .state) (lends x))
+
+-- ---- `Feeds`, `Closes` and `Whole` of Driver.antt, from point to point
+
+pub data FeedsBy (c : Caller) (lends : Lender) : Point → List (List ℕ) → List Told → Point → Type 0 where
+  no-more : {x : Point} → FeedsBy c lends x [] [] x
+  an-event : {x x₁ : Point} {p : List ℕ} {ps : List (List ℕ)} {t : Told} {ts : List Told} → CallTells lends x p t
+      → FeedsBy c lends (called lends x p (x .before ++ t ∷ [])) (drop (callAnswers lends x p .used) p ∷ ps) ts x₁
+      → FeedsBy c lends x (p ∷ ps) (t ∷ ts) x₁
+  all-used : {x x₁ : Point} {p : List ℕ} {ps : List (List ℕ)} {ts : List Told} → callAnswers lends x p .said ≡ said.Hungry
+      → FeedsBy c lends (called lends x p (x .before)) ps ts x₁
+      → FeedsBy c lends x (p ∷ ps) ts x₁
+  passed-over : {x x₁ : Point} {ps : List (List ℕ)} {ts : List Told} → GoesOn c → FeedsBy c lends x ps ts x₁ → FeedsBy c lends x ([] ∷ ps) ts x₁
+
+pub data ClosesBy (lends : Lender) : Point → List Told → Point → Type 0 where
+  an-event : {x x₁ : Point} {t : Told} {ts : List Told} → FinishTells lends x t
+      → ClosesBy lends (finished lends x (x .before ++ t ∷ [])) ts x₁
+      → ClosesBy lends x (t ∷ ts) x₁
+  is-done : {x : Point} → finishAnswers lends x .said ≡ said.Done → ClosesBy lends x [] (finished lends x (x .before))
+
+-- a whole stream in these portions, with the log that there is before the first call
+pub record WholeBy (c : Caller) (lends : Lender) (bytes : List ℕ) (books : Held) (log : List ℕ) (portions : List (List ℕ)) : Type 0 where
+  pub before : List Told
+  pub between : Point
+  pub feeds : FeedsBy c lends (point [] (start bytes books) log) portions before between
+  pub after : List Told
+  pub end : Point
+  pub closes : ClosesBy lends between after end
