@@ -7,7 +7,7 @@ use native.Mathlib.Nat.{le-antisymm, le-of-suc-le-suc, not-suc-le-zero}
 use native.Mathlib.Numerals.{add-one}
 use native.Mathlib.Omega.{arith}
 use lib.Dec.{ltb}
-use lib.ListN.{length, take, drop, getD, set, length-set}
+use lib.ListN.{length, take, drop, getD, set, length-set, List·getD-eq-default}
 use lib.Seq.{take-all}
 use borrow.Author.Tests.{lt-ltb, le-ltb}
 use Rattle.export.specs.Numbers.{Told, roomFor, laid, answered, lentAfter, atMost}
@@ -102,6 +102,11 @@ cons-as x y xs ys e f = ap₂ (λ (x : ℕ) (xs : List ℕ). x ∷ xs) e f
 pub laid-none : (lent : List ℕ) → lent ≡ laid [] lent
 unfolding laid
 laid-none lent = refl
+
+-- ---- a place that is not there
+
+pub none-there : (numbers : List ℕ) (place : ℕ) → length numbers ≤ place → 0 ≡ getD numbers place 0
+none-there numbers place h = sym (List·getD-eq-default numbers 0 h)
 
 -- ---- a number, or the highest that counts, which the code has as w
 

@@ -1,5 +1,5 @@
 -- Laws: a book and a tray taken out of numbers and put back, and what is told of a stream's answer, worded as the code makes them.
-use mathlib.Core.Path.{_≡_, refl, ap, ap₂, _∙_}
+use mathlib.Core.Path.{_≡_, refl, sym, ap, ap₂, _∙_}
 use mathlib.Core.Bool.{true, false}
 use mathlib.Core.List.{List}
 use Prim.Native.Nat.{ℕ, _+_, _-_, _≤_, _<_}
@@ -26,20 +26,23 @@ pub aiou-over : (x : ℕ) → 16 ≤ x → 17 ≡ atMost 16 x + 1
 aiou-over x h = ap (λ y. y + 1) (over 16 16 x refl h)
 
 module _ (s : List ℕ) where
-  pub book-empty : (b : Book) → b ≡ noBook → getD s 1 0 ≡ 0 → b ≡ bookIn s
+  pub book-empty : (b : Book) (n : ℕ) → n ≡ getD s 1 0 → n ≡ 0 → b ≡ noBook → b ≡ bookIn s
   unfolding bookIn
-  book-empty b e h = let z : eqb (getD s 1 0) 0 ≡ true = eq-eqb _ _ h in rw z e
+  book-empty b n m h e = let z : eqb (getD s 1 0) 0 ≡ true = eq-eqb _ _ (sym m ∙ h) in rw z e
 
-  pub book-areas : (b : Book) (x y : ℕ) → b ≡ bookWith x y → (getD s 1 0 ≡ 0 → ⊥) → x ≡ atMost 16 (getD s 0 0) + 1 → y ≡ getD s 1 0
+  pub book-areas : (b : Book) (x y a n : ℕ) → n ≡ getD s 1 0 → (n ≡ 0 → ⊥) → a ≡ getD s 0 0 → x ≡ atMost 16 a + 1 → y ≡ n → b ≡ bookWith x y
       → b ≡ bookIn s
   unfolding bookIn
-  book-areas b x y e h p q = let z : eqb (getD s 1 0) 0 ≡ false = ne-eqb _ _ h in rw z (e ∙ ap₂ bookWith p q)
+  book-areas b x y a n m h l p q e =
+      let z : eqb (getD s 1 0) 0 ≡ false = ne-eqb _ _ (λ w. h (m ∙ w)) in
+      rw z (e ∙ ap₂ bookWith (p ∙ ap (λ w. atMost 16 w + 1) l) (q ∙ m))
 
 -- ---- a tray as numbers
 
-pub tray-in : (s : List ℕ) (x y z : ℕ) → x ≡ getD s 0 0 → y ≡ getD s 1 0 → z ≡ atMost mostNoise (getD s 2 0) → record { held = x; shown = y; noise = z } ≡ trayIn s
+pub tray-in : (s : List ℕ) (x y z a b n : ℕ) → a ≡ getD s 0 0 → b ≡ getD s 1 0 → n ≡ getD s 2 0 → x ≡ a → y ≡ b → z ≡ atMost mostNoise n
+    → record { held = x; shown = y; noise = z } ≡ trayIn s
 unfolding trayIn
-tray-in s x y z p q r = cc
+tray-in s x y z a b n e f g p q r = cc
 
 -- ---- three slices that have room, and one that has not
 

@@ -1,113 +1,225 @@
--- Two results of a call of this crate cannot differ: for equal inputs, numbers and slices that meet the contracts are equal. Proved.
-use mathlib.Core.Path.{_≡_, sym, _∙_}
-use mathlib.Core.List.{List}
-use Prim.Native.Nat.{ℕ}
-use Rattle.bits.specs.Bits.{toBits, Bytes}
+-- Two results of a public call of this crate cannot differ: for equal inputs, answers and lent buffers that meet the contract are equal. Proved.
+-- Written by tests/determined from the contracts in src/.
+use Prim.Native.Nat.{_-_, ℕ}
+use Rattle.bits.specs.Bits.{Bytes, toBits}
 use Rattle.bits.specs.Laws.{toBits-injective}
+use Rattle.book.specs.declared.Book.{Book}
+use Rattle.export.specs.Books as export-books
+use Rattle.export.specs.Books.{bookIn, bookOf, bookRoom, keptLeaves, keptOf, readLeaves, readOf, takeLeaves, takeOf, toldKept, toldTaken}
+use Rattle.export.specs.Frames as export-frames
+use Rattle.export.specs.Frames.{headerOf, headerRoom, partsOf, toldChecked}
+use Rattle.export.specs.Meanings.{floatsOfOrbit, floatsOfValue, orbitRoom, toldOrbit, toldValue, unitRoom, valueRoom}
+use Rattle.export.specs.Numbers.{answered, laid, lentAfter, room, roomFor, stored}
+use Rattle.export.specs.Payloads as export-payloads
+use Rattle.export.specs.Payloads.{countsRoom}
+use Rattle.export.specs.Streams.{callLeaves, callOf, finishLeaves, finishOf, headerTold, rooms, toldAnswer, trayIn, trayOf, trayTold}
 use Rattle.frame.specs.Check.{checked}
-use Rattle.frame.specs.Write.{written, outAfter}
-use Rattle.frame.specs.declared.Parts.{Parts}
-use Rattle.sheet.specs.Sheet.{judged, readAnswer, sheetAfter, judgedSheet, writeAnswer}
-use Rattle.sheet.specs.Sheet as sheets
-use Rattle.export.specs.Numbers.{roomFor, laid, answered, lentAfter}
-use Rattle.export.specs.Frames.{headerRoom, toldChecked}
-use Rattle.export.specs.Frames as frames
-use Rattle.export.specs.Payloads.{countsRoom, toldRead, toldWritten}
-use Rattle.export.specs.Streams.{rooms, callOf, callLeaves, finishOf, finishLeaves, toldAnswer, trayTold, headerTold}
-use Rattle.export.specs.Books.{bookRoom, takeOf, takeLeaves, toldTaken, keptOf, keptLeaves, toldKept, readOf, readLeaves}
-use Rattle.export.specs.Books as books
+use Rattle.frame.specs.Write as frame-write
+use Rattle.frame.specs.Write.{written}
+use Rattle.frame.specs.declared.Frame.{Frame}
+use Rattle.sheet.specs.Sheet as sheet-sheet
+use Rattle.sheet.specs.Sheet.{judged, judgedSheet, readAnswer, sheetAfter, writeAnswer}
+use Rattle.stream.specs.declared.Tray.{Tray}
+use Rattle.values.specs.Values.{orbitOf, valueOf}
 use lib.Ieee.{Float}
-use Rattle.values.specs.Values.{valueOf, orbitOf}
-use Rattle.export.specs.Meanings.{unitRoom, valueRoom, orbitRoom, toldValue, floatsOfValue, toldOrbit, floatsOfOrbit}
+use lib.ListN.{getD}
+use mathlib.Core.List.{List}
+use mathlib.Core.Path.{_∙_, _≡_, sym}
 
-pub frame-check-determined : (bytes header : List ℕ) (a0 b0 : ℕ) (a1 b1 : List ℕ)
-    → a0 ≡ answered headerRoom header (toldChecked (checked bytes)) → b0 ≡ answered headerRoom header (toldChecked (checked bytes))
-    → a1 ≡ lentAfter headerRoom header (toldChecked (checked bytes)) → b1 ≡ lentAfter headerRoom header (toldChecked (checked bytes))
-    → (a0 ≡ b0) × (a1 ≡ b1)
-frame-check-determined bytes header a0 b0 a1 b1 p0 q0 p1 q1 = (p0 ∙ sym q0, p1 ∙ sym q1)
+pub aiou-of-determined : (x : ℕ) (r₁ r₂ : ℕ)
+    → r₁ ≡ x - 1
+    → r₂ ≡ x - 1
+    → r₁ ≡ r₂
+aiou-of-determined x r₁ r₂ e0₁ e0₂ = e0₁ ∙ sym e0₂
 
-pub frame-write-determined : (parts : Parts) (payload out size : List ℕ) (a0 b0 : ℕ) (a1 b1 : List ℕ) (a2 b2 : List ℕ)
-    → a0 ≡ answered 1 size (frames.toldWritten (written parts payload out)) → b0 ≡ answered 1 size (frames.toldWritten (written parts payload out))
-    → a1 ≡ roomFor 1 size out (outAfter parts payload out) → b1 ≡ roomFor 1 size out (outAfter parts payload out)
-    → a2 ≡ lentAfter 1 size (frames.toldWritten (written parts payload out)) → b2 ≡ lentAfter 1 size (frames.toldWritten (written parts payload out))
-    → (a0 ≡ b0) × (a1 ≡ b1) × (a2 ≡ b2)
-frame-write-determined parts payload out size a0 b0 a1 b1 a2 b2 p0 q0 p1 q1 p2 q2 = (p0 ∙ sym q0, p1 ∙ sym q1, p2 ∙ sym q2)
+pub book-in-determined : (book : List ℕ) (r₁ r₂ : Book)
+    → r₁ ≡ bookIn book
+    → r₂ ≡ bookIn book
+    → r₁ ≡ r₂
+book-in-determined book r₁ r₂ e0₁ e0₂ = e0₁ ∙ sym e0₂
 
-pub payload-judge-determined : (kind subtype : ℕ) (payload counts : List ℕ) (a0 b0 : ℕ) (a1 b1 : List ℕ)
-    → a0 ≡ answered countsRoom counts (toldRead (judged kind subtype payload)) → b0 ≡ answered countsRoom counts (toldRead (judged kind subtype payload))
-    → a1 ≡ lentAfter countsRoom counts (toldRead (judged kind subtype payload)) → b1 ≡ lentAfter countsRoom counts (toldRead (judged kind subtype payload))
-    → (a0 ≡ b0) × (a1 ≡ b1)
-payload-judge-determined kind subtype payload counts a0 b0 a1 b1 p0 q0 p1 q1 = (p0 ∙ sym q0, p1 ∙ sym q1)
+pub put-book-determined : (held : Book) (book : List ℕ) (book₁ book₂ : List ℕ)
+    → book₁ ≡ stored (bookOf held) book
+    → book₂ ≡ stored (bookOf held) book
+    → book₁ ≡ book₂
+put-book-determined held book book₁ book₂ e0₁ e0₂ = e0₁ ∙ sym e0₂
 
-pub payload-read-determined : (kind subtype : ℕ) (payload sheet counts : List ℕ) (a0 b0 : ℕ) (a1 b1 : List ℕ) (a2 b2 : List ℕ)
-    → a0 ≡ answered countsRoom counts (toldRead (readAnswer kind subtype payload sheet)) → b0 ≡ answered countsRoom counts (toldRead (readAnswer kind subtype payload sheet))
-    → a1 ≡ roomFor countsRoom counts sheet (sheetAfter kind subtype payload sheet) → b1 ≡ roomFor countsRoom counts sheet (sheetAfter kind subtype payload sheet)
-    → a2 ≡ lentAfter countsRoom counts (toldRead (readAnswer kind subtype payload sheet)) → b2 ≡ lentAfter countsRoom counts (toldRead (readAnswer kind subtype payload sheet))
-    → (a0 ≡ b0) × (a1 ≡ b1) × (a2 ≡ b2)
-payload-read-determined kind subtype payload sheet counts a0 b0 a1 b1 a2 b2 p0 q0 p1 q1 p2 q2 = (p0 ∙ sym q0, p1 ∙ sym q1, p2 ∙ sym q2)
+pub book-take-determined : (book bytes payload : List ℕ) (r₁ r₂ : ℕ) (book₁ book₂ : List ℕ) (bytes₁ bytes₂ : List ℕ)
+    → r₁ ≡ answered bookRoom book (toldTaken (takeOf book bytes payload))
+    → r₂ ≡ answered bookRoom book (toldTaken (takeOf book bytes payload))
+    → book₁ ≡ lentAfter bookRoom book (toldTaken (takeOf book bytes payload))
+    → book₂ ≡ lentAfter bookRoom book (toldTaken (takeOf book bytes payload))
+    → bytes₁ ≡ roomFor bookRoom book bytes (takeLeaves book bytes payload)
+    → bytes₂ ≡ roomFor bookRoom book bytes (takeLeaves book bytes payload)
+    → (r₁ ≡ r₂) × (book₁ ≡ book₂) × (bytes₁ ≡ bytes₂)
+book-take-determined book bytes payload r₁ r₂ book₁ book₂ bytes₁ bytes₂ e0₁ e0₂ e1₁ e1₂ e2₁ e2₂ = (e0₁ ∙ sym e0₂, e1₁ ∙ sym e1₂, e2₁ ∙ sym e2₂)
 
-pub sheet-judge-determined : (kind subtype : ℕ) (sheet counts : List ℕ) (a0 b0 : ℕ) (a1 b1 : List ℕ)
-    → a0 ≡ answered countsRoom counts (toldWritten (judgedSheet kind subtype sheet)) → b0 ≡ answered countsRoom counts (toldWritten (judgedSheet kind subtype sheet))
-    → a1 ≡ lentAfter countsRoom counts (toldWritten (judgedSheet kind subtype sheet)) → b1 ≡ lentAfter countsRoom counts (toldWritten (judgedSheet kind subtype sheet))
-    → (a0 ≡ b0) × (a1 ≡ b1)
-sheet-judge-determined kind subtype sheet counts a0 b0 a1 b1 p0 q0 p1 q1 = (p0 ∙ sym q0, p1 ∙ sym q1)
+pub kept-read-determined : (kept book bytes : List ℕ) (r₁ r₂ : ℕ) (book₁ book₂ : List ℕ) (bytes₁ bytes₂ : List ℕ)
+    → r₁ ≡ answered bookRoom book (export-books.toldRead (readOf kept bytes))
+    → r₂ ≡ answered bookRoom book (export-books.toldRead (readOf kept bytes))
+    → book₁ ≡ lentAfter bookRoom book (export-books.toldRead (readOf kept bytes))
+    → book₂ ≡ lentAfter bookRoom book (export-books.toldRead (readOf kept bytes))
+    → bytes₁ ≡ roomFor bookRoom book bytes (readLeaves kept bytes)
+    → bytes₂ ≡ roomFor bookRoom book bytes (readLeaves kept bytes)
+    → (r₁ ≡ r₂) × (book₁ ≡ book₂) × (bytes₁ ≡ bytes₂)
+kept-read-determined kept book bytes r₁ r₂ book₁ book₂ bytes₁ bytes₂ e0₁ e0₂ e1₁ e1₂ e2₁ e2₂ = (e0₁ ∙ sym e0₂, e1₁ ∙ sym e1₂, e2₁ ∙ sym e2₂)
 
-pub sheet-write-determined : (kind subtype : ℕ) (sheet out counts : List ℕ) (a0 b0 : ℕ) (a1 b1 : List ℕ) (a2 b2 : List ℕ)
-    → Bytes a1 → Bytes b1
-    → a0 ≡ answered countsRoom counts (toldWritten (writeAnswer kind subtype sheet out)) → b0 ≡ answered countsRoom counts (toldWritten (writeAnswer kind subtype sheet out))
-    → toBits a1 ≡ roomFor countsRoom counts (toBits out) (sheets.outAfter kind subtype sheet out) → toBits b1 ≡ roomFor countsRoom counts (toBits out) (sheets.outAfter kind subtype sheet out)
-    → a2 ≡ lentAfter countsRoom counts (toldWritten (writeAnswer kind subtype sheet out)) → b2 ≡ lentAfter countsRoom counts (toldWritten (writeAnswer kind subtype sheet out))
-    → (a0 ≡ b0) × (a1 ≡ b1) × (a2 ≡ b2)
-sheet-write-determined kind subtype sheet out counts a0 b0 a1 b1 a2 b2 hs ht p0 q0 p1 q1 p2 q2 = (p0 ∙ sym q0, toBits-injective hs ht (p1 ∙ sym q1), p2 ∙ sym q2)
+pub kept-write-determined : (book bytes out written : List ℕ) (r₁ r₂ : ℕ) (out₁ out₂ : List ℕ) (written₁ written₂ : List ℕ)
+    → r₁ ≡ roomFor bookRoom book 9 (answered 1 written (toldKept (keptOf book bytes out)))
+    → r₂ ≡ roomFor bookRoom book 9 (answered 1 written (toldKept (keptOf book bytes out)))
+    → out₁ ≡ roomFor bookRoom book out (roomFor 1 written out (keptLeaves book bytes out))
+    → out₂ ≡ roomFor bookRoom book out (roomFor 1 written out (keptLeaves book bytes out))
+    → written₁ ≡ roomFor bookRoom book written (lentAfter 1 written (toldKept (keptOf book bytes out)))
+    → written₂ ≡ roomFor bookRoom book written (lentAfter 1 written (toldKept (keptOf book bytes out)))
+    → (r₁ ≡ r₂) × (out₁ ≡ out₂) × (written₁ ≡ written₂)
+kept-write-determined book bytes out written r₁ r₂ out₁ out₂ written₁ written₂ e0₁ e0₂ e1₁ e1₂ e2₁ e2₂ = (e0₁ ∙ sym e0₂, e1₁ ∙ sym e1₂, e2₁ ∙ sym e2₂)
 
-pub stream-call-determined : (bytes tray input told header : List ℕ) (a0 b0 : ℕ) (a1 b1 : List ℕ) (a2 b2 : List ℕ) (a3 b3 : List ℕ) (a4 b4 : List ℕ)
-    → a0 ≡ rooms tray told header 9 (toldAnswer (callOf bytes tray input) .number) → b0 ≡ rooms tray told header 9 (toldAnswer (callOf bytes tray input) .number)
-    → a1 ≡ rooms tray told header bytes (callLeaves bytes tray input) → b1 ≡ rooms tray told header bytes (callLeaves bytes tray input)
-    → a2 ≡ rooms tray told header tray (laid (trayTold (callOf bytes tray input)) tray) → b2 ≡ rooms tray told header tray (laid (trayTold (callOf bytes tray input)) tray)
-    → a3 ≡ rooms tray told header told (laid (toldAnswer (callOf bytes tray input) .numbers) told) → b3 ≡ rooms tray told header told (laid (toldAnswer (callOf bytes tray input) .numbers) told)
-    → a4 ≡ rooms tray told header header (laid (headerTold (callOf bytes tray input)) header) → b4 ≡ rooms tray told header header (laid (headerTold (callOf bytes tray input)) header)
-    → (a0 ≡ b0) × (a1 ≡ b1) × (a2 ≡ b2) × (a3 ≡ b3) × (a4 ≡ b4)
-stream-call-determined bytes tray input told header a0 b0 a1 b1 a2 b2 a3 b3 a4 b4 p0 q0 p1 q1 p2 q2 p3 q3 p4 q4 = (p0 ∙ sym q0, p1 ∙ sym q1, p2 ∙ sym q2, p3 ∙ sym q3, p4 ∙ sym q4)
+pub put-header-determined : (frame : Frame) (header : List ℕ) (header₁ header₂ : List ℕ)
+    → header₁ ≡ stored (headerOf frame) header
+    → header₂ ≡ stored (headerOf frame) header
+    → header₁ ≡ header₂
+put-header-determined frame header header₁ header₂ e0₁ e0₂ = e0₁ ∙ sym e0₂
 
-pub stream-finish-determined : (bytes tray told header : List ℕ) (a0 b0 : ℕ) (a1 b1 : List ℕ) (a2 b2 : List ℕ) (a3 b3 : List ℕ) (a4 b4 : List ℕ)
-    → a0 ≡ rooms tray told header 9 (toldAnswer (finishOf bytes tray) .number) → b0 ≡ rooms tray told header 9 (toldAnswer (finishOf bytes tray) .number)
-    → a1 ≡ rooms tray told header bytes (finishLeaves bytes tray) → b1 ≡ rooms tray told header bytes (finishLeaves bytes tray)
-    → a2 ≡ rooms tray told header tray (laid (trayTold (finishOf bytes tray)) tray) → b2 ≡ rooms tray told header tray (laid (trayTold (finishOf bytes tray)) tray)
-    → a3 ≡ rooms tray told header told (laid (toldAnswer (finishOf bytes tray) .numbers) told) → b3 ≡ rooms tray told header told (laid (toldAnswer (finishOf bytes tray) .numbers) told)
-    → a4 ≡ rooms tray told header header (laid (headerTold (finishOf bytes tray)) header) → b4 ≡ rooms tray told header header (laid (headerTold (finishOf bytes tray)) header)
-    → (a0 ≡ b0) × (a1 ≡ b1) × (a2 ≡ b2) × (a3 ≡ b3) × (a4 ≡ b4)
-stream-finish-determined bytes tray told header a0 b0 a1 b1 a2 b2 a3 b3 a4 b4 p0 q0 p1 q1 p2 q2 p3 q3 p4 q4 = (p0 ∙ sym q0, p1 ∙ sym q1, p2 ∙ sym q2, p3 ∙ sym q3, p4 ∙ sym q4)
+pub frame-check-determined : (bytes header : List ℕ) (r₁ r₂ : ℕ) (header₁ header₂ : List ℕ)
+    → r₁ ≡ answered headerRoom header (toldChecked (checked bytes))
+    → r₂ ≡ answered headerRoom header (toldChecked (checked bytes))
+    → header₁ ≡ lentAfter headerRoom header (toldChecked (checked bytes))
+    → header₂ ≡ lentAfter headerRoom header (toldChecked (checked bytes))
+    → (r₁ ≡ r₂) × (header₁ ≡ header₂)
+frame-check-determined bytes header r₁ r₂ header₁ header₂ e0₁ e0₂ e1₁ e1₂ = (e0₁ ∙ sym e0₂, e1₁ ∙ sym e1₂)
 
-pub book-take-determined : (book bytes payload : List ℕ) (a0 b0 : ℕ) (a1 b1 : List ℕ) (a2 b2 : List ℕ)
-    → a0 ≡ answered bookRoom book (toldTaken (takeOf book bytes payload)) → b0 ≡ answered bookRoom book (toldTaken (takeOf book bytes payload))
-    → a1 ≡ lentAfter bookRoom book (toldTaken (takeOf book bytes payload)) → b1 ≡ lentAfter bookRoom book (toldTaken (takeOf book bytes payload))
-    → a2 ≡ roomFor bookRoom book bytes (takeLeaves book bytes payload) → b2 ≡ roomFor bookRoom book bytes (takeLeaves book bytes payload)
-    → (a0 ≡ b0) × (a1 ≡ b1) × (a2 ≡ b2)
-book-take-determined book bytes payload a0 b0 a1 b1 a2 b2 p0 q0 p1 q1 p2 q2 = (p0 ∙ sym q0, p1 ∙ sym q1, p2 ∙ sym q2)
+pub frame-write-determined : («message_type» «check_type» subtype «tag_kind» tag solution processor : ℕ) (payload out size : List ℕ) (r₁ r₂ : ℕ) (out₁ out₂ : List ℕ) (size₁ size₂ : List ℕ)
+    → r₁ ≡ answered 1 size (export-frames.toldWritten (written (partsOf «message_type» «check_type» subtype «tag_kind» tag solution processor) payload out))
+    → r₂ ≡ answered 1 size (export-frames.toldWritten (written (partsOf «message_type» «check_type» subtype «tag_kind» tag solution processor) payload out))
+    → out₁ ≡ roomFor 1 size out (frame-write.outAfter (partsOf «message_type» «check_type» subtype «tag_kind» tag solution processor) payload out)
+    → out₂ ≡ roomFor 1 size out (frame-write.outAfter (partsOf «message_type» «check_type» subtype «tag_kind» tag solution processor) payload out)
+    → size₁ ≡ lentAfter 1 size (export-frames.toldWritten (written (partsOf «message_type» «check_type» subtype «tag_kind» tag solution processor) payload out))
+    → size₂ ≡ lentAfter 1 size (export-frames.toldWritten (written (partsOf «message_type» «check_type» subtype «tag_kind» tag solution processor) payload out))
+    → (r₁ ≡ r₂) × (out₁ ≡ out₂) × (size₁ ≡ size₂)
+frame-write-determined «message_type» «check_type» subtype «tag_kind» tag solution processor payload out size r₁ r₂ out₁ out₂ size₁ size₂ e0₁ e0₂ e1₁ e1₂ e2₁ e2₂ = (e0₁ ∙ sym e0₂, e1₁ ∙ sym e1₂, e2₁ ∙ sym e2₂)
 
-pub kept-write-determined : (book bytes out size : List ℕ) (a0 b0 : ℕ) (a1 b1 : List ℕ) (a2 b2 : List ℕ)
-    → a0 ≡ roomFor bookRoom book 9 (answered 1 size (toldKept (keptOf book bytes out))) → b0 ≡ roomFor bookRoom book 9 (answered 1 size (toldKept (keptOf book bytes out)))
-    → a1 ≡ roomFor bookRoom book out (roomFor 1 size out (keptLeaves book bytes out)) → b1 ≡ roomFor bookRoom book out (roomFor 1 size out (keptLeaves book bytes out))
-    → a2 ≡ roomFor bookRoom book size (lentAfter 1 size (toldKept (keptOf book bytes out))) → b2 ≡ roomFor bookRoom book size (lentAfter 1 size (toldKept (keptOf book bytes out)))
-    → (a0 ≡ b0) × (a1 ≡ b1) × (a2 ≡ b2)
-kept-write-determined book bytes out size a0 b0 a1 b1 a2 b2 p0 q0 p1 q1 p2 q2 = (p0 ∙ sym q0, p1 ∙ sym q1, p2 ∙ sym q2)
+pub value-determined : (sf code : ℕ) (what : List ℕ) (value : List Float) (r₁ r₂ : ℕ) (what₁ what₂ : List ℕ) (value₁ value₂ : List Float)
+    → r₁ ≡ roomFor unitRoom what room (roomFor valueRoom value room (toldValue (valueOf sf code) .number))
+    → r₂ ≡ roomFor unitRoom what room (roomFor valueRoom value room (toldValue (valueOf sf code) .number))
+    → what₁ ≡ roomFor unitRoom what what (roomFor valueRoom value what (laid (toldValue (valueOf sf code) .numbers) what))
+    → what₂ ≡ roomFor unitRoom what what (roomFor valueRoom value what (laid (toldValue (valueOf sf code) .numbers) what))
+    → value₁ ≡ roomFor unitRoom what value (roomFor valueRoom value value (floatsOfValue (valueOf sf code) value))
+    → value₂ ≡ roomFor unitRoom what value (roomFor valueRoom value value (floatsOfValue (valueOf sf code) value))
+    → (r₁ ≡ r₂) × (what₁ ≡ what₂) × (value₁ ≡ value₂)
+value-determined sf code what value r₁ r₂ what₁ what₂ value₁ value₂ e0₁ e0₂ e1₁ e1₂ e2₁ e2₂ = (e0₁ ∙ sym e0₂, e1₁ ∙ sym e1₂, e2₁ ∙ sym e2₂)
 
-pub kept-read-determined : (kept book bytes : List ℕ) (a0 b0 : ℕ) (a1 b1 : List ℕ) (a2 b2 : List ℕ)
-    → a0 ≡ answered bookRoom book (books.toldRead (readOf kept bytes)) → b0 ≡ answered bookRoom book (books.toldRead (readOf kept bytes))
-    → a1 ≡ lentAfter bookRoom book (books.toldRead (readOf kept bytes)) → b1 ≡ lentAfter bookRoom book (books.toldRead (readOf kept bytes))
-    → a2 ≡ roomFor bookRoom book bytes (readLeaves kept bytes) → b2 ≡ roomFor bookRoom book bytes (readLeaves kept bytes)
-    → (a0 ≡ b0) × (a1 ≡ b1) × (a2 ≡ b2)
-kept-read-determined kept book bytes a0 b0 a1 b1 a2 b2 p0 q0 p1 q1 p2 q2 = (p0 ∙ sym q0, p1 ∙ sym q1, p2 ∙ sym q2)
+pub orbit-determined : (radial «along_track» «cross_track» : ℕ) (orbit : List Float) (r₁ r₂ : ℕ) (orbit₁ orbit₂ : List Float)
+    → r₁ ≡ roomFor orbitRoom orbit room (toldOrbit (orbitOf radial «along_track» «cross_track»))
+    → r₂ ≡ roomFor orbitRoom orbit room (toldOrbit (orbitOf radial «along_track» «cross_track»))
+    → orbit₁ ≡ roomFor orbitRoom orbit orbit (floatsOfOrbit (orbitOf radial «along_track» «cross_track») orbit)
+    → orbit₂ ≡ roomFor orbitRoom orbit orbit (floatsOfOrbit (orbitOf radial «along_track» «cross_track») orbit)
+    → (r₁ ≡ r₂) × (orbit₁ ≡ orbit₂)
+orbit-determined radial «along_track» «cross_track» orbit r₁ r₂ orbit₁ orbit₂ e0₁ e0₂ e1₁ e1₂ = (e0₁ ∙ sym e0₂, e1₁ ∙ sym e1₂)
 
-pub value-determined : (sf code : ℕ) (what : List ℕ) (value : List Float) (a0 b0 : ℕ) (a1 b1 : List ℕ) (a2 b2 : List Float)
-    → a0 ≡ roomFor unitRoom what 9 (roomFor valueRoom value 9 (toldValue (valueOf sf code) .number)) → b0 ≡ roomFor unitRoom what 9 (roomFor valueRoom value 9 (toldValue (valueOf sf code) .number))
-    → a1 ≡ roomFor unitRoom what what (roomFor valueRoom value what (laid (toldValue (valueOf sf code) .numbers) what)) → b1 ≡ roomFor unitRoom what what (roomFor valueRoom value what (laid (toldValue (valueOf sf code) .numbers) what))
-    → a2 ≡ roomFor unitRoom what value (roomFor valueRoom value value (floatsOfValue (valueOf sf code) value)) → b2 ≡ roomFor unitRoom what value (roomFor valueRoom value value (floatsOfValue (valueOf sf code) value))
-    → (a0 ≡ b0) × (a1 ≡ b1) × (a2 ≡ b2)
-value-determined sf code what value a0 b0 a1 b1 a2 b2 p0 q0 p1 q1 p2 q2 = (p0 ∙ sym q0, p1 ∙ sym q1, p2 ∙ sym q2)
+pub wide-determined : (x : ℕ) (r₁ r₂ : ℕ)
+    → r₁ ≡ x
+    → r₂ ≡ x
+    → r₁ ≡ r₂
+wide-determined x r₁ r₂ e0₁ e0₂ = e0₁ ∙ sym e0₂
 
-pub orbit-determined : (radial along cross : ℕ) (orbit : List Float) (a0 b0 : ℕ) (a1 b1 : List Float)
-    → a0 ≡ roomFor orbitRoom orbit 9 (toldOrbit (orbitOf radial along cross)) → b0 ≡ roomFor orbitRoom orbit 9 (toldOrbit (orbitOf radial along cross))
-    → a1 ≡ roomFor orbitRoom orbit orbit (floatsOfOrbit (orbitOf radial along cross) orbit) → b1 ≡ roomFor orbitRoom orbit orbit (floatsOfOrbit (orbitOf radial along cross) orbit)
-    → (a0 ≡ b0) × (a1 ≡ b1)
-orbit-determined radial along cross orbit a0 b0 a1 b1 p0 q0 p1 q1 = (p0 ∙ sym q0, p1 ∙ sym q1)
+pub count-determined : (n : ℕ) (r₁ r₂ : ℕ)
+    → r₁ ≡ n
+    → r₂ ≡ n
+    → r₁ ≡ r₂
+count-determined n r₁ r₂ e0₁ e0₂ = e0₁ ∙ sym e0₂
+
+pub at-determined : (numbers : List ℕ) (place : ℕ) (r₁ r₂ : ℕ)
+    → r₁ ≡ getD numbers place 0
+    → r₂ ≡ getD numbers place 0
+    → r₁ ≡ r₂
+at-determined numbers place r₁ r₂ e0₁ e0₂ = e0₁ ∙ sym e0₂
+
+pub put-determined : (numbers out : List ℕ) (out₁ out₂ : List ℕ)
+    → out₁ ≡ stored numbers out
+    → out₂ ≡ stored numbers out
+    → out₁ ≡ out₂
+put-determined numbers out out₁ out₂ e0₁ e0₂ = e0₁ ∙ sym e0₂
+
+pub payload-judge-determined : (kind subtype : ℕ) (payload counts : List ℕ) (r₁ r₂ : ℕ) (counts₁ counts₂ : List ℕ)
+    → r₁ ≡ answered countsRoom counts (export-payloads.toldRead (judged kind subtype payload))
+    → r₂ ≡ answered countsRoom counts (export-payloads.toldRead (judged kind subtype payload))
+    → counts₁ ≡ lentAfter countsRoom counts (export-payloads.toldRead (judged kind subtype payload))
+    → counts₂ ≡ lentAfter countsRoom counts (export-payloads.toldRead (judged kind subtype payload))
+    → (r₁ ≡ r₂) × (counts₁ ≡ counts₂)
+payload-judge-determined kind subtype payload counts r₁ r₂ counts₁ counts₂ e0₁ e0₂ e1₁ e1₂ = (e0₁ ∙ sym e0₂, e1₁ ∙ sym e1₂)
+
+pub payload-read-determined : (kind subtype : ℕ) (payload sheet counts : List ℕ) (r₁ r₂ : ℕ) (sheet₁ sheet₂ : List ℕ) (counts₁ counts₂ : List ℕ)
+    → r₁ ≡ answered countsRoom counts (export-payloads.toldRead (readAnswer kind subtype payload sheet))
+    → r₂ ≡ answered countsRoom counts (export-payloads.toldRead (readAnswer kind subtype payload sheet))
+    → sheet₁ ≡ roomFor countsRoom counts sheet (sheetAfter kind subtype payload sheet)
+    → sheet₂ ≡ roomFor countsRoom counts sheet (sheetAfter kind subtype payload sheet)
+    → counts₁ ≡ lentAfter countsRoom counts (export-payloads.toldRead (readAnswer kind subtype payload sheet))
+    → counts₂ ≡ lentAfter countsRoom counts (export-payloads.toldRead (readAnswer kind subtype payload sheet))
+    → (r₁ ≡ r₂) × (sheet₁ ≡ sheet₂) × (counts₁ ≡ counts₂)
+payload-read-determined kind subtype payload sheet counts r₁ r₂ sheet₁ sheet₂ counts₁ counts₂ e0₁ e0₂ e1₁ e1₂ e2₁ e2₂ = (e0₁ ∙ sym e0₂, e1₁ ∙ sym e1₂, e2₁ ∙ sym e2₂)
+
+pub sheet-judge-determined : (kind subtype : ℕ) (sheet counts : List ℕ) (r₁ r₂ : ℕ) (counts₁ counts₂ : List ℕ)
+    → r₁ ≡ answered countsRoom counts (export-payloads.toldWritten (judgedSheet kind subtype sheet))
+    → r₂ ≡ answered countsRoom counts (export-payloads.toldWritten (judgedSheet kind subtype sheet))
+    → counts₁ ≡ lentAfter countsRoom counts (export-payloads.toldWritten (judgedSheet kind subtype sheet))
+    → counts₂ ≡ lentAfter countsRoom counts (export-payloads.toldWritten (judgedSheet kind subtype sheet))
+    → (r₁ ≡ r₂) × (counts₁ ≡ counts₂)
+sheet-judge-determined kind subtype sheet counts r₁ r₂ counts₁ counts₂ e0₁ e0₂ e1₁ e1₂ = (e0₁ ∙ sym e0₂, e1₁ ∙ sym e1₂)
+
+pub sheet-write-determined : (kind subtype : ℕ) (sheet out counts : List ℕ) (r₁ r₂ : ℕ) (out₁ out₂ : List ℕ) (counts₁ counts₂ : List ℕ)
+    → r₁ ≡ answered countsRoom counts (export-payloads.toldWritten (writeAnswer kind subtype sheet out))
+    → r₂ ≡ answered countsRoom counts (export-payloads.toldWritten (writeAnswer kind subtype sheet out))
+    → Bytes out₁
+    → Bytes out₂
+    → toBits out₁ ≡ roomFor countsRoom counts (toBits out) (sheet-sheet.outAfter kind subtype sheet out)
+    → toBits out₂ ≡ roomFor countsRoom counts (toBits out) (sheet-sheet.outAfter kind subtype sheet out)
+    → counts₁ ≡ lentAfter countsRoom counts (export-payloads.toldWritten (writeAnswer kind subtype sheet out))
+    → counts₂ ≡ lentAfter countsRoom counts (export-payloads.toldWritten (writeAnswer kind subtype sheet out))
+    → (r₁ ≡ r₂) × (out₁ ≡ out₂) × (counts₁ ≡ counts₂)
+sheet-write-determined kind subtype sheet out counts r₁ r₂ out₁ out₂ counts₁ counts₂ e0₁ e0₂ e1-bytes₁ e1-bytes₂ e1₁ e1₂ e2₁ e2₂ = (e0₁ ∙ sym e0₂, toBits-injective e1-bytes₁ e1-bytes₂ (e1₁ ∙ sym e1₂), e2₁ ∙ sym e2₂)
+
+pub noise-count-determined : (x : ℕ) (r₁ r₂ : ℕ)
+    → r₁ ≡ x
+    → r₂ ≡ x
+    → r₁ ≡ r₂
+noise-count-determined x r₁ r₂ e0₁ e0₂ = e0₁ ∙ sym e0₂
+
+pub tray-in-determined : (tray : List ℕ) (r₁ r₂ : Tray)
+    → r₁ ≡ trayIn tray
+    → r₂ ≡ trayIn tray
+    → r₁ ≡ r₂
+tray-in-determined tray r₁ r₂ e0₁ e0₂ = e0₁ ∙ sym e0₂
+
+pub put-tray-determined : (held : Tray) (tray : List ℕ) (tray₁ tray₂ : List ℕ)
+    → tray₁ ≡ stored (trayOf held) tray
+    → tray₂ ≡ stored (trayOf held) tray
+    → tray₁ ≡ tray₂
+put-tray-determined held tray tray₁ tray₂ e0₁ e0₂ = e0₁ ∙ sym e0₂
+
+pub stream-call-determined : (bytes tray input told header : List ℕ) (r₁ r₂ : ℕ) (bytes₁ bytes₂ : List ℕ) (tray₁ tray₂ : List ℕ) (told₁ told₂ : List ℕ) (header₁ header₂ : List ℕ)
+    → r₁ ≡ rooms tray told header 9 (toldAnswer (callOf bytes tray input) .number)
+    → r₂ ≡ rooms tray told header 9 (toldAnswer (callOf bytes tray input) .number)
+    → bytes₁ ≡ rooms tray told header bytes (callLeaves bytes tray input)
+    → bytes₂ ≡ rooms tray told header bytes (callLeaves bytes tray input)
+    → tray₁ ≡ rooms tray told header tray (laid (trayTold (callOf bytes tray input)) tray)
+    → tray₂ ≡ rooms tray told header tray (laid (trayTold (callOf bytes tray input)) tray)
+    → told₁ ≡ rooms tray told header told (laid (toldAnswer (callOf bytes tray input) .numbers) told)
+    → told₂ ≡ rooms tray told header told (laid (toldAnswer (callOf bytes tray input) .numbers) told)
+    → header₁ ≡ rooms tray told header header (laid (headerTold (callOf bytes tray input)) header)
+    → header₂ ≡ rooms tray told header header (laid (headerTold (callOf bytes tray input)) header)
+    → (r₁ ≡ r₂) × (bytes₁ ≡ bytes₂) × (tray₁ ≡ tray₂) × (told₁ ≡ told₂) × (header₁ ≡ header₂)
+stream-call-determined bytes tray input told header r₁ r₂ bytes₁ bytes₂ tray₁ tray₂ told₁ told₂ header₁ header₂ e0₁ e0₂ e1₁ e1₂ e2₁ e2₂ e3₁ e3₂ e4₁ e4₂ = (e0₁ ∙ sym e0₂, e1₁ ∙ sym e1₂, e2₁ ∙ sym e2₂, e3₁ ∙ sym e3₂, e4₁ ∙ sym e4₂)
+
+pub stream-finish-determined : (bytes tray told header : List ℕ) (r₁ r₂ : ℕ) (bytes₁ bytes₂ : List ℕ) (tray₁ tray₂ : List ℕ) (told₁ told₂ : List ℕ) (header₁ header₂ : List ℕ)
+    → r₁ ≡ rooms tray told header 9 (toldAnswer (finishOf bytes tray) .number)
+    → r₂ ≡ rooms tray told header 9 (toldAnswer (finishOf bytes tray) .number)
+    → bytes₁ ≡ rooms tray told header bytes (finishLeaves bytes tray)
+    → bytes₂ ≡ rooms tray told header bytes (finishLeaves bytes tray)
+    → tray₁ ≡ rooms tray told header tray (laid (trayTold (finishOf bytes tray)) tray)
+    → tray₂ ≡ rooms tray told header tray (laid (trayTold (finishOf bytes tray)) tray)
+    → told₁ ≡ rooms tray told header told (laid (toldAnswer (finishOf bytes tray) .numbers) told)
+    → told₂ ≡ rooms tray told header told (laid (toldAnswer (finishOf bytes tray) .numbers) told)
+    → header₁ ≡ rooms tray told header header (laid (headerTold (finishOf bytes tray)) header)
+    → header₂ ≡ rooms tray told header header (laid (headerTold (finishOf bytes tray)) header)
+    → (r₁ ≡ r₂) × (bytes₁ ≡ bytes₂) × (tray₁ ≡ tray₂) × (told₁ ≡ told₂) × (header₁ ≡ header₂)
+stream-finish-determined bytes tray told header r₁ r₂ bytes₁ bytes₂ tray₁ tray₂ told₁ told₂ header₁ header₂ e0₁ e0₂ e1₁ e1₂ e2₁ e2₂ e3₁ e3₂ e4₁ e4₂ = (e0₁ ∙ sym e0₂, e1₁ ∙ sym e1₂, e2₁ ∙ sym e2₂, e3₁ ∙ sym e3₂, e4₁ ∙ sym e4₂)

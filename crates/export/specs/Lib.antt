@@ -4,4 +4,7 @@ pub mod Payloads
 pub mod Streams
 pub mod Books
 pub mod Meanings
+pub mod Stored
 pub mod Determined
+pub mod Back
+pub mod Theorems

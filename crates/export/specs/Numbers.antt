@@ -28,6 +28,10 @@ roomFor size lent short rest = cond (ltb (length lent) size) short rest
 unfoldable pub laid : List ℕ → List ℕ → List ℕ
 laid numbers lent = numbers ++ drop (length numbers) lent
 
+-- nothing is written where there are fewer places than numbers
+unfoldable pub stored : List ℕ → List ℕ → List ℕ
+stored numbers lent = roomFor (length numbers) lent lent (laid numbers lent)
+
 -- the number of a call that is lent a slice for the further numbers, and that slice afterwards
 unfoldable pub answered : ℕ → List ℕ → Told → ℕ
 answered size lent told = roomFor size lent room (told .number)

@@ -2,9 +2,10 @@
 ghost use mathlib.Core.Path.{_≡_};
 ghost use Prim.Native.Nat.{_≤_, _+_, _-_};
 ghost use lib.ListN.{length};
-ghost use Rattle.export.specs.Numbers.{roomFor, laid, answered, lentAfter, atMost};
+ghost use Rattle.export.specs.Numbers.{roomFor, laid, stored, answered, lentAfter, atMost};
 ghost use Rattle.export.specs.Books.{bookRoom, bookIn, bookOf, takeOf, takeLeaves, toldTaken, keptOf, keptLeaves, toldKept, readOf, readLeaves, toldRead};
 use crate::numbers::ROOM;
+use crate::numbers::at;
 use crate::numbers::count;
 use crate::numbers::put;
 use book::Book;
@@ -41,29 +42,26 @@ pub fn aiou_of(x: u8) -> u64
     (x - 1) as u64
 }
 
-// The book that two numbers say. Internal, as `put_book`: the calls here and in the crates above have tested ROOM.
+// The book that two numbers say.
 pub fn book_in(book: &[u64]) -> Book
-    requires { ⌜ bookRoom ≤ length (now book) ⌝ }
     ensures { λ r. ⌜ r ≡ bookIn (now (book .entry)) ⌝ }
 {
-    let areas = book[1];
+    let areas = at(book, 1);
     if areas == 0 {
         return book::no_book();
     }
-    book::book_of(aiou_in(book[0]), size(areas))
+    book::book_of(aiou_in(at(book, 0)), size(areas))
 }
 
 // A book's numbers into the places from the start on.
 pub fn put_book(held: Book, book: &mut [u64])
-    requires { ⌜ bookRoom ≤ length (now book) ⌝ }
-    ensures { λ _. ⌜ now (book .exit) ≡ laid (bookOf held) (now (book .entry)) ⌝ }
+    ensures { λ _. ⌜ now (book .exit) ≡ stored (bookOf held) (now (book .entry)) ⌝ }
 {
     let numbers = [aiou_of(held.aiou_plus_one), count(held.count)];
     put(&numbers, book);
 }
 
 fn take(book: &[u64], bytes: &mut [u8], payload: &[u8]) -> Taken
-    requires { ⌜ bookRoom ≤ length (now book) ⌝ }
     ensures { λ r. ⌜ r ≡ takeOf (now (book .entry)) (now (bytes .entry)) (now (payload .entry)) ⌝ }
     ensures { λ _. ⌜ now (bytes .exit) ≡ takeLeaves (now (book .entry)) (now (bytes .entry)) (now (payload .entry)) ⌝ }
 {
@@ -150,7 +148,6 @@ fn tell_kept(answer: Written, written: &mut [u64]) -> u8
 }
 
 fn write(book: &[u64], bytes: &[u8], out: &mut [u8]) -> Written
-    requires { ⌜ bookRoom ≤ length (now book) ⌝ }
     ensures { λ r. ⌜ r ≡ keptOf (now (book .entry)) (now (bytes .entry)) (now (out .entry)) ⌝ }
     ensures { λ _. ⌜ now (out .exit) ≡ keptLeaves (now (book .entry)) (now (bytes .entry)) (now (out .entry)) ⌝ }
 {

@@ -4,7 +4,7 @@ ghost use Prim.Native.Nat.{_≤_};
 ghost use lib.ListN.{length};
 ghost use Rattle.frame.specs.Check.{checked};
 ghost use Rattle.frame.specs.Write.{written, outAfter};
-ghost use Rattle.export.specs.Numbers.{roomFor, laid, answered, lentAfter};
+ghost use Rattle.export.specs.Numbers.{roomFor, laid, stored, answered, lentAfter};
 ghost use Rattle.export.specs.Frames.{headerRoom, isSealed, sealingOf, headerOf, toldChecked, partsOf, toldWritten};
 use crate::numbers::ROOM;
 use crate::numbers::count;
@@ -68,10 +68,9 @@ fn header_of(frame: Frame) -> [u64; 15]
     ]
 }
 
-// A header into the places from the start on. Internal: the calls here and in the crates above have tested ROOM.
+// A header into the places from the start on.
 pub fn put_header(frame: Frame, header: &mut [u64])
-    requires { ⌜ headerRoom ≤ length (now header) ⌝ }
-    ensures { λ _. ⌜ now (header .exit) ≡ laid (headerOf frame) (now (header .entry)) ⌝ }
+    ensures { λ _. ⌜ now (header .exit) ≡ stored (headerOf frame) (now (header .entry)) ⌝ }
 {
     let numbers = header_of(frame);
     put(&numbers, header);

@@ -3,12 +3,13 @@ ghost use mathlib.Core.Path.{_≡_};
 ghost use Prim.Native.Nat.{_≤_};
 ghost use lib.ListN.{length};
 ghost use Rattle.sizes.specs.Sizes.{mostNoise};
-ghost use Rattle.export.specs.Numbers.{laid, atMost};
+ghost use Rattle.export.specs.Numbers.{laid, stored, atMost};
 ghost use Rattle.export.specs.Frames.{headerRoom};
 ghost use Rattle.export.specs.Streams.{trayRoom, toldRoom, rooms, trayIn, trayOf, eventOf, callOf, callLeaves, finishOf, finishLeaves, toldAnswer, trayTold, headerTold};
 use crate::frames::HEADER;
 use crate::frames::put_header;
 use crate::numbers::ROOM;
+use crate::numbers::at;
 use crate::numbers::count;
 use crate::numbers::put;
 use stream::Answer;
@@ -42,22 +43,20 @@ fn size(x: u64) -> usize
     x as usize
 }
 
-// The tray that three numbers say. Internal, as `put_tray`: the calls here and in the crates above have tested ROOM.
+// The tray that three numbers say.
 pub fn tray_in(tray: &[u64]) -> Tray
-    requires { ⌜ trayRoom ≤ length (now tray) ⌝ }
     ensures { λ r. ⌜ r ≡ trayIn (now (tray .entry)) ⌝ }
 {
     Tray {
-        held: size(tray[0]),
-        shown: size(tray[1]),
-        noise: noise_in(tray[2]),
+        held: size(at(tray, 0)),
+        shown: size(at(tray, 1)),
+        noise: noise_in(at(tray, 2)),
     }
 }
 
 // A tray's numbers into the places from the start on.
 pub fn put_tray(held: Tray, tray: &mut [u64])
-    requires { ⌜ trayRoom ≤ length (now tray) ⌝ }
-    ensures { λ _. ⌜ now (tray .exit) ≡ laid (trayOf held) (now (tray .entry)) ⌝ }
+    ensures { λ _. ⌜ now (tray .exit) ≡ stored (trayOf held) (now (tray .entry)) ⌝ }
 {
     let numbers = [count(held.held), count(held.shown), noise_count(held.noise)];
     put(&numbers, tray);
@@ -107,7 +106,6 @@ fn tell(answer: Answer, tray: &mut [u64], told: &mut [u64], header: &mut [u64]) 
 }
 
 fn call(bytes: &mut [u8], tray: &[u64], input: &[u8]) -> Answer
-    requires { ⌜ trayRoom ≤ length (now tray) ⌝ }
     ensures { λ r. ⌜ r ≡ callOf (now (bytes .entry)) (now (tray .entry)) (now (input .entry)) ⌝ }
     ensures { λ _. ⌜ now (bytes .exit) ≡ callLeaves (now (bytes .entry)) (now (tray .entry)) (now (input .entry)) ⌝ }
 {
@@ -116,7 +114,6 @@ fn call(bytes: &mut [u8], tray: &[u64], input: &[u8]) -> Answer
 }
 
 fn finish(bytes: &mut [u8], tray: &[u64]) -> Answer
-    requires { ⌜ trayRoom ≤ length (now tray) ⌝ }
     ensures { λ r. ⌜ r ≡ finishOf (now (bytes .entry)) (now (tray .entry)) ⌝ }
     ensures { λ _. ⌜ now (bytes .exit) ≡ finishLeaves (now (bytes .entry)) (now (tray .entry)) ⌝ }
 {

@@ -55,8 +55,12 @@ module _ (flag tag aiou areas : ℕ) where
   unfolding runIn
   run-open book h p = let z : eqb flag 0 ≡ false = ne-eqb _ _ h in rw z (ap (λ (b : Book). Open tag b) p)
 
-pub desk-in : (s : List ℕ) (a b : ℕ) (c : Constellation) (book : Book) (run : Run) → a ≡ solutionIn (getD s 0 0) (getD s 2 0) (getD s 5 0) → b ≡ atMost 16 (getD s 1 0)
-    → c ≡ constellationIn (getD s 2 0) → book ≡ bookIn (getD s 3 0 ∷ getD s 4 0 ∷ []) → run ≡ runIn (getD s 5 0) (getD s 6 0) (getD s 7 0) (getD s 8 0)
+pub desk-in : (s : List ℕ) (a b : ℕ) (c : Constellation) (book : Book) (run : Run) (n0 n1 n2 n2′ n3 n4 n5 n5′ n6 n7 n8 : ℕ)
+    → a ≡ solutionIn n0 n2 n5 → n0 ≡ getD s 0 0 → n2 ≡ getD s 2 0 → n5 ≡ getD s 5 0
+    → b ≡ atMost 16 n1 → n1 ≡ getD s 1 0
+    → c ≡ constellationIn n2′ → n2′ ≡ getD s 2 0
+    → book ≡ bookIn (n3 ∷ n4 ∷ []) → n3 ≡ getD s 3 0 → n4 ≡ getD s 4 0
+    → run ≡ runIn n5′ n6 n7 n8 → n5′ ≡ getD s 5 0 → n6 ≡ getD s 6 0 → n7 ≡ getD s 7 0 → n8 ≡ getD s 8 0
     → record { solution = a; processor = b; constellation = c; book = book; run = run } ≡ deskIn s
 unfolding deskIn
-desk-in s a b c book run p q t u v = cc
+desk-in s a b c book run n0 n1 n2 n2′ n3 n4 n5 n5′ n6 n7 n8 p e0 e2 e5 q e1 t e2′ u e3 e4 v e5′ e6 e7 e8 = cc

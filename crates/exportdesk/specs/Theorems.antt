@@ -1,32 +1,32 @@
 -- Theorems on a desk as nine numbers. A number out of its range makes a desk unsound; numbers that a flag makes meaningless do not count. A sound desk
 -- that is written and read again is the same desk, so calls in a row are what they are to `desk`. Proved; assumes nothing.
-use mathlib.Core.Path.{_≡_, refl, ap, ap₂, sym, _∙_}
-use mathlib.Core.Bool.{Bool, true, false, cond, _&&_, Bool·beq}
+use mathlib.Core.Path.{_≡_, refl, ap, _∙_}
+use mathlib.Core.Bool.{Bool, true, false, cond, _&&_}
 use mathlib.Core.List.{List, [], _∷_}
-use Prim.Native.Nat.{ℕ, _+_, _-_, _≤_, _<_}
-use native.Mathlib.Nat.{pos-of-ne-zero}
+use Prim.Native.Nat.{ℕ, _-_, _≤_, _<_}
 use native.Mathlib.Omega.{arith}
 use lib.Dec.{ltb, leb, eqb}
 use lib.ListN.{getD}
-use borrow.Author.Tests.{lt-ltb, le-ltb, ltb-true, le-leb, lt-leb, eqb-true, eqb-false, ne-eqb}
+use borrow.Author.Tests.{le-ltb, ltb-true, le-leb, lt-leb, ne-eqb}
 use Rattle.area.specs.Laws.{both-left, both-right}
 use Rattle.codes.specs.Tables.{rowOf}
 use Rattle.codes.specs.declared.Constellation.{Constellation}
 use Rattle.codes.specs.declared.Constellation.the-variants.{Gps, Glonass, Galileo, BeiDou, Qzss}
-use Rattle.sizes.specs.Sizes.{mostAreas, tags}
-use Rattle.book.specs.Book.{bookOf, noBook, headSound, sound}
-use Rattle.book.specs.Laws.{head-parts, sound-head}
+use Rattle.sizes.specs.Sizes.{tags}
+use Rattle.book.specs.Book.{sound}
+use Rattle.book.specs.Laws.{sound-head}
 use Rattle.book.specs.declared.Book.{Book}
 use Rattle.desk.specs.Desk.{sourceInRange, runSound, deskSound}
 use Rattle.desk.specs.Take.{Verdict, refused, defines, continues, opens, copied, deskBy, takenBy, frameTaken, bookTaken}
 use Rattle.desk.specs.Fits.{sound-source, sound-live, sound-run, Fits, new-areas, same-run, new-run}
-use Rattle.desk.specs.History.{Held, Given, frameWith, keptBook, verdictOn, heldBy}
-use Rattle.desk.specs.Theorems.{heldSound, fits-on, stays-sound}
+use Rattle.desk.specs.History.{Held, Given, frameWith, keptBook, verdictOn, heldBy, heldSound}
+use Rattle.desk.specs.Theorems.{fits-on, stays-sound}
 use Rattle.desk.specs.declared.Desk.{Desk}
 use Rattle.desk.specs.declared.Run.{Run}
 use Rattle.desk.specs.declared.Run.the-variants.{Closed, Open}
 use Rattle.export.specs.Numbers.{laid, atMost}
 use Rattle.export.specs.Books.{bookIn}
+use Rattle.export.specs.Back.{most-under, book-back}
 use Rattle.exportdesk.specs.States.{constellationIn, solutionIn, runIn, deskIn, isOpen, tagOf, runBook, deskOf}
 use Rattle.exportdesk.specs.Desks.{toldSaid, toldTaken, takeOf, takeBookOf}
 
@@ -35,10 +35,6 @@ use Rattle.exportdesk.specs.Desks.{toldSaid, toldTaken, takeOf, takeBook
 most-over : (most x : ℕ) → most ≤ x → atMost most x ≡ most
 unfolding atMost
 most-over most x h = let z : ltb x most ≡ false = le-ltb _ _ h in rw z
-
-pub most-under : (most x : ℕ) → x < most → atMost most x ≡ x
-unfolding atMost
-most-under most x h = let z : ltb x most ≡ true = lt-ltb _ _ h in rw z
 
 never : (b : Bool) → (b && false) ≡ false
 never true = refl
@@ -103,37 +99,6 @@ module _ (solution processor constellation : ℕ) where
   closed-run aiou areas t a n u b m = refl
 
 -- ---- a desk that is written and read again
-
--- of a sound book AIOU and count are both there, or neither is
-book-back : (book : Book) → headSound book ≡ true → bookIn ((book .«aiou_plus_one» - 1) ∷ book .count ∷ []) ≡ book
-unfolding headSound bookIn
-book-back book e = go (eqb (book .count) 0) refl
-  where
-    a : ℕ
-    a = book .«aiou_plus_one»
-
-    alike : Bool·beq (eqb a 0) (eqb (book .count) 0) ≡ true
-    alike = both-left (Bool·beq (eqb a 0) (eqb (book .count) 0)) (leb a 16 && leb (book .count) mostAreas) e
-
-    none : (x : Bool) → eqb a 0 ≡ x → Bool·beq x true ≡ true → a ≡ 0
-    none true q h = eqb-true a 0 q
-    none false q h = let z : _≡_ {A = ℕ} 0 1 = cc in absurd (omega arith)
-
-    some : (x : Bool) → eqb a 0 ≡ x → Bool·beq x false ≡ true → a ≡ 0 → ⊥
-    some false q h = eqb-false a 0 q
-    some true q h = let z : _≡_ {A = ℕ} 0 1 = cc in absurd (omega arith)
-
-    go : (b : Bool) → eqb (book .count) 0 ≡ b
-        → cond b noBook (bookOf (atMost 16 (a - 1) + 1) (book .count)) ≡ book
-    go true q =
-        let h : Bool·beq (eqb a 0) true ≡ true = ap (Bool·beq (eqb a 0)) (sym q) ∙ alike in
-        ap₂ bookOf (sym (none (eqb a 0) refl h)) (sym (eqb-true (book .count) 0 q))
-    go false q =
-        let h : Bool·beq (eqb a 0) false ≡ true = ap (Bool·beq (eqb a 0)) (sym q) ∙ alike in
-        let n : a ≡ 0 → ⊥ = some (eqb a 0) refl h in
-        let k : a ≤ 16 = head-parts book e .0 in
-        let w : atMost 16 (a - 1) ≡ a - 1 = most-under 16 (a - 1) (omega (arith, pos-of-ne-zero n)) in
-        ap (λ (x : ℕ). bookOf x (book .count)) (ap (λ (x : ℕ). x + 1) w ∙ omega (arith, pos-of-ne-zero n))
 
 constellation-back : (c : Constellation) → constellationIn (rowOf c) ≡ c
 unfolding constellationIn atMost

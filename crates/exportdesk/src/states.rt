@@ -1,15 +1,14 @@
-// A desk as nine numbers. Internal: the calls have tested ROOM.
+// A desk as nine numbers.
 ghost use mathlib.Core.Path.{_≡_};
-ghost use Prim.Native.Nat.{_≤_};
-ghost use lib.ListN.{length};
-ghost use Rattle.export.specs.Numbers.{laid, atMost};
-ghost use Rattle.exportdesk.specs.States.{deskRoom, constellationIn, solutionIn, runIn, deskIn, isOpen, tagOf, runBook, deskOf};
+ghost use Rattle.export.specs.Numbers.{stored, atMost};
+ghost use Rattle.exportdesk.specs.States.{constellationIn, solutionIn, runIn, deskIn, isOpen, tagOf, runBook, deskOf};
 use book::Book;
 use codes::Constellation;
 use desk::Desk;
 use desk::Run;
 use export::books::aiou_of;
 use export::books::book_in;
+use export::numbers::at;
 use export::numbers::count;
 use export::numbers::put;
 use export::numbers::wide;
@@ -68,18 +67,17 @@ fn run_in(flag: u64, tag: u64, aiou: u64, areas: u64) -> Run
     }
 }
 
-// The desk that nine numbers say. Internal, as `put_desk`: the calls here and in crate exportprepare have tested ROOM.
+// The desk that nine numbers say.
 pub fn desk_in(desk: &[u64]) -> Desk
-    requires { ⌜ deskRoom ≤ length (now desk) ⌝ }
     ensures { λ r. ⌜ r ≡ deskIn (now (desk .entry)) ⌝ }
 {
-    let numbers = [desk[3], desk[4]];
+    let numbers = [at(desk, 3), at(desk, 4)];
     Desk {
-        solution: solution_in(desk[0], desk[2], desk[5]),
-        processor: at_most(NO_PROCESSOR, desk[1]),
-        constellation: constellation_in(desk[2]),
+        solution: solution_in(at(desk, 0), at(desk, 2), at(desk, 5)),
+        processor: at_most(NO_PROCESSOR, at(desk, 1)),
+        constellation: constellation_in(at(desk, 2)),
         book: book_in(&numbers),
-        run: run_in(desk[5], desk[6], desk[7], desk[8]),
+        run: run_in(at(desk, 5), at(desk, 6), at(desk, 7), at(desk, 8)),
     }
 }
 
@@ -132,8 +130,7 @@ fn desk_of(held: Desk) -> [u64; DESK]
 
 // The numbers of a desk into the places from the start on.
 pub fn put_desk(held: Desk, desk: &mut [u64])
-    requires { ⌜ deskRoom ≤ length (now desk) ⌝ }
-    ensures { λ _. ⌜ now (desk .exit) ≡ laid (deskOf held) (now (desk .entry)) ⌝ }
+    ensures { λ _. ⌜ now (desk .exit) ≡ stored (deskOf held) (now (desk .entry)) ⌝ }
 {
     let numbers = desk_of(held);
     put(&numbers, desk);

@@ -3,9 +3,11 @@ use Rattle.export.proofs.States.{book-empty, book-areas}
 use borrow.Author.Needs.{needs}
 use Rattle.export.proofs.books.book_in.Statement.{statement}
 use Rattle.export.proofs.books.book_in.Tie as tie
+use Rattle.book.proofs.book_of.Reads as book-of-reads
+use Rattle.book.proofs.no_book.Reads as no-book-reads
 
-shared-slice-read-areas : tie.Need-shared-slice-read-areas
-shared-slice-read-areas c = search needs
+at-requires : tie.Need-at-requires
+at-requires c κs = search needs
 
 no-book-requires : tie.Need-no-book-requires
 no-book-requires c κs = search needs
@@ -13,8 +15,8 @@ no-book-requires c κs = search needs
 returns : tie.Need-returns
 returns c = search (book-empty, needs)
 
-shared-slice-read-aiou-in : tie.Need-shared-slice-read-aiou-in
-shared-slice-read-aiou-in c = search needs
+at-requires-2 : tie.Need-at-requires-2
+at-requires-2 c κs = search needs
 
 aiou-in-requires : tie.Need-aiou-in-requires
 aiou-in-requires c κs = search needs
@@ -32,10 +34,10 @@ pub book-in-spec : {M : Type 1} → statement M
 book-in-spec =
     tie.close
     (tie.spec
-    shared-slice-read-areas
+    at-requires
     no-book-requires
     returns
-    shared-slice-read-aiou-in
+    at-requires-2
     aiou-in-requires
     size-requires
     book-of-requires

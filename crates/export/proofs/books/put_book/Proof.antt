@@ -1,6 +1,7 @@
 -- Both numbers are the book's.
 use Rattle.export.specs.Books.{bookOf}
-use Rattle.export.proofs.Laws.{laid-as, cons-as}
+use Rattle.export.proofs.Laws.{cons-as}
+use Rattle.export.specs.Stored.{stored-as}
 use borrow.Author.Needs.{needs}
 use Rattle.export.proofs.books.put_book.Statement.{statement}
 use Rattle.export.proofs.books.put_book.Tie as tie
@@ -22,7 +23,7 @@ same-length c = search needs
 
 returns : tie.Need-returns
 unfolding bookOf
-returns c = search (laid-as, cons-as, needs)
+returns c = search (stored-as, cons-as, needs)
 
 pub put-book-spec : {M : Type 1} → statement M
 put-book-spec =

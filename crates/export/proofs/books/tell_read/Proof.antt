@@ -1,6 +1,7 @@
 -- A case for each answer.
 use Rattle.export.specs.Books.{toldRead}
 use Rattle.export.proofs.Laws.{number-in, numbers-in, laid-none}
+use Rattle.export.specs.Stored.{book-there}
 use borrow.Author.Needs.{needs}
 use Rattle.export.proofs.books.tell_read.Statement.{statement}
 use Rattle.export.proofs.books.tell_read.Tie as tie
@@ -22,7 +23,7 @@ same-length c = search needs
 
 returns : tie.Need-returns
 unfolding toldRead
-returns c = search (number-in toldRead, numbers-in toldRead, needs)
+returns c = search (number-in toldRead, numbers-in toldRead, book-there, needs)
 
 returns-2 : tie.Need-returns-2
 unfolding toldRead

@@ -1,6 +1,7 @@
 -- A case for each answer.
 use Rattle.export.specs.Books.{toldTaken}
 use Rattle.export.proofs.Laws.{number-in, numbers-in, laid-none}
+use Rattle.export.specs.Stored.{book-there}
 use borrow.Author.Needs.{needs}
 use Rattle.export.proofs.books.tell_taken.Statement.{statement}
 use Rattle.export.proofs.books.tell_taken.Tie as tie
@@ -22,7 +23,7 @@ same-length c = search needs
 
 returns : tie.Need-returns
 unfolding toldTaken
-returns c = search (number-in toldTaken, numbers-in toldTaken, needs)
+returns c = search (number-in toldTaken, numbers-in toldTaken, book-there, needs)
 
 returns-2 : tie.Need-returns-2
 unfolding toldTaken

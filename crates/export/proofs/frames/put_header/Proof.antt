@@ -1,5 +1,5 @@
 -- The numbers are the header's.
-use Rattle.export.proofs.Laws.{laid-as}
+use Rattle.export.specs.Stored.{stored-as}
 use borrow.Author.Needs.{needs}
 use Rattle.export.proofs.frames.put_header.Statement.{statement}
 use Rattle.export.proofs.frames.put_header.Tie as tie
@@ -17,7 +17,7 @@ same-length : tie.Need-same-length
 same-length c = search needs
 
 returns : tie.Need-returns
-returns c = search (laid-as, needs)
+returns c = search (stored-as, needs)
 
 pub put-header-spec : {M : Type 1} → statement M
 put-header-spec = tie.close (tie.spec header-of-requires slice-aggregate-put put-requires same-length returns)

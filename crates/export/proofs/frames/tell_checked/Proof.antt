@@ -1,6 +1,7 @@
 -- A case for each answer.
 use Rattle.export.specs.Frames.{toldChecked}
 use Rattle.export.proofs.Laws.{number-in, numbers-in, laid-none}
+use Rattle.export.specs.Stored.{header-there}
 use borrow.Author.Needs.{needs}
 use Rattle.export.proofs.frames.tell_checked.Statement.{statement}
 use Rattle.export.proofs.frames.tell_checked.Tie as tie
@@ -25,7 +26,7 @@ same-length c = search needs
 
 returns : tie.Need-returns
 unfolding toldChecked
-returns c = search (number-in toldChecked, numbers-in toldChecked, needs)
+returns c = search (number-in toldChecked, numbers-in toldChecked, header-there, needs)
 
 returns-2 : tie.Need-returns-2
 unfolding toldChecked

@@ -1,6 +1,7 @@
 -- A case for each answer.
 use Rattle.export.specs.Payloads.{toldRead}
-use Rattle.export.proofs.Laws.{number-in, numbers-in, laid-none, laid-as, cons-as}
+use Rattle.export.proofs.Laws.{number-in, numbers-in, laid-none, cons-as}
+use Rattle.export.specs.Stored.{laid-there}
 use borrow.Author.Needs.{needs}
 use Rattle.export.proofs.payloads.tell_read.Statement.{statement}
 use Rattle.export.proofs.payloads.tell_read.Tie as tie
@@ -31,7 +32,7 @@ same-length c = search needs
 
 returns : tie.Need-returns
 unfolding toldRead
-returns c = search (number-in toldRead, numbers-in toldRead, laid-as, cons-as, needs)
+returns c = search (number-in toldRead, numbers-in toldRead, laid-there, cons-as, needs)
 
 returns-2 : tie.Need-returns-2
 unfolding toldRead

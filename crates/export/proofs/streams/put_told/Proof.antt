@@ -1,6 +1,7 @@
 -- The three numbers of an event.
 use Rattle.export.specs.Streams.{eventOf}
-use Rattle.export.proofs.Laws.{laid-as, cons-as}
+use Rattle.export.proofs.Laws.{cons-as}
+use Rattle.export.specs.Stored.{laid-there}
 use borrow.Author.Needs.{needs}
 use Rattle.export.proofs.streams.put_told.Statement.{statement}
 use Rattle.export.proofs.streams.put_told.Tie as tie
@@ -19,7 +20,7 @@ same-length c = search needs
 
 returns : tie.Need-returns
 unfolding eventOf
-returns c = search (laid-as, cons-as, needs)
+returns c = search (laid-there, cons-as, needs)
 
 pub put-told-spec : {M : Type 1} → statement M
 put-told-spec =

@@ -1,6 +1,7 @@
 -- The three numbers of a tray.
 use Rattle.export.specs.Streams.{trayOf}
-use Rattle.export.proofs.Laws.{laid-as, cons-as}
+use Rattle.export.proofs.Laws.{cons-as}
+use Rattle.export.specs.Stored.{stored-as}
 use borrow.Author.Needs.{needs}
 use Rattle.export.proofs.streams.put_tray.Statement.{statement}
 use Rattle.export.proofs.streams.put_tray.Tie as tie
@@ -25,7 +26,7 @@ same-length c = search needs
 
 returns : tie.Need-returns
 unfolding trayOf
-returns c = search (laid-as, cons-as, needs)
+returns c = search (stored-as, cons-as, needs)
 
 pub put-tray-spec : {M : Type 1} → statement M
 put-tray-spec =

@@ -2,6 +2,7 @@
 use Rattle.export.specs.Streams.{toldSaid, traySaid, headerSaid}
 use Rattle.export.proofs.Laws.{laid-none}
 use Rattle.export.proofs.States.{said-number, said-tray, said-told, said-header, event-as}
+use Rattle.export.specs.Stored.{tray-there, header-there}
 use borrow.Author.Needs.{needs}
 use Rattle.export.proofs.streams.tell.Statement.{statement}
 use Rattle.export.proofs.streams.tell.Tie as tie
@@ -62,7 +63,7 @@ same-length-2 c = search needs
 
 returns : tie.Need-returns
 unfolding toldSaid traySaid headerSaid
-returns c = (search (said-number, needs), (search (said-tray, needs), (search (said-told, needs), search (said-header, laid-none, needs))))
+returns c = (search (said-number, needs), (search (said-tray, tray-there, needs), (search (said-told, needs), search (said-header, laid-none, needs))))
 
 same-length-3 : tie.Need-same-length-3
 same-length-3 c = search needs
@@ -75,7 +76,7 @@ same-length-5 c = search needs
 
 returns-2 : tie.Need-returns-2
 unfolding toldSaid traySaid headerSaid
-returns-2 c = (search (said-number, needs), (search (said-tray, needs), (search (said-told, needs), search (said-header, needs))))
+returns-2 c = (search (said-number, needs), (search (said-tray, tray-there, needs), (search (said-told, needs), search (said-header, header-there, needs))))
 
 same-length-6 : tie.Need-same-length-6
 same-length-6 c = search needs
@@ -85,7 +86,7 @@ same-length-7 c = search needs
 
 returns-3 : tie.Need-returns-3
 unfolding toldSaid traySaid headerSaid
-returns-3 c = (search (said-number, needs), (search (said-tray, needs), (search (said-told, event-as, needs), search (said-header, laid-none, needs))))
+returns-3 c = (search (said-number, needs), (search (said-tray, tray-there, needs), (search (said-told, event-as, needs), search (said-header, laid-none, needs))))
 
 same-length-8 : tie.Need-same-length-8
 same-length-8 c = search needs
@@ -95,7 +96,7 @@ same-length-9 c = search needs
 
 returns-4 : tie.Need-returns-4
 unfolding toldSaid traySaid headerSaid
-returns-4 c = (search (said-number, needs), (search (said-tray, needs), (search (said-told, needs), search (said-header, laid-none, needs))))
+returns-4 c = (search (said-number, needs), (search (said-tray, tray-there, needs), (search (said-told, needs), search (said-header, laid-none, needs))))
 
 returns-5 : tie.Need-returns-5
 unfolding toldSaid traySaid headerSaid

@@ -2,7 +2,8 @@
 use Rattle.export.specs.Numbers.{laid}
 use Rattle.exportdesk.specs.Desks.{logTold}
 use Rattle.desk.specs.declared.Said.{Said}
-use Rattle.export.proofs.Laws.{arm-of, laid-as, cons-as, laid-none}
+use Rattle.export.proofs.Laws.{arm-of, cons-as, laid-none}
+use Rattle.export.specs.Stored.{laid-there}
 use borrow.Author.Needs.{needs}
 use Rattle.exportdesk.proofs.desks.tell_log.Statement.{statement}
 use Rattle.exportdesk.proofs.desks.tell_log.Tie as tie
@@ -27,7 +28,7 @@ same-length c = search needs
 
 returns : tie.Need-returns
 unfolding logTold
-returns c = search (arm-of (λ (s : Said). laid (logTold s)), laid-as, cons-as, needs)
+returns c = search (arm-of (λ (s : Said). laid (logTold s)), laid-there, cons-as, needs)
 
 returns-2 : tie.Need-returns-2
 unfolding logTold

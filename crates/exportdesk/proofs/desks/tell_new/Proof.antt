@@ -1,6 +1,7 @@
 -- A case for each answer.
 use Rattle.exportdesk.specs.Desks.{toldNew}
 use Rattle.export.proofs.Laws.{number-in, numbers-in, laid-none}
+use Rattle.exportdesk.specs.Stored.{desk-there}
 use borrow.Author.Needs.{needs}
 use Rattle.exportdesk.proofs.desks.tell_new.Statement.{statement}
 use Rattle.exportdesk.proofs.desks.tell_new.Tie as tie
@@ -22,7 +23,7 @@ same-length c = search needs
 
 returns : tie.Need-returns
 unfolding toldNew
-returns c = search (number-in toldNew, numbers-in toldNew, needs)
+returns c = search (number-in toldNew, numbers-in toldNew, desk-there, needs)
 
 returns-2 : tie.Need-returns-2
 unfolding toldNew

@@ -2,6 +2,7 @@
 use Rattle.exportdesk.specs.Desks.{toldSaid}
 use Rattle.export.proofs.Laws.{laid-none}
 use Rattle.exportdesk.proofs.Telling.{said-number, said-numbers}
+use Rattle.exportdesk.specs.Stored.{desk-there}
 use borrow.Author.Needs.{needs}
 use Rattle.exportdesk.proofs.desks.tell_taken.Statement.{statement}
 use Rattle.exportdesk.proofs.desks.tell_taken.Tie as tie
@@ -23,7 +24,7 @@ same-length c = search needs
 
 returns : tie.Need-returns
 unfolding toldSaid
-returns c = search (said-number, said-numbers, needs)
+returns c = search (said-number, said-numbers, desk-there, needs)
 
 returns-2 : tie.Need-returns-2
 unfolding toldSaid

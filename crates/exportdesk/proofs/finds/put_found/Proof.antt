@@ -1,6 +1,7 @@
 -- The count of bytes.
 use Rattle.exportdesk.specs.Finds.{countOf}
-use Rattle.export.proofs.Laws.{laid-as, cons-as}
+use Rattle.export.proofs.Laws.{cons-as}
+use Rattle.export.specs.Stored.{laid-there}
 use borrow.Author.Needs.{needs}
 use Rattle.exportdesk.proofs.finds.put_found.Statement.{statement}
 use Rattle.exportdesk.proofs.finds.put_found.Tie as tie
@@ -19,7 +20,7 @@ same-length c = search needs
 
 returns : tie.Need-returns
 unfolding countOf
-returns c = search (laid-as, cons-as, needs)
+returns c = search (laid-there, cons-as, needs)
 
 pub put-found-spec : {M : Type 1} → statement M
 put-found-spec =

@@ -4,32 +4,32 @@ use borrow.Author.Needs.{needs}
 use Rattle.exportdesk.proofs.states.desk_in.Statement.{statement}
 use Rattle.exportdesk.proofs.states.desk_in.Tie as tie
 
-shared-slice-read-solution-in : tie.Need-shared-slice-read-solution-in
-shared-slice-read-solution-in c = search needs
+at-requires : tie.Need-at-requires
+at-requires c κs = search needs
 
-shared-slice-read-solution-in-2 : tie.Need-shared-slice-read-solution-in-2
-shared-slice-read-solution-in-2 c = search needs
+at-requires-2 : tie.Need-at-requires-2
+at-requires-2 c κs = search needs
 
-shared-slice-read-solution-in-3 : tie.Need-shared-slice-read-solution-in-3
-shared-slice-read-solution-in-3 c = search needs
+at-requires-3 : tie.Need-at-requires-3
+at-requires-3 c κs = search needs
 
-shared-slice-read-solution-in-4 : tie.Need-shared-slice-read-solution-in-4
-shared-slice-read-solution-in-4 c = search needs
+at-requires-4 : tie.Need-at-requires-4
+at-requires-4 c κs = search needs
 
-shared-slice-read-solution-in-5 : tie.Need-shared-slice-read-solution-in-5
-shared-slice-read-solution-in-5 c = search needs
+at-requires-5 : tie.Need-at-requires-5
+at-requires-5 c κs = search needs
 
 solution-in-requires : tie.Need-solution-in-requires
 solution-in-requires c κs = search needs
 
-shared-slice-read-at-most : tie.Need-shared-slice-read-at-most
-shared-slice-read-at-most c = search needs
+at-requires-6 : tie.Need-at-requires-6
+at-requires-6 c κs = search needs
 
 at-most-requires : tie.Need-at-most-requires
 at-most-requires c κs = search needs
 
-shared-slice-read-constellation-in : tie.Need-shared-slice-read-constellation-in
-shared-slice-read-constellation-in c = search needs
+at-requires-7 : tie.Need-at-requires-7
+at-requires-7 c κs = search needs
 
 constellation-in-requires : tie.Need-constellation-in-requires
 constellation-in-requires c κs = search needs
@@ -40,17 +40,17 @@ slice-aggregate-book-in c = search needs
 book-in-requires : tie.Need-book-in-requires
 book-in-requires c κs = search needs
 
-shared-slice-read-run-in : tie.Need-shared-slice-read-run-in
-shared-slice-read-run-in c = search needs
+at-requires-8 : tie.Need-at-requires-8
+at-requires-8 c κs = search needs
 
-shared-slice-read-run-in-2 : tie.Need-shared-slice-read-run-in-2
-shared-slice-read-run-in-2 c = search needs
+at-requires-9 : tie.Need-at-requires-9
+at-requires-9 c κs = search needs
 
-shared-slice-read-run-in-3 : tie.Need-shared-slice-read-run-in-3
-shared-slice-read-run-in-3 c = search needs
+at-requires-10 : tie.Need-at-requires-10
+at-requires-10 c κs = search needs
 
-shared-slice-read-run-in-4 : tie.Need-shared-slice-read-run-in-4
-shared-slice-read-run-in-4 c = search needs
+at-requires-11 : tie.Need-at-requires-11
+at-requires-11 c κs = search needs
 
 run-in-requires : tie.Need-run-in-requires
 run-in-requires c κs = search needs
@@ -62,21 +62,21 @@ pub desk-in-spec : {M : Type 1} → statement M
 desk-in-spec =
     tie.close
     (tie.spec
-    shared-slice-read-solution-in
-    shared-slice-read-solution-in-2
-    shared-slice-read-solution-in-3
-    shared-slice-read-solution-in-4
-    shared-slice-read-solution-in-5
+    at-requires
+    at-requires-2
+    at-requires-3
+    at-requires-4
+    at-requires-5
     solution-in-requires
-    shared-slice-read-at-most
+    at-requires-6
     at-most-requires
-    shared-slice-read-constellation-in
+    at-requires-7
     constellation-in-requires
     slice-aggregate-book-in
     book-in-requires
-    shared-slice-read-run-in
-    shared-slice-read-run-in-2
-    shared-slice-read-run-in-3
-    shared-slice-read-run-in-4
+    at-requires-8
+    at-requires-9
+    at-requires-10
+    at-requires-11
     run-in-requires
     returns)

@@ -1,5 +1,5 @@
 -- The nine numbers of a desk.
-use Rattle.export.proofs.Laws.{laid-as}
+use Rattle.export.specs.Stored.{stored-as}
 use borrow.Author.Needs.{needs}
 use Rattle.exportdesk.proofs.states.put_desk.Statement.{statement}
 use Rattle.exportdesk.proofs.states.put_desk.Tie as tie
@@ -17,7 +17,7 @@ same-length : tie.Need-same-length
 same-length c = search needs
 
 returns : tie.Need-returns
-returns c = search (laid-as, needs)
+returns c = search (stored-as, needs)
 
 pub put-desk-spec : {M : Type 1} → statement M
 put-desk-spec =
