@@ -1,5 +1,10 @@
 pub mod Prepares
 pub mod Puts
+pub mod Driver
 pub mod Determined
 pub mod Refusals
 pub mod NextState
+pub mod Driving
+pub mod Cutting
+pub mod Along
+pub mod Theorems

@@ -13,10 +13,9 @@ use Rattle.answer.specs.declared.Refusal.the-variants as refusal
 use Rattle.area.specs.Laws.{both-left, both-right}
 use Rattle.sizes.specs.Sizes.{longestFrame, mostNoise, bookBytes}
 use Rattle.stream.specs.declared.Tray.{Tray}
-use Rattle.stream.specs.Scan.{Event, frame, noise}
 use Rattle.stream.specs.Tray.{sound, Contents, Outcome, refused, told, hungry, done, called, finished, bytesOf}
 use Rattle.stream.specs.Tray as stream
-use Rattle.stream.specs.Kept.{Kept, Good}
+use Rattle.stream.specs.Kept.{Good}
 use Rattle.stream.specs.Steps.{call-kept, end-kept}
 use Rattle.desk.specs.Desk.{deskSound}
 use Rattle.desk.specs.Take as desk
@@ -29,8 +28,9 @@ use Rattle.prepare.specs.Driver as driver
 use Rattle.prepare.specs.Stays.{sound-after}
 use Rattle.export.specs.Numbers.{laid}
 use Rattle.export.specs.Streams.{trayIn, trayOf}
+use Rattle.export.specs.Back.{tray-back, event-noise}
 use Rattle.exportdesk.specs.States.{deskIn, deskOf}
-use Rattle.exportdesk.specs.Theorems.{most-under, reads-back}
+use Rattle.exportdesk.specs.Theorems.{reads-back}
 use Rattle.exportprepare.specs.Prepares.{Lent, handedIn, noRoom, callResult, finishResult, stateSaid, leaves, lentBy, callLeaves, finishLeaves}
 use Rattle.exportprepare.specs.Refusals.{areSound, neither}
 
@@ -40,16 +40,6 @@ state bytes tray books = record { bytes = bytes; tray = tray; books = books }
 -- the state that is lent
 abbrev pub stateIn : Lent → State
 stateIn lent = state (lent .bytes) (trayIn (lent .tray)) (handedIn lent .books)
-
--- ---- a tray that is written and read again
-
-tray-back : (tray : Tray) (lent : List ℕ) → tray .noise < mostNoise → trayIn (laid (trayOf tray) lent) ≡ tray
-unfolding trayIn trayOf laid
-tray-back tray lent h = rw (most-under mostNoise (tray .noise) h)
-
-event-noise : (event : Event) (c : Contents) → Kept event c → c .noise < mostNoise
-event-noise (frame f bytes) c g = omega (arith, g .3)
-event-noise (noise n) c g = omega (arith, g .1)
 
 -- ---- an event, hungry or done leaves the states in numbers
 

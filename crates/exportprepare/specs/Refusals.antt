@@ -40,7 +40,7 @@ neither false b e = (refl, e)
 neither true b e = (e, cc)
 
 -- an event of the call, so its number is 0
-told-zero : (t : uncut.Told) (used log : ℕ) → toldSaid (saidOf t) used log .number ≡ 0
+pub told-zero : (t : uncut.Told) (used log : ℕ) → toldSaid (saidOf t) used log .number ≡ 0
 unfolding toldSaid
 told-zero (uncut.accepted header bytes entries) used log = refl
 told-zero (uncut.refused header bytes why) used log = refl

@@ -1,4 +1,6 @@
 -- Each slice is written by its own call.
+use Rattle.export.specs.Stored.{tray-there}
+use Rattle.exportdesk.specs.Stored.{desk-there}
 use borrow.Author.Needs.{needs}
 use Rattle.exportprepare.proofs.prepares.put_event.Statement.{statement}
 use Rattle.exportprepare.proofs.prepares.put_event.Tie as tie
@@ -22,7 +24,7 @@ same-length-3 : tie.Need-same-length-3
 same-length-3 c = search needs
 
 returns : tie.Need-returns
-returns c = (search needs, (search needs, search needs))
+returns c = (search (tray-there, needs), (search (desk-there, needs), search needs))
 
 pub put-event-spec : {M : Type 1} → statement M
 put-event-spec =

@@ -1,6 +1,7 @@
 -- The five numbers of an event.
 use Rattle.exportprepare.specs.Prepares.{eventOf}
-use Rattle.export.proofs.Laws.{laid-as, cons-as}
+use Rattle.export.proofs.Laws.{cons-as}
+use Rattle.export.specs.Stored.{laid-there}
 use borrow.Author.Needs.{needs}
 use Rattle.exportprepare.proofs.prepares.put_told.Statement.{statement}
 use Rattle.exportprepare.proofs.prepares.put_told.Tie as tie
@@ -25,7 +26,7 @@ same-length c = search needs
 
 returns : tie.Need-returns
 unfolding eventOf
-returns c = search (laid-as, cons-as, needs) depth 8
+returns c = search (laid-there, cons-as, needs) depth 8
 
 pub put-told-spec : {M : Type 1} → statement M
 put-told-spec =

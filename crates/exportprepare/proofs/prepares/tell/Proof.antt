@@ -2,6 +2,7 @@
 use Rattle.exportprepare.specs.Prepares.{toldSaid, stateSaid, headerSaid}
 use Rattle.export.proofs.Laws.{laid-none}
 use Rattle.exportprepare.proofs.Prepared.{puts, event-as}
+use Rattle.export.specs.Stored.{header-there}
 use borrow.Author.Needs.{needs}
 use Rattle.exportprepare.proofs.prepares.tell.Statement.{statement}
 use Rattle.exportprepare.proofs.prepares.tell.Tie as tie
@@ -81,7 +82,7 @@ same-length-7 c = search needs
 
 returns-2 : tie.Need-returns-2
 unfolding toldSaid stateSaid headerSaid
-returns-2 c = search (puts, needs)
+returns-2 c = search (puts, header-there, needs)
 
 same-length-8 : tie.Need-same-length-8
 same-length-8 c = search needs
@@ -97,7 +98,7 @@ same-length-11 c = search needs
 
 returns-3 : tie.Need-returns-3
 unfolding toldSaid stateSaid headerSaid
-returns-3 c = search (puts, event-as, needs)
+returns-3 c = search (puts, event-as, header-there, needs)
 
 same-length-12 : tie.Need-same-length-12
 same-length-12 c = search needs

@@ -1,0 +1,226 @@
+-- The theorems of crate prepare for calls of `prepare` for other languages in a row, on what is lent and as it is heard: "A byte stream cut into portions anywhere, some
+-- empty, gives the frames, noise counts, run log and closing state that document 01 lays down for the uncut stream. Each residual is placed by the area definition in
+-- force when its run opened." They are about the definitions that the contracts of homralgyu_prepare_call and homralgyu_prepare_finish cite. Proved; assumes nothing.
+use mathlib.Core.Path.{_≡_, refl, sym, ap, ap₂, _∙_, subst}
+use mathlib.Core.Bool.{false}
+use mathlib.Core.List.{List, [], _∷_, _++_, flatten}
+use Prim.Native.Nat.{ℕ, _≤_}
+use native.Mathlib.Omega.{arith}
+use lib.Dec.{ltb}
+use lib.ListN.{length, take, drop, take-append-drop}
+use borrow.Author.Tests.{ltb-false}
+use Rattle.answer.specs.Number.{numberOf}
+use Rattle.answer.specs.declared.Refusal.{Refusal}
+use Rattle.sizes.specs.Sizes.{bookBytes}
+use Rattle.stream.specs.Scan.{scan}
+use Rattle.stream.specs.Driver.{Clear, Caller, waits, hurries}
+use Rattle.desk.specs.declared.Desk.{Desk}
+use Rattle.desk.specs.declared.NewDesk.{NewDesk}
+use Rattle.desk.specs.declared.NewDesk.the-variants.{Made, Refused}
+use Rattle.desk.specs.Desk.{newDesk, deskSound}
+use Rattle.desk.specs.History.{Held, Snapshot, KeptOn}
+use Rattle.desk.specs.Theorems.{new-sound}
+use Rattle.prepare.specs.Uncut as uncut
+use Rattle.prepare.specs.Uncut.{uncutTold, uncutLog, uncutBooks, runLog}
+use Rattle.prepare.specs.Prepare.{booksIn}
+use Rattle.prepare.specs.Driver.{start}
+use Rattle.prepare.specs.Driver as driver
+use Rattle.prepare.specs.Placed.{placedLog, openingAll}
+use Rattle.prepare.specs.Theorems as prepare
+use Rattle.export.specs.Numbers.{laid, roomFor, answered, lentAfter}
+use Rattle.export.specs.Streams.{trayRoom, trayOf}
+use Rattle.exportdesk.specs.States.{deskRoom, deskIn, deskOf}
+use Rattle.exportdesk.specs.Desks.{toldNew, soundOf}
+use Rattle.exportdesk.specs.Theorems.{reads-back}
+use Rattle.exportprepare.specs.Prepares.{Lent, callNumber, finishNumber}
+use Rattle.exportprepare.specs.NextState.{state, stateIn}
+use Rattle.exportprepare.specs.Driver.{Heard, Feeds, FeedsStream, Closes, Whole, Called, none-yet, Starts, booksLent, Ends, heardOf, heardAll, entriesOf, logHeard}
+use Rattle.exportprepare.specs.Driving.{counts, no-number, longer, feeds-so, closes-so, so-feeds, so-closes}
+use Rattle.exportprepare.specs.Cutting.{into-portions}
+use Rattle.exportprepare.specs.Along.{fresh-tray, sound-whole, starts-sound, starts-fit, call-is-zero, finish-is-zero, called-fit, feeds-called, closes-called, feeds-beyond, closes-numbers}
+
+-- ---- what is heard, one behind the other, and its log
+
+heard-append : (ts us : List uncut.Told) → heardAll (ts ++ us) ≡ heardAll ts ++ heardAll us
+unfolding heardAll
+heard-append [] us = refl
+heard-append (t ∷ ts) us = ap (λ hs. heardOf t ∷ hs) (heard-append ts us)
+
+entries-heard : (t : uncut.Told) → entriesOf (heardOf t) ≡ uncut.entriesOf t
+entries-heard (uncut.accepted header bytes entries) = refl
+entries-heard (uncut.refused header bytes why) = refl
+entries-heard (uncut.noise count) = refl
+
+log-heard : (ts : List uncut.Told) → logHeard (heardAll ts) ≡ runLog ts
+unfolding logHeard heardAll runLog
+log-heard [] = refl
+log-heard (t ∷ ts) = ap₂ (λ x y. x ++ y) (entries-heard t) (log-heard ts)
+
+-- ---- what the theorems say of a stream
+
+-- what is heard is what document 01 lays down for the uncut stream, in numbers; the entries heard are the uncut stream's run log; the tray's numbers and bytes are left as
+-- they were lent; and the desk's numbers and the bytes of its books are those of the uncut stream, and read as them
+abbrev pub LaidDown : Lent → (stream : List ℕ) → (heard : List Heard) → (end : Lent) → Type 0
+LaidDown lent stream heard end =
+    (heard ≡ heardAll (uncutTold (booksLent lent) stream))
+    × (logHeard heard ≡ uncutLog (booksLent lent) stream)
+    × (Ends lent (uncutBooks (booksLent lent) stream) end)
+    × (booksLent end ≡ uncutBooks (booksLent lent) stream)
+
+-- the entries heard are those in which each message is told by the live book as it was at the moment when its run opened, and the desk that is left keeps to the same
+-- (`in-force` of crate prepare)
+abbrev pub PlacedBy : Lent → Snapshot → (stream : List ℕ) → (heard : List Heard) → (end : Lent) → Type 0
+PlacedBy lent opening stream heard end =
+    (logHeard heard ≡ placedLog (booksLent lent) opening (scan stream))
+    × KeptOn (record { held = booksLent end; opening = openingAll (booksLent lent) opening (scan stream) })
+
+module _ {lent : Lent} (s : Starts lent) where
+  starts-state : stateIn lent ≡ start (lent .bytes) (booksLent lent)
+  starts-state = ap (λ t. state (lent .bytes) t (booksLent lent)) (fresh-tray (lent .tray) (s .tray-fresh) .1)
+
+  -- the calls of `prepare` that they are
+  abbrev below : {c : Caller} {portions : List (List ℕ)} → Whole c lent portions → driver.Whole c (lent .bytes) (booksLent lent) portions
+  below {c} {portions} w =
+      let f = feeds-so (w .feeds) in
+      let g = closes-so (w .closes) in
+      record {
+        before = f .0;
+        between = stateIn (w .between);
+        feeds = subst (λ s. driver.Feeds c s portions (f .0) (stateIn (w .between))) starts-state (f .1);
+        after = g .0;
+        end = stateIn (w .end);
+        closes = g .1;
+      }
+
+  heard-below : {c : Caller} {portions : List (List ℕ)} (w : Whole c lent portions) → w .before ++ w .after ≡ heardAll (below w .before ++ below w .after)
+  heard-below w = ap₂ (λ x y. x ++ y) (feeds-so (w .feeds) .2) (closes-so (w .closes) .2) ∙ sym (heard-append (below w .before) (below w .after))
+
+  ends-so : {c : Caller} {portions : List (List ℕ)} (w : Whole c lent portions) (books : Held) → stateIn (w .end) ≡ start (lent .bytes) books → Ends lent books (w .end)
+  unfolding laid trayOf deskOf
+  ends-so w books e =
+      let x = feeds-beyond (w .feeds) in
+      let y = closes-numbers (w .closes) in
+      record {
+        tray-as-lent = y .0 ∙ ap₂ (λ t r. trayOf t ++ r) (ap (λ s. s .tray) e) (x .0) ∙ ap (λ r. r ++ drop trayRoom (lent .tray)) (sym (s .tray-fresh)) ∙ take-append-drop trayRoom (lent .tray);
+        bytes-as-lent = ap (λ s. s .bytes) e;
+        desk-is = y .1 ∙ ap₂ (λ d r. deskOf d ++ r) (ap (λ s. s .books .desk) e) (x .1);
+        live-is = ap (λ s. s .books .live) e;
+        run-is = ap (λ s. s .books .run) e;
+      }
+
+  -- However a stream is cut into portions, some of them empty.
+  pub prepared : {c : Caller} {portions : List (List ℕ)} (w : Whole c lent portions) → LaidDown lent (flatten portions) (w .before ++ w .after) (w .end)
+  prepared {portions = portions} w =
+      let x = prepare.prepared (s .bytes-clear) (starts-sound s) (below w) in
+      let h = heard-below w ∙ ap heardAll (x .0) in
+      (h, ap logHeard h ∙ log-heard (uncutTold (booksLent lent) (flatten portions)), ends-so w (uncutBooks (booksLent lent) (flatten portions)) (x .2), ap (λ s. s .books) (x .2))
+
+  -- And the calls end, whatever the portions are, with the same slices lent again and again; each with the number 0 ..
+  pub prepared-ends : {c : Caller} (portions : List (List ℕ)) → Whole c lent portions
+  prepared-ends portions =
+      let w = prepare.one-log-ends (s .bytes-clear) (starts-sound s) (lent .log) (s .rooms .log-room) portions in
+      let f = so-feeds (w .feeds) lent (starts-fit s .there) starts-state refl in
+      let g = so-closes (w .closes) (f .end) (f .there) (f .state-is) (f .log-is) in
+      record { before = heardAll (w .before); between = f .end; feeds = f .feeds; after = heardAll (w .after); end = g .end; closes = g .closes }
+
+  -- .. as it is of every call and every finish, in any order and on any input, whatever log and places are lent.
+  pub never-refused : {l : Lent} → Called lent l → ((input : List ℕ) → callNumber l input ≡ 0) × (finishNumber l ≡ 0)
+  never-refused k = let f = called-fit k (starts-fit s) in (λ input. call-is-zero _ f input, finish-is-zero _ f)
+
+  -- "Each residual is placed by the area definition in force when its run opened", if that holds of the run that is open at the start.
+  pub in-force : (opening : Snapshot) → KeptOn (record { held = booksLent lent; opening = opening }) → {c : Caller} {portions : List (List ℕ)} (w : Whole c lent portions)
+      → PlacedBy lent opening (flatten portions) (w .before ++ w .after) (w .end)
+  in-force opening k w =
+      let x = prepare.in-force (s .bytes-clear) (starts-sound s) opening k (below w) in
+      (ap logHeard (heard-below w) ∙ log-heard (below w .before ++ below w .after) ∙ x .0, x .1)
+
+  -- Both hold of a caller who hands over each time as much as it likes of what is left of the stream: it cuts the stream into portions all the same.
+  module _ {stream : List ℕ} {before after : List Heard} {between end : Lent} (f : FeedsStream lent stream before between) (g : Closes between after end) where
+    pub recut : (portions : List (List ℕ)) × (Feeds hurries lent portions before between) × (flatten portions ≡ stream)
+    recut = into-portions f
+
+    abbrev portioned : Whole hurries lent (recut .0)
+    portioned = record { before = before; between = between; feeds = recut .1; after = after; end = end; closes = g }
+
+    pub prepared-stream : LaidDown lent stream (before ++ after) end
+    prepared-stream = subst (λ stream. LaidDown lent stream (before ++ after) end) (recut .2) (prepared portioned)
+
+    pub in-force-stream : (opening : Snapshot) → KeptOn (record { held = booksLent lent; opening = opening }) → PlacedBy lent opening stream (before ++ after) end
+    in-force-stream opening k = subst (λ stream. PlacedBy lent opening stream (before ++ after) end) (recut .2) (in-force opening k portioned)
+
+  -- Before finish, once the last call has said hungry, what is heard and the states as the next call reads them depend on the joined bytes alone.
+  pub cut : {portions portions′ : List (List ℕ)} {hs hs′ : List Heard} {l l′ : Lent}
+      → Feeds waits lent portions hs l → Feeds waits lent portions′ hs′ l′ → flatten portions ≡ flatten portions′
+      → (hs ≡ hs′) × (stateIn l ≡ stateIn l′)
+  cut {portions} {portions′} {l = l} {l′} f f′ q =
+      let x = feeds-so f in
+      let y = feeds-so f′ in
+      let z = prepare.cut (s .bytes-clear) (starts-sound s)
+      (subst (λ s. driver.Feeds waits s portions (x .0) (stateIn l)) starts-state (x .1))
+      (subst (λ s. driver.Feeds waits s portions′ (y .0) (stateIn l′)) starts-state (y .1)) q in
+      (x .2 ∙ ap heardAll (z .0) ∙ sym (y .2), z .1)
+
+  -- What is heard before finish on a stream is heard first on every longer stream that begins with it.
+  pub prefix : {c : Caller} {portions portions′ : List (List ℕ)} {hs hs′ : List Heard} {l l′ : Lent}
+      → Feeds c lent portions hs l → Feeds waits lent portions′ hs′ l′ → (more : List ℕ) → flatten portions′ ≡ flatten portions ++ more
+      → (rest : List Heard) × (hs′ ≡ hs ++ rest)
+  prefix {c} {portions} {portions′} {l = l} {l′} f f′ more q =
+      let x = feeds-so f in
+      let y = feeds-so f′ in
+      let z = prepare.prefix (s .bytes-clear) (starts-sound s)
+      (subst (λ s. driver.Feeds c s portions (x .0) (stateIn l)) starts-state (x .1))
+      (subst (λ s. driver.Feeds waits s portions′ (y .0) (stateIn l′)) starts-state (y .1)) more q in
+      (heardAll (z .0), y .2 ∙ ap heardAll (z .1) ∙ heard-append (x .0) (z .0) ∙ ap (λ hs. hs ++ heardAll (z .0)) (sym (x .2)))
+
+  -- A further stream may follow: what is lent at the end may start.
+  pub starts-again : {c : Caller} {portions : List (List ℕ)} (w : Whole c lent portions) → Starts (w .end)
+  starts-again w =
+      let e = prepared w .2 in
+      let f = called-fit (closes-called (w .closes) (feeds-called (w .feeds) none-yet)) (starts-fit s) in
+      let b = f .ready .books-sound in
+      record {
+        tray-fresh = ap (take trayRoom) (e .tray-as-lent) ∙ s .tray-fresh;
+        bytes-clear = subst (λ bytes. Clear bytes) (sym (e .bytes-as-lent)) (s .bytes-clear);
+        desk-sound = sound-whole (w .end .desk) (w .end .live) (w .end .run) (f .there .desk-room) (b .live-room) (b .run-room) (b .is-sound);
+        rooms = record { log-room = f .log-room; told-room = f .there .told-room; header-room = f .there .header-room };
+      }
+
+-- The number heard of a frame that the desk refused is not 0.
+pub refused-heard : (why : Refusal) → numberOf why ≡ 0 → ⊥
+refused-heard why e = omega (arith, counts why)
+
+-- ---- a new desk may start: the numbers that homralgyu_desk_new leaves when it answers 0, with any bytes that have room for its books
+
+module _ (solution processor constellation : ℕ) (numbers live run : List ℕ) (e : answered deskRoom numbers (toldNew (newDesk solution processor constellation)) ≡ 0) where
+  abbrev pub newNumbers : List ℕ
+  newNumbers = lentAfter deskRoom numbers (toldNew (newDesk solution processor constellation))
+
+  is-made : (n : NewDesk) → newDesk solution processor constellation ≡ n → toldNew n .number ≡ 0 → (desk : Desk) × (newDesk solution processor constellation ≡ Made desk)
+  unfolding toldNew
+  is-made (Made desk) q z = (desk, q)
+  is-made (Refused why) q z = absurd (omega (arith, counts why))
+
+  parts : (ltb (length numbers) deskRoom ≡ false) × (toldNew (newDesk solution processor constellation) .number ≡ 0)
+  unfolding answered roomFor
+  parts = no-number (ltb (length numbers) deskRoom) _ e
+
+  made : (desk : Desk) × (newDesk solution processor constellation ≡ Made desk)
+  made = is-made (newDesk solution processor constellation) refl (parts .1)
+
+  numbers-are : newNumbers ≡ laid (deskOf (made .0)) numbers
+  unfolding lentAfter roomFor toldNew
+  numbers-are = rw (parts .0, made .1)
+
+  module _ (hl : bookBytes ≤ length live) where
+    reads : deskIn newNumbers ≡ made .0
+    reads = ap deskIn numbers-are ∙ reads-back (made .0) live run numbers (new-sound solution processor constellation (made .0) live run (made .1) hl)
+
+    pub new-starts : bookBytes ≤ length run → soundOf newNumbers live run ≡ 0
+    new-starts hr =
+        sound-whole newNumbers live run (subst (λ n. deskRoom ≤ length n) (sym numbers-are) (omega (arith, ltb-false (length numbers) deskRoom (parts .0), longer (deskOf (made .0)) numbers))) hl hr
+        (ap (λ d. deskSound d live run) reads ∙ new-sound solution processor constellation (made .0) live run (made .1) hl)
+
+    pub new-kept : (opening : Snapshot) → KeptOn (record { held = booksIn (deskIn newNumbers) live run; opening = opening })
+    new-kept opening =
+        subst (λ d. KeptOn (record { held = booksIn d live run; opening = opening })) (sym reads)
+        (prepare.fresh-kept solution processor constellation (made .0) (made .1) live run opening)
