@@ -1,2 +1,4 @@
+pub mod Telling
 pub mod Turns
 pub mod Digits
+pub mod Wanting

@@ -2,7 +2,7 @@
 use mathlib.Core.Path.{_≡_, refl, sym, ap, _∙_, subst}
 use mathlib.Core.List.{List, [], _∷_, _++_}
 use mathlib.Core.Bool.{Bool, true, false, not}
-use borrow.Author.Tests.{not-false}
+use borrow.Author.Tests.{not-true, not-false}
 use Prim.Native.Nat.{ℕ, _+_, _-_, _≤_, _<_, _^_}
 use native.Mathlib.Omega.{arith}
 use lib.ListN.{length, take, drop, replicate, length-drop, length-append, length-replicate}
@@ -13,33 +13,35 @@ use Rattle.stream.specs.Tray as stream
 use Rattle.stream.specs.Driver as streaming
 use Rattle.stream.specs.Driving.{left, call-event, finish-event}
 use Rattle.stream.specs.Kept.{Good}
-use Rattle.stream.specs.Steps.{call-kept, end-kept}
+use Rattle.stream.specs.Steps.{call-kept, end-kept, finished-is}
 use Rattle.stream.specs.Theorems.{call-sound, finish-sound, fresh-sound, zeros-clear, call-used}
 use Rattle.desk.specs.declared.Desk.{Desk}
 use Rattle.desk.specs.declared.NewDesk.{NewDesk}
-use Rattle.desk.specs.declared.NewDesk.the-variants.{Made}
+use Rattle.desk.specs.declared.NewDesk.the-variants.{Made, Refused}
 use Rattle.desk.specs.Desk.{newDesk}
 use Rattle.sizes.specs.Sizes.{longestFrame, bookBytes, logRoom}
 use Rattle.desk.specs.History.{Held}
 use Rattle.prepare.specs.declared.Answer.{Answer}
 use Rattle.prepare.specs.Uncut.{toldOf, entriesOf}
 use Rattle.prepare.specs.Prepare.{Handed, booksIn, hands, answerOf, booksOf, logOf, results, resultOf, callOutcome, byCall, finishOutcome, byFinish}
-use Rattle.prepare.specs.Driver.{Sound}
-use Rattle.prepare.specs.Steps.{guarded-is, back, itself, Hears}
+use Rattle.prepare.specs.Driver.{State, Sound}
+use Rattle.prepare.specs.Steps.{back, itself, Hears}
 use Rattle.prepare.specs.Stays.{sound-after}
 use Rattle.prepare.specs.Theorems as theorems
 use Rattle.runlog.specs.declared.hearing.Heard.{Heard}
-use Rattle.runlog.specs.Events.{isEvent, heardOf, countedFrom, Prepared, Hearing, Within, Step, IsNew, toTell, lastToTell}
+use Rattle.runlog.specs.declared.command.Wanted.{Wanted}
+use Rattle.runlog.specs.declared.command.Wanted.the-variants.{Log, Nothing}
+use Rattle.runlog.specs.declared.Job.{Job}
+use Rattle.runlog.specs.declared.Job.the-variants.{Run, Usage}
+use Rattle.runlog.specs.Command.{jobBy, jobOf}
+use Rattle.runlog.specs.Telling.{stateOf, Told, Ended}
+use Rattle.runlog.proofs.Telling as telling
+use Rattle.runlog.proofs.Telling.{desk-same}
+use Rattle.runlog.specs.Events.{isEvent, Prepared, Hearing, Within, Step, IsNew, toTell, lastToTell, Called, Finished, Advanced, Neared}
 
 -- ---- of any outcome: the desk is that of the books, which stay sound; the entries are in the log; and an event is one that the stream tells
 
 module _ (handed : Handed) where
-  desk-same : (o : stream.Outcome) → answerOf handed o .desk ≡ booksOf handed o .desk
-  desk-same (stream.refused r) = refl
-  desk-same (stream.told e c n) = refl
-  desk-same (stream.hungry c n) = refl
-  desk-same (stream.done c) = refl
-
   stay : (o : stream.Outcome) → Sound (handed .books) → Sound (booksOf handed o)
   stay (stream.refused r) s = s
   stay (stream.told e c n) s = sound-after s e
@@ -106,11 +108,8 @@ module _ (bytes live run log portion : List ℕ) (tray : Tray) (desk : Desk) (us
   rest : input ≡ drop used portion
   rest = take-all (length portion - used) (drop used portion) (rw length-drop (omega arith))
 
-  call-is : callOutcome (hands bytes tray desk live run log) input ≡ stream.called bytes tray input
-  unfolding callOutcome
-  call-is =
-      guarded-is (hands bytes tray desk live run log) (stream.called bytes tray input)
-      (h .prepared .tray-ready) (h .prepared .books-sound) (h .prepared .log-room)
+  abbrev call-is : callOutcome (hands bytes tray desk live run log) input ≡ stream.called bytes tray input
+  call-is = telling.call-is bytes live run log tray desk (h .prepared) input
 
   module _ (e : results a bytes′ live′ run′ log′ ≡ byCall (hands bytes tray desk live run log) input) where
     abbrev of-call : (R : List ℕ → Tray → ℕ → Type 0)
@@ -126,16 +125,16 @@ module _ (bytes live run log portion : List ℕ) (tray : Tray) (desk : Desk) (us
         = of-call (λ b t u. length (left b t (drop u input)) < length (left bytes tray input)) (omega arith) in
         rw (← drop-drop (a .used) used portion) (rw rest at x)
 
-    pub call-within : Within (used + a .used) (length portion)
+    call-within : Within (used + a .used) (length portion)
     call-within =
         let u : a .used ≤ length input = of-call (λ b t u. u ≤ length input) (call-used bytes tray input) in
         let i = h .within .inside in
         record { inside = omega (arith, ap length rest, length-drop used portion); fits = h .within .fits }
 
-    pub call-fits : a .log ≤ length log′
+    call-fits : a .log ≤ length log′
     call-fits = entries-fit bytes live run log tray desk (h .prepared) _ _ call-is bytes′ live′ run′ log′ a e
 
-    pub call-step : length log′ ≡ length log
+    call-step : length log′ ≡ length log
         → Step (toTell bytes tray used portion) bytes′ (a .tray) (a .desk) live′ run′ log′ (isEvent (a .said))
         (toTell bytes′ (a .tray) (used + a .used) portion)
     call-step l = record {
@@ -145,26 +144,15 @@ module _ (bytes live run log portion : List ℕ) (tray : Tray) (desk : Desk) (us
       fewer = call-fewer;
     }
 
--- with the bytes used of the whole portion
-module _ (used : ℕ) (a r : Answer) (e : r ≡ countedFrom used a) where
-  pub counted-step : (before : ℕ) (bytes live run log portion : List ℕ)
-      → Step before bytes (a .tray) (a .desk) live run log (isEvent (a .said)) (toTell bytes (a .tray) (used + a .used) portion)
-      → Step before bytes (r .tray) (r .desk) live run log (isEvent (r .said)) (toTell bytes (r .tray) (r .used) portion)
-  counted-step before bytes live run log portion s = rw e s
-
-  pub counted-log : (room : ℕ) → a .log ≤ room → r .log ≤ room
-  counted-log room h = rw e h
-
-  pub counted-used : (room : ℕ) → Within (used + a .used) room → Within (r .used) room
-  counted-used room w = rw e w
+    pub is-called : length log′ ≡ length log → Called bytes tray desk live run log portion used a bytes′ live′ run′ log′
+    is-called l = record { prepared = h .prepared; step = call-step l; entries-fit = call-fits; within = call-within; results-are = rw rest at e }
 
 -- ---- a finish
 
 module _ (bytes live run log : List ℕ) (tray : Tray) (desk : Desk) (p : Prepared bytes tray desk live run log)
     (bytes′ live′ run′ log′ : List ℕ) (a : Answer) where
-  finish-is : finishOutcome (hands bytes tray desk live run log) ≡ stream.finished bytes tray
-  unfolding finishOutcome
-  finish-is = guarded-is (hands bytes tray desk live run log) (stream.finished bytes tray) (p .tray-ready) (p .books-sound) (p .log-room)
+  abbrev finish-is : finishOutcome (hands bytes tray desk live run log) ≡ stream.finished bytes tray
+  finish-is = telling.finish-is bytes live run log tray desk p
 
   module _ (e : results a bytes′ live′ run′ log′ ≡ byFinish (hands bytes tray desk live run log)) where
     finish-fewer : isEvent (a .said) ≡ true → lastToTell bytes′ (a .tray) < lastToTell bytes tray
@@ -174,37 +162,39 @@ module _ (bytes live run log : List ℕ) (tray : Tray) (desk : Desk) (p : Prepar
         along bytes live run log tray desk p _ _ finish-is bytes′ live′ run′ log′ a e
         (λ b t u. length (left b t []) < length (left bytes tray [])) (omega arith)
 
-    pub finish-fits : a .log ≤ length log′
+    finish-fits : a .log ≤ length log′
     finish-fits = entries-fit bytes live run log tray desk p _ _ finish-is bytes′ live′ run′ log′ a e
 
-    pub finish-step : length log′ ≡ length log
+    finish-step : length log′ ≡ length log
         → Step (lastToTell bytes tray) bytes′ (a .tray) (a .desk) live′ run′ log′ (isEvent (a .said)) (lastToTell bytes′ (a .tray))
     finish-step l = record {
       prepared = stays bytes live run log tray desk p _ _ finish-is bytes′ live′ run′ log′ a e (finish-sound (p .tray-ready)) l;
       fewer = finish-fewer;
     }
 
+    none-used : a .used ≡ 0
+    none-used = ap (λ r. r .answer .used) e ∙ ap (λ o. answerOf (hands bytes tray desk live run log) o .used) (finish-is ∙ finished-is bytes tray (p .tray-ready))
+        ∙ go (stream.close (stream.live (stream.contents bytes tray)) (tray .noise))
+      where
+        go : (d : stream.Decision) → answerOf (hands bytes tray desk live run log) (stream.closeEnd d) .used ≡ 0
+        go (stream.event e c) = refl
+        go (stream.none held count) = refl
+
+    pub is-finished : length log′ ≡ length log → Finished bytes tray desk live run log a bytes′ live′ run′ log′
+    is-finished l = record { prepared = p; used-fits = rw none-used (omega arith); step = finish-step l; entries-fit = finish-fits; results-are = e }
+
 -- ---- an answer that is told
 
 pub front : (n : ℕ) (s : List ℕ) → n ≤ length s → n ≡ length (take n s)
 front n s h = sym (length-take-le n s h)
 
-pub told-is : (a : Answer) (at : ℕ) (more : Bool) → more ≡ isEvent (a .said)
-    → record { tray = a .tray; desk = a .desk; used = a .used; at = at; more = more } ≡ heardOf a at
-told-is a at more e = rw e
-
-module _ (before : ℕ) (bytes live run log : List ℕ) (a : Answer) (at : ℕ) (heard : Heard) (e : heard ≡ heardOf a at) where
-  pub call-told : (portion : List ℕ)
-      → Step before bytes (a .tray) (a .desk) live run log (isEvent (a .said)) (toTell bytes (a .tray) (a .used) portion)
-      → Step before bytes (heard .tray) (heard .desk) live run log (heard .more) (toTell bytes (heard .tray) (heard .used) portion)
-  call-told portion s = rw e s
-
-  pub finish-told : Step before bytes (a .tray) (a .desk) live run log (isEvent (a .said)) (lastToTell bytes (a .tray))
-      → Step before bytes (heard .tray) (heard .desk) live run log (heard .more) (lastToTell bytes (heard .tray))
-  finish-told s = rw e s
-
-pub used-told : (room : ℕ) (a : Answer) (at : ℕ) (heard : Heard) → heard ≡ heardOf a at → Within (a .used) room → Within (heard .used) room
-used-told room a at heard e u = rw e u
+-- the bytes used of the whole portion
+pub used-fits : (bytes live run log portion bytes′ live′ run′ log′ : List ℕ) (tray : Tray) (desk : Desk) (used : ℕ) (a : Answer)
+    → Called bytes tray desk live run log portion used a bytes′ live′ run′ log′ → used + a .used < 2 ^ 64
+used-fits bytes live run log portion bytes′ live′ run′ log′ tray desk used a c =
+    let i = c .within .inside in
+    let f = c .within .fits in
+    omega arith
 
 -- ---- from turn to turn something holds, and the buffers keep their lengths
 
@@ -237,18 +227,52 @@ module _ (bytes₀ live₀ run₀ log₀ out₀ bytes live run log out bytes′ 
       → Turning (Prepared bytes′ tray desk live′ run′ log′) bytes₀ live₀ run₀ log₀ out₀ bytes′ live′ run′ log′ out′
   after-read tray desk p = next-turn p
 
-  module _ (tray : Tray) (desk : Desk) (before : ℕ) (more : Bool) (after : ℕ) (s : Step before bytes′ tray desk live′ run′ log′ more after) where
-    pub after-call : (used room : ℕ) → Within used room
-        → Turning (Hearing bytes′ tray desk live′ run′ log′ used room) bytes₀ live₀ run₀ log₀ out₀ bytes′ live′ run′ log′ out′
-    after-call used room w = next-turn (record { prepared = s .prepared; within = w })
+-- what holds of a portion: what is still to be told of it from here is what was to be told at its start
+pub record Heeding (raw : Bool) (start : State) (out₀ : List ℕ) (at₀ : ℕ) (portion bytes : List ℕ) (tray : Tray) (desk : Desk) (live run log out : List ℕ) (at used : ℕ) : Type 0 where
+  pub hearing : Hearing bytes tray desk live run log used (length portion)
+  pub goes : (s : State) (o : List ℕ) (a : ℕ) → Told raw (stateOf bytes tray desk live run) out at (drop used portion) s o a → Told raw start out₀ at₀ portion s o a
 
-    pub after-finish : Turning (Prepared bytes′ tray desk live′ run′ log′) bytes₀ live₀ run₀ log₀ out₀ bytes′ live′ run′ log′ out′
-    after-finish = next-turn (s .prepared)
+-- and of the stream's end
+pub record Nearing (raw : Bool) (start : State) (out₀ : List ℕ) (at₀ : ℕ) (bytes : List ℕ) (tray : Tray) (desk : Desk) (live run log out : List ℕ) (at : ℕ) : Type 0 where
+  pub prepared : Prepared bytes tray desk live run log
+  pub goes : (s : State) (o : List ℕ) (a : ℕ) → Ended raw (stateOf bytes tray desk live run) out at s o a → Ended raw start out₀ at₀ s o a
 
--- there is more, so an event was told
-pub fewer-left : (before : ℕ) (bytes : List ℕ) (tray : Tray) (desk : Desk) (live run log : List ℕ) (more : Bool) (after : ℕ)
-    → Step before bytes tray desk live run log more after → not more ≡ false → after < before
-fewer-left before bytes tray desk live run log more after s n = s .fewer (not-false more n)
+module _ (raw : Bool) (start : State) (at₀ : ℕ) (portion bytes₀ live₀ run₀ log₀ out₀ bytes live run log out bytes′ live′ run′ log′ out′ : List ℕ) (was next : Heard) where
+  module _ (t : Turning (Heeding raw start out₀ at₀ portion bytes (was .tray) (was .desk) live run log out (was .at) (was .used)) bytes₀ live₀ run₀ log₀ out₀ bytes live run log out)
+      (o : Advanced raw bytes was live run portion out bytes′ next live′ run′ log′ out′) where
+    pub portion-told : not (next .more) ≡ true → Told raw start out₀ at₀ portion (stateOf bytes′ (next .tray) (next .desk) live′ run′) out′ (next .at)
+    portion-told n = t .holds .goes (stateOf bytes′ (next .tray) (next .desk) live′ run′) out′ (next .at) (o .onward .stops (not-true (next .more) n))
+
+    pub call-fewer-left : not (next .more) ≡ false → toTell bytes′ (next .tray) (next .used) portion < toTell bytes (was .tray) (was .used) portion
+    call-fewer-left n = o .step .fewer (not-false (next .more) n)
+
+    pub after-call : not (next .more) ≡ false → length bytes′ ≡ length bytes → length live′ ≡ length live → length run′ ≡ length run → length log′ ≡ length log → length out′ ≡ length out
+        → Turning (Heeding raw start out₀ at₀ portion bytes′ (next .tray) (next .desk) live′ run′ log′ out′ (next .at) (next .used)) bytes₀ live₀ run₀ log₀ out₀ bytes′ live′ run′ log′ out′
+    after-call n b l r g u =
+        next-turn bytes₀ live₀ run₀ log₀ out₀ bytes live run log out bytes′ live′ run′ log′ out′ _ t b l r g u (record {
+          hearing = record { prepared = o .step .prepared; within = o .within };
+          goes = λ s oo aa z. t .holds .goes s oo aa (o .onward .goes (not-false (next .more) n) s oo aa z);
+        })
+
+  module _ (t : Turning (Nearing raw start out₀ at₀ bytes (was .tray) (was .desk) live run log out (was .at)) bytes₀ live₀ run₀ log₀ out₀ bytes live run log out)
+      (o : Neared raw bytes was live run out bytes′ next live′ run′ log′ out′) where
+    pub end-told : not (next .more) ≡ true → Ended raw start out₀ at₀ (stateOf bytes′ (next .tray) (next .desk) live′ run′) out′ (next .at)
+    end-told n = t .holds .goes (stateOf bytes′ (next .tray) (next .desk) live′ run′) out′ (next .at) (o .nearer .stops (not-true (next .more) n))
+
+    pub finish-fewer-left : not (next .more) ≡ false → lastToTell bytes′ (next .tray) < lastToTell bytes (was .tray)
+    finish-fewer-left n = o .step .fewer (not-false (next .more) n)
+
+    pub after-finish : not (next .more) ≡ false → length bytes′ ≡ length bytes → length live′ ≡ length live → length run′ ≡ length run → length log′ ≡ length log → length out′ ≡ length out
+        → Turning (Nearing raw start out₀ at₀ bytes′ (next .tray) (next .desk) live′ run′ log′ out′ (next .at)) bytes₀ live₀ run₀ log₀ out₀ bytes′ live′ run′ log′ out′
+    after-finish n b l r g u =
+        next-turn bytes₀ live₀ run₀ log₀ out₀ bytes live run log out bytes′ live′ run′ log′ out′ _ t b l r g u (record {
+          prepared = o .step .prepared;
+          goes = λ s oo aa z. t .holds .goes s oo aa (o .nearer .goes (not-false (next .more) n) s oo aa z);
+        })
+
+pub first-nearing : (raw : Bool) (bytes live run log out : List ℕ) (heard : Heard) → Prepared bytes (heard .tray) (heard .desk) live run log
+    → Nearing raw (stateOf bytes (heard .tray) (heard .desk) live run) out (heard .at) bytes (heard .tray) (heard .desk) live run log out (heard .at)
+first-nearing raw bytes live run log out heard p = record { prepared = p; goes = λ s o a z. z }
 
 -- ---- between two portions, and at the start
 
@@ -260,15 +284,36 @@ module _ (heard r : Heard) (at : ℕ) (more : Bool) (e : r ≡ record { tray = h
       → Prepared bytes (heard .tray) (heard .desk) live run log → Hearing bytes (r .tray) (r .desk) live run log (r .used) room
   turned-hearing room w p = rw e (record { prepared = p; within = record { inside = omega arith; fits = w } })
 
+-- the start of a portion
+module _ (raw : Bool) (bytes live run log portion out : List ℕ) (heard r : Heard) (more : Bool)
+    (e : r ≡ record { tray = heard .tray; desk = heard .desk; used = 0; at = heard .at; more = more }) where
+  pub first-heeding : length portion < 2 ^ 64 → Prepared bytes (heard .tray) (heard .desk) live run log
+      → Heeding raw (stateOf bytes (r .tray) (r .desk) live run) out (r .at) portion bytes (r .tray) (r .desk) live run log out (r .at) (r .used)
+  first-heeding w p = record {
+    hearing = turned-hearing heard r (heard .at) more e (length portion) w p;
+    goes = λ s o a z.
+        subst (λ (u : ℕ). Told raw (stateOf bytes (r .tray) (r .desk) live run) out (r .at) (drop u portion) s o a) (ap (λ h. h .used) e) z;
+  }
+
+  pub from-start : (s : State) (o : List ℕ) (a : ℕ) → Told raw (stateOf bytes (r .tray) (r .desk) live run) out (r .at) portion s o a
+      → Told raw (stateOf bytes (heard .tray) (heard .desk) live run) out (heard .at) portion s o a
+  from-start s o a z = rw e at z
+
 pub start-prepared : (bytes live run log : List ℕ) (desk : Desk) (r : Heard) → r ≡ record { tray = stream.freshTray; desk = desk; used = 0; at = 0; more = true }
     → Prepared bytes stream.freshTray desk live run log → Prepared bytes (r .tray) (r .desk) live run log
 start-prepared bytes live run log desk r e p = rw e p
 
 -- ---- a new desk, with the buffers that the program lends
 
-pub is-new : (solution processor constellation : ℕ) (answer : NewDesk) (desk : Desk) → answer ≡ newDesk solution processor constellation → answer ≡ Made desk → IsNew desk
-is-new solution processor constellation answer desk e q =
-    record { solution = solution; processor = processor; constellation = constellation; is-made = sym e ∙ q }
+pub is-new : (wanted : Wanted) (job : Job) (desk : Desk) (raw : Bool) → job ≡ jobOf wanted → job ≡ Run desk raw → IsNew desk
+is-new (Log solution processor constellation r) job desk raw e q = go (newDesk solution processor constellation) refl (sym e ∙ q)
+  where
+    go : (made : NewDesk) → newDesk solution processor constellation ≡ made → jobBy made r ≡ Run desk raw → IsNew desk
+    go (Made d) p k =
+        let same : d ≡ desk = cc in
+        record { solution = solution; processor = processor; constellation = constellation; is-made = p ∙ ap (λ x. Made x) same }
+    go (Refused why) p k = let y : _≡_ {A = ℕ} 0 1 = cc in absurd (omega arith)
+is-new Nothing job desk raw e q = let k : Usage ≡ Run desk raw = sym e ∙ q in let y : _≡_ {A = ℕ} 0 1 = cc in absurd (omega arith)
 
 pub new-prepared : (desk : Desk) (log : List ℕ) → IsNew desk → logRoom ≡ length log
     → Prepared (replicate longestFrame 0) stream.freshTray desk (replicate bookBytes 0) (replicate bookBytes 0) log

@@ -1,9 +1,10 @@
--- What the functions of `runlog` say of each other. Serves proofs: the program's lines are tried by its stored test.
+-- What the functions of `runlog` say of each other besides what is told (Telling.antt). Serves proofs.
 use mathlib.Core.Path.{_≡_}
 use mathlib.Core.Bool.{Bool, true, false}
 use mathlib.Core.List.{List, []}
 use Prim.Native.Nat.{ℕ, _+_, _≤_, _<_, _^_}
-use lib.ListN.{length, drop}
+use lib.ListN.{length, take, drop}
+use Rattle.text.specs.Text.{waiting, sayAll}
 use Rattle.stream.specs.declared.Tray.{Tray}
 use Rattle.stream.specs.Driver.{Ready}
 use Rattle.stream.specs.Driving.{left}
@@ -14,9 +15,10 @@ use Rattle.sizes.specs.Sizes.{logRoom}
 use Rattle.prepare.specs.declared.Answer.{Answer}
 use Rattle.prepare.specs.declared.Said.{Said}
 use Rattle.prepare.specs.declared.Said.the-variants as said
-use Rattle.prepare.specs.Prepare.{booksIn}
-use Rattle.prepare.specs.Driver.{Sound}
+use Rattle.prepare.specs.Prepare.{booksIn, hands, results, byCall, byFinish}
+use Rattle.prepare.specs.Driver.{State, Sound}
 use Rattle.runlog.specs.declared.hearing.Heard.{Heard}
+use Rattle.runlog.specs.Telling.{stateOf, some, Told, Ended}
 
 -- a frame, taken or refused, and noise
 abbrev pub isEvent : Said → Bool
@@ -62,11 +64,53 @@ toTell bytes tray used portion = length (left bytes tray (drop used portion))
 abbrev pub lastToTell : (bytes : List ℕ) → Tray → ℕ
 lastToTell bytes tray = length (left bytes tray [])
 
--- an answer with the bytes that were used before it, and where the preparing stands once it is told
-abbrev pub countedFrom : (used : ℕ) → Answer → Answer
-countedFrom used answer =
-    record { said = answer .said; used = used + answer .used; log = answer .log; tray = answer .tray; desk = answer .desk }
+-- where the preparing stands once an answer is told, where so many bytes of the portion were used before
+abbrev pub heardOf : (used : ℕ) → Answer → (at : ℕ) → Heard
+heardOf used answer at =
+    record { tray = answer .tray; desk = answer .desk; used = used + answer .used; at = at; more = isEvent (answer .said) }
 
-abbrev pub heardOf : Answer → (at : ℕ) → Heard
-heardOf answer at =
-    record { tray = answer .tray; desk = answer .desk; used = answer .used; at = at; more = isEvent (answer .said) }
+-- what a call on the rest of a portion answers and leaves
+pub record Called (bytes : List ℕ) (tray : Tray) (desk : Desk) (live run log portion : List ℕ) (used : ℕ) (answer : Answer) (bytes′ live′ run′ log′ : List ℕ) : Type 0 where
+  pub prepared : Prepared bytes tray desk live run log
+  pub step :
+      Step (toTell bytes tray used portion) bytes′ (answer .tray) (answer .desk) live′ run′ log′ (isEvent (answer .said)) (toTell bytes′ (answer .tray) (used + answer .used) portion)
+  pub entries-fit : answer .log ≤ length log′
+  pub within : Within (used + answer .used) (length portion)
+  pub results-are : results answer bytes′ live′ run′ log′ ≡ byCall (hands bytes tray desk live run log) (drop used portion)
+
+-- and what a finish does
+pub record Finished (bytes : List ℕ) (tray : Tray) (desk : Desk) (live run log : List ℕ) (answer : Answer) (bytes′ live′ run′ log′ : List ℕ) : Type 0 where
+  pub prepared : Prepared bytes tray desk live run log
+  pub used-fits : 0 + answer .used < 2 ^ 64
+  pub step : Step (lastToTell bytes tray) bytes′ (answer .tray) (answer .desk) live′ run′ log′ (isEvent (answer .said)) (lastToTell bytes′ (answer .tray))
+  pub entries-fit : answer .log ≤ length log′
+  pub results-are : results answer bytes′ live′ run′ log′ ≡ byFinish (hands bytes tray desk live run log)
+
+-- an answer that is told: in the raw form, the entries that were written
+pub record Spoken (used : ℕ) (answer : Answer) (log : List ℕ) (raw : Bool) (out : List ℕ) (at : ℕ) (out′ : List ℕ) (heard : Heard) : Type 0 where
+  pub heard-is : heard ≡ heardOf used answer (heard .at)
+  pub says : raw ≡ true → waiting out′ (heard .at) ≡ sayAll (waiting out at) (some (take (answer .log) log))
+
+-- One call: if there is more, what is told of the rest is told behind it; else all is told.
+pub record Onward (raw : Bool) (state : State) (out : List ℕ) (at : ℕ) (input : List ℕ) (state′ : State) (out′ : List ℕ) (at′ : ℕ) (rest : List ℕ) (more : Bool) : Type 0 where
+  pub goes : more ≡ true → (s : State) (o : List ℕ) (a : ℕ) → Told raw state′ out′ at′ rest s o a → Told raw state out at input s o a
+  pub stops : more ≡ false → Told raw state out at input state′ out′ at′
+
+-- One finish, in the same way.
+pub record Nearer (raw : Bool) (state : State) (out : List ℕ) (at : ℕ) (state′ : State) (out′ : List ℕ) (at′ : ℕ) (more : Bool) : Type 0 where
+  pub goes : more ≡ true → (s : State) (o : List ℕ) (a : ℕ) → Ended raw state′ out′ at′ s o a → Ended raw state out at s o a
+  pub stops : more ≡ false → Ended raw state out at state′ out′ at′
+
+-- a call, or a finish, that is told
+pub record Advanced (raw : Bool) (bytes : List ℕ) (was : Heard) (live run portion out bytes′ : List ℕ) (heard : Heard) (live′ run′ log′ out′ : List ℕ) : Type 0 where
+  pub step :
+      Step (toTell bytes (was .tray) (was .used) portion) bytes′ (heard .tray) (heard .desk) live′ run′ log′ (heard .more) (toTell bytes′ (heard .tray) (heard .used) portion)
+  pub within : Within (heard .used) (length portion)
+  pub onward :
+      Onward raw (stateOf bytes (was .tray) (was .desk) live run) out (was .at) (drop (was .used) portion)
+      (stateOf bytes′ (heard .tray) (heard .desk) live′ run′) out′ (heard .at) (drop (heard .used) portion) (heard .more)
+
+pub record Neared (raw : Bool) (bytes : List ℕ) (was : Heard) (live run out bytes′ : List ℕ) (heard : Heard) (live′ run′ log′ out′ : List ℕ) : Type 0 where
+  pub step : Step (lastToTell bytes (was .tray)) bytes′ (heard .tray) (heard .desk) live′ run′ log′ (heard .more) (lastToTell bytes′ (heard .tray))
+  pub nearer :
+      Nearer raw (stateOf bytes (was .tray) (was .desk) live run) out (was .at) (stateOf bytes′ (heard .tray) (heard .desk) live′ run′) out′ (heard .at) (heard .more)

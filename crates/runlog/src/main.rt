@@ -3,13 +3,21 @@
 mod command;
 mod hearing;
 
+ghost use mathlib.Core.Path.{_≡_};
 ghost use Rattle.stream.specs.Tray.{freshTray};
+ghost use Rattle.runlog.specs.Command.{jobBy, jobOf};
 ghost use Rattle.runlog.specs.Events.{Prepared, IsNew};
 use command::Wanted;
 use desk::Desk;
 use desk::NewDesk;
 use hearing::hear_end;
 use hearing::hear_some;
+
+// What there is to do: a desk runs, its log in words or raw, or the usage is said.
+enum Job {
+    Run { desk: Desk, raw: bool },
+    Usage,
+}
 
 // A proved loop has to end, and nothing says that the input does. So the loop counts its turns down, from a number that no run uses up.
 fn prepare_all(
@@ -30,8 +38,8 @@ fn prepare_all(
         heard = hear_some(bytes, live, run, log, heard, input, raw, out);
         turns -= 1;
     }
-    let at = hear_end(bytes, live, run, log, heard, raw, out);
-    text::flush(out, at);
+    let ended = hear_end(bytes, live, run, log, heard, raw, out);
+    text::flush(out, ended.at);
 }
 
 // Lends a new desk its buffers.
@@ -56,21 +64,40 @@ fn run_desk(desk: Desk, raw: bool)
     );
 }
 
-fn run_log(solution: u8, processor: u8, constellation: u8, raw: bool) {
-    match desk::new_desk(solution, processor, constellation) {
-        NewDesk::Refused(_) => command::say_usage(),
-        NewDesk::Made(desk) => run_desk(desk, raw),
+fn desk_by(made: NewDesk, raw: bool) -> Job
+    ensures { λ r. ⌜ r ≡ jobBy made raw ⌝ }
+{
+    match made {
+        NewDesk::Refused(_) => Job::Usage,
+        NewDesk::Made(desk) => Job::Run {
+            desk: desk,
+            raw: raw,
+        },
     }
 }
 
-fn main() {
-    match command::read_command() {
+// The desk that is wanted.
+fn desk_for(wanted: Wanted) -> Job
+    ensures { λ r. ⌜ r ≡ jobOf wanted ⌝ }
+{
+    match wanted {
         Wanted::Log {
             solution,
             processor,
             constellation,
             raw,
-        } => run_log(solution, processor, constellation, raw),
-        Wanted::Nothing => command::say_usage(),
+        } => desk_by(desk::new_desk(solution, processor, constellation), raw),
+        Wanted::Nothing => Job::Usage,
     }
+}
+
+fn run_wanted(wanted: Wanted) {
+    match desk_for(wanted) {
+        Job::Run { desk, raw } => run_desk(desk, raw),
+        Job::Usage => command::say_usage(),
+    }
+}
+
+fn main() {
+    run_wanted(command::read_command());
 }

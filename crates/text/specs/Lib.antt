@@ -1,2 +1,4 @@
 pub mod Text
 pub mod Determined
+pub mod Decimal
+pub mod Parts

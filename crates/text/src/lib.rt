@@ -3,7 +3,7 @@ ghost use mathlib.Core.Path.{_≡_};
 ghost use mathlib.Core.Bool.{false};
 ghost use Prim.Native.Nat.{_≤_, _<_};
 ghost use lib.ListN.{length};
-ghost use Rattle.text.specs.Text.{endAfter, outAfter};
+ghost use Rattle.text.specs.Text.{endAfter, outAfter, placeFor, waitingAfter, saidAfter, decimal};
 use libc::STDOUT_FILENO;
 
 // Puts a text behind the first `at` bytes, if it has room there, and says where it ends; else nothing is written, and that is `at`.
@@ -24,24 +24,28 @@ pub fn put(out: &mut [u8], at: usize, text: &[u8]) -> usize
 
 // Puts a text behind the `at` bytes that wait, which go out first if there is no room for it, and says how many wait then.
 pub fn say(out: &mut [u8], at: usize, text: &[u8]) -> usize
+    ensures { λ r. ⌜ r ≡ waitingAfter (now (out .entry)) at (now (text .entry)) ⌝ }
+    ensures { λ _. ⌜ now (out .exit) ≡ saidAfter (now (out .entry)) at (now (text .entry)) ⌝ }
     ensures { λ r. ⌜ r ≤ length (now (out .exit)) ⌝ }
+{
+    let place = place_for(out, at, text);
+    put(out, place, text)
+}
+
+// Where a text has its place: behind the bytes that wait, or at the start, once they have gone out.
+fn place_for(out: &[u8], at: usize, text: &[u8]) -> usize
+    ensures { λ r. ⌜ r ≡ placeFor (now (out .entry)) at (now (text .entry)) ⌝ }
+    ensures { λ r. ⌜ r ≤ length (now (out .entry)) ⌝ }
 {
     if out.len() < at {
         return 0;
     }
-    if out.len() - at < text.len() {
+    let room = out.len() - at;
+    if room < text.len() {
         flush(out, at);
-        return placed(out, 0, text);
+        return 0;
     }
-    placed(out, at, text)
-}
-
-// `put` where `at` is in the buffer.
-fn placed(out: &mut [u8], at: usize, text: &[u8]) -> usize
-    requires { ⌜ at ≤ length (now out) ⌝ }
-    ensures { λ r. ⌜ r ≤ length (now (out .exit)) ⌝ }
-{
-    put(out, at, text)
+    at
 }
 
 // Writes the `at` bytes that wait, and says whether all of them went out.
@@ -54,11 +58,24 @@ pub fn flush(out: &[u8], at: usize) -> bool
     io::write_all(STDOUT_FILENO, &out[..at])
 }
 
-// A number in decimal digits.
-pub fn say_number(out: &mut [u8], at: usize, n: u64) -> usize
-    ensures { λ r. ⌜ r ≤ length (now (out .exit)) ⌝ }
+// A number in decimal digits, put as `put` does.
+pub fn put_number(out: &mut [u8], at: usize, n: u64) -> usize
+    ensures { λ r. ⌜ r ≡ endAfter (now (out .entry)) at (decimal n) ⌝ }
+    ensures { λ _. ⌜ now (out .exit) ≡ outAfter (now (out .entry)) at (decimal n) ⌝ }
+    ensures { λ _. ⌜ length (decimal n) ≤ 20 ⌝ }
 {
     let mut digits = [0u8; 20];
     let k = io::decimal(n, &mut digits);
-    say(out, at, &digits[..k])
+    put(out, at, &digits[..k])
+}
+
+// A number in decimal digits, said as `say` does.
+pub fn say_number(out: &mut [u8], at: usize, n: u64) -> usize
+    ensures { λ r. ⌜ r ≡ waitingAfter (now (out .entry)) at (decimal n) ⌝ }
+    ensures { λ _. ⌜ now (out .exit) ≡ saidAfter (now (out .entry)) at (decimal n) ⌝ }
+    ensures { λ r. ⌜ r ≤ length (now (out .exit)) ⌝ }
+{
+    let mut digits = [0u8; 20];
+    let count = io::decimal(n, &mut digits);
+    say(out, at, &digits[..count])
 }

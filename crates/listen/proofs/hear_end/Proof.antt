@@ -1,20 +1,20 @@
--- The tray stays ready, and each event told is one of those left to tell.
+-- The tray stays ready, each event told is one of those left to tell, and what is still to be told is what was to be told at the start.
 use mathlib.Core.List.{[]}
 use lib.ListN.{length}
 use Rattle.stream.specs.Driving.{left}
-use Rattle.listen.proofs.Turns.{ready-last, fewer-last, Hearing}
+use Rattle.listen.proofs.Turns.{Ending, first-finish, fewer-last, all-ended, next-finish}
 use borrow.Author.Needs.{needs}
 use Rattle.listen.proofs.hear_end.Statement.{statement}
 use Rattle.listen.proofs.hear_end.Tie as tie
 
 abbrev Inv-loop : tie.InvT-loop
-Inv-loop bytes₀ out₀ tray₀ at₀ bytes out tray at = Hearing bytes₀ out₀ [] bytes out tray 0
+Inv-loop bytes₀ out₀ tray₀ at₀ bytes out tray at = Ending bytes₀ tray₀ out₀ at₀ bytes tray out at
 
 abbrev μ-loop : tie.MeasureT-loop
 μ-loop bytes₀ out₀ tray₀ at₀ bytes out tray at = length (left bytes tray [])
 
 loop-holds : tie.Need-loop-holds Inv-loop μ-loop
-loop-holds c = search needs
+loop-holds c = search (first-finish, needs)
 
 finish-requires : tie.Need-finish-requires Inv-loop μ-loop
 finish-requires c κs = search needs
@@ -32,16 +32,16 @@ same-length-2 : tie.Need-same-length-2 Inv-loop μ-loop
 same-length-2 c = search needs
 
 returns : tie.Need-returns Inv-loop μ-loop
-returns c = search needs
+returns c = search (all-ended, needs)
 
-say-said-requires : tie.Need-say-said-requires Inv-loop μ-loop
-say-said-requires c κs = search needs
+say-line-requires : tie.Need-say-line-requires Inv-loop μ-loop
+say-line-requires c κs = search needs
 
 loop-less : tie.Need-loop-less Inv-loop μ-loop
 loop-less c = search (fewer-last, needs)
 
 loop-again : tie.Need-loop-again Inv-loop μ-loop
-loop-again c = search (ready-last, needs)
+loop-again c = search (next-finish, needs)
 
 pub hear-end-spec : {M : Type 1} → statement M
 hear-end-spec =
@@ -56,6 +56,6 @@ hear-end-spec =
     same-length
     same-length-2
     returns
-    say-said-requires
+    say-line-requires
     loop-less
     loop-again)

@@ -1,5 +1,5 @@
 -- A call with tray and desk prepared leaves them so; an event is one of those that were left to tell (Turns.antt).
-use Rattle.runlog.proofs.Turns.{call-step, call-fits, call-within}
+use Rattle.runlog.proofs.Turns.{is-called}
 use borrow.Author.Needs.{needs}
 use Rattle.runlog.proofs.hearing.call_rest.Statement.{statement}
 use Rattle.runlog.proofs.hearing.call_rest.Tie as tie
@@ -29,7 +29,7 @@ same-length-4 : tie.Need-same-length-4
 same-length-4 c = search needs
 
 returns : tie.Need-returns
-returns c = (search (call-step, needs), (search (call-fits, needs), search (call-within, needs)))
+returns c = search (is-called, needs)
 
 pub call-rest-spec : {M : Type 1} → statement M
 call-rest-spec =

@@ -1,5 +1,5 @@
 -- What is told changes neither tray nor desk.
-use Rattle.runlog.proofs.Turns.{finish-told}
+use Rattle.runlog.proofs.Telling.{finish-neared}
 use borrow.Author.Needs.{needs}
 use Rattle.runlog.proofs.hearing.end_one.Statement.{statement}
 use Rattle.runlog.proofs.hearing.end_one.Tie as tie
@@ -26,7 +26,7 @@ same-length-5 : tie.Need-same-length-5
 same-length-5 c = search needs
 
 returns : tie.Need-returns
-returns c = search (finish-told, needs)
+returns c = search (finish-neared, needs)
 
 pub end-one-spec : {M : Type 1} → statement M
 end-one-spec =

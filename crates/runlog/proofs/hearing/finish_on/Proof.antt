@@ -1,5 +1,5 @@
 -- A finish with tray and desk prepared leaves them so; an event is one of those that were left to tell (Turns.antt).
-use Rattle.runlog.proofs.Turns.{finish-step, finish-fits}
+use Rattle.runlog.proofs.Turns.{is-finished}
 use borrow.Author.Needs.{needs}
 use Rattle.runlog.proofs.hearing.finish_on.Statement.{statement}
 use Rattle.runlog.proofs.hearing.finish_on.Tie as tie
@@ -20,7 +20,7 @@ same-length-4 : tie.Need-same-length-4
 same-length-4 c = search needs
 
 returns : tie.Need-returns
-returns c = (search (finish-step, needs), search (finish-fits, needs))
+returns c = search (is-finished, needs)
 
 pub finish-on-spec : {M : Type 1} → statement M
 finish-on-spec =

@@ -1,19 +1,21 @@
--- Tray and desk stay prepared from finish to finish, and each event told is one of those left to tell.
-use Rattle.runlog.specs.Events.{Prepared, lastToTell}
-use Rattle.runlog.proofs.Turns.{Turning, first-turn, fewer-left, after-finish}
+-- Tray and desk stay prepared from finish to finish, each event told is one of those left to tell, and what is still to be told is what was to be told at the start.
+use Rattle.runlog.specs.Telling.{stateOf}
+use Rattle.runlog.specs.Events.{lastToTell}
+use Rattle.runlog.proofs.Turns.{Turning, Nearing, first-turn, first-nearing, end-told, finish-fewer-left, after-finish}
 use borrow.Author.Needs.{needs}
 use Rattle.runlog.proofs.hearing.hear_end.Statement.{statement}
 use Rattle.runlog.proofs.hearing.hear_end.Tie as tie
 
 abbrev Inv-loop : tie.InvT-loop
 Inv-loop bytes₀ live₀ run₀ log₀ raw out₀ next₀ bytes live run log out next =
-    Turning (Prepared bytes (next .tray) (next .desk) live run log) bytes₀ live₀ run₀ log₀ out₀ bytes live run log out
+    Turning (Nearing raw (stateOf bytes₀ (next₀ .tray) (next₀ .desk) live₀ run₀) out₀ (next₀ .at) bytes (next .tray) (next .desk) live run log out (next .at))
+    bytes₀ live₀ run₀ log₀ out₀ bytes live run log out
 
 abbrev μ-loop : tie.MeasureT-loop
 μ-loop bytes₀ live₀ run₀ log₀ raw out₀ next₀ bytes live run log out next = lastToTell bytes (next .tray)
 
 loop-holds : tie.Need-loop-holds Inv-loop μ-loop
-loop-holds c = search (first-turn, needs)
+loop-holds c = search (first-turn, first-nearing, needs)
 
 end-one-requires : tie.Need-end-one-requires Inv-loop μ-loop
 end-one-requires c κs = search needs
@@ -34,10 +36,10 @@ same-length-5 : tie.Need-same-length-5 Inv-loop μ-loop
 same-length-5 c = search needs
 
 returns : tie.Need-returns Inv-loop μ-loop
-returns c = search needs
+returns c = search (end-told, needs)
 
 loop-less : tie.Need-loop-less Inv-loop μ-loop
-loop-less c = search (fewer-left, needs)
+loop-less c = search (finish-fewer-left, needs)
 
 loop-again : tie.Need-loop-again Inv-loop μ-loop
 loop-again c = search (after-finish, needs)

@@ -1,14 +1,15 @@
 -- What is told changes neither tray nor desk.
-use Rattle.runlog.proofs.Turns.{call-told, used-told}
+use Rattle.runlog.proofs.Telling.{call-advanced}
+use Rattle.runlog.proofs.Turns.{used-fits}
 use borrow.Author.Needs.{needs}
 use Rattle.runlog.proofs.hearing.hear_one.Statement.{statement}
 use Rattle.runlog.proofs.hearing.hear_one.Tie as tie
 
-call-on-requires : tie.Need-call-on-requires
-call-on-requires c κs = search needs
+call-rest-requires : tie.Need-call-rest-requires
+call-rest-requires c κs = search needs
 
 told-requires : tie.Need-told-requires
-told-requires c κs = search needs
+told-requires c κs = search (used-fits, needs)
 
 same-length : tie.Need-same-length
 same-length c = search needs
@@ -26,13 +27,13 @@ same-length-5 : tie.Need-same-length-5
 same-length-5 c = search needs
 
 returns : tie.Need-returns
-returns c = (search (call-told, needs), search (used-told, needs))
+returns c = search (call-advanced, needs)
 
 pub hear-one-spec : {M : Type 1} → statement M
 hear-one-spec =
     tie.close
     (tie.spec
-    call-on-requires
+    call-rest-requires
     told-requires
     same-length
     same-length-2

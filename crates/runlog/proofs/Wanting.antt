@@ -1,0 +1,78 @@
+-- What a command line asks for, test by test, over plain variables.
+use mathlib.Core.Path.{_≡_, refl, sym, _∙_}
+use mathlib.Core.Bool.{Bool, true, false}
+use mathlib.Core.List.{List}
+use Prim.Native.Nat.{ℕ}
+use borrow.Author.Tests.{eq-eqb, ne-eqb}
+use Rattle.answer.specs.declared.Refusal.{Refusal}
+use Rattle.desk.specs.declared.Desk.{Desk}
+use Rattle.desk.specs.declared.NewDesk.{NewDesk}
+use Rattle.desk.specs.declared.NewDesk.the-variants.{Made, Refused}
+use Rattle.desk.specs.Desk.{newDesk}
+use Rattle.runlog.specs.declared.command.Byte.{Byte}
+use Rattle.runlog.specs.declared.command.Byte.the-variants.{Is, Not}
+use Rattle.runlog.specs.declared.command.Form.{Form}
+use Rattle.runlog.specs.declared.command.Form.the-variants as form
+use Rattle.runlog.specs.declared.command.Wanted.{Wanted}
+use Rattle.runlog.specs.declared.command.Wanted.the-variants.{Log, Nothing}
+use Rattle.runlog.specs.declared.Job.{Job}
+use Rattle.runlog.specs.declared.Job.the-variants.{Run, Usage}
+use Rattle.runlog.specs.Command.{byteOf, isRaw, formOf, loggedIn, numbered, byNumbers, jobBy, jobOf}
+
+-- the form
+module _ (count : ℕ) (word : List ℕ) where
+  pub form-words : count ≡ 4 → form.Words ≡ formOf count word
+  unfolding formOf
+  form-words h = rw (eq-eqb count 4 h)
+
+  module _ (n : count ≡ 4 → ⊥) where
+    pub form-other : (count ≡ 5 → ⊥) → form.Unknown ≡ formOf count word
+    unfolding formOf
+    form-other h = rw (ne-eqb count 4 n, ne-eqb count 5 h)
+
+    module _ (h : count ≡ 5) (b : Bool) (e : b ≡ isRaw word) where
+      pub form-raw : b ≡ true → form.Raw ≡ formOf count word
+      unfolding formOf
+      form-raw q = rw (ne-eqb count 4 n, eq-eqb count 5 h, ← e, q)
+
+      pub form-unknown : b ≡ false → form.Unknown ≡ formOf count word
+      unfolding formOf
+      form-unknown q = rw (ne-eqb count 4 n, eq-eqb count 5 h, ← e, q)
+
+module _ (f : Form) (solution processor constellation : ℕ) where
+  pub logged-words : f ≡ form.Words → Log solution processor constellation false ≡ loggedIn f solution processor constellation
+  logged-words e = rw e
+
+  pub logged-raw : f ≡ form.Raw → Log solution processor constellation true ≡ loggedIn f solution processor constellation
+  logged-raw e = rw e
+
+  pub logged-not : f ≡ form.Unknown → Nothing ≡ loggedIn f solution processor constellation
+  logged-not e = rw e
+
+-- a number, or nothing
+module _ (b : Byte) (word : List ℕ) (e : b ≡ byteOf word) (next : ℕ → Wanted) where
+  pub number-not : b ≡ Not → Nothing ≡ numbered (byteOf word) next
+  number-not q = rw (← e, q)
+
+  pub number-is : (n : ℕ) (r : Wanted) → b ≡ Is n → r ≡ next n → r ≡ numbered (byteOf word) next
+  number-is n r q p = rw (← e, q) p
+
+pub numbers-are : (f : Form) (count : ℕ) (fourth : List ℕ) (solution processor constellation : ℕ) (r : Wanted) → f ≡ formOf count fourth → r ≡ loggedIn f solution processor constellation
+    → r ≡ byNumbers solution processor constellation count fourth
+numbers-are f count fourth solution processor constellation r e p = rw (← e) p
+
+-- the desk
+module _ (made : NewDesk) (raw : Bool) where
+  pub job-usage : (why : Refusal) → made ≡ Refused why → Usage ≡ jobBy made raw
+  job-usage why e = rw e
+
+  pub job-run : (desk : Desk) → made ≡ Made desk → Run desk raw ≡ jobBy made raw
+  job-run desk e = rw e
+
+module _ (wanted : Wanted) where
+  pub job-log : (solution processor constellation : ℕ) (raw : Bool) (made : NewDesk) (job : Job) → wanted ≡ Log solution processor constellation raw
+      → made ≡ newDesk solution processor constellation → job ≡ jobBy made raw → job ≡ jobOf wanted
+  job-log solution processor constellation raw made job e m j = rw (e, ← m) j
+
+  pub job-nothing : wanted ≡ Nothing → Usage ≡ jobOf wanted
+  job-nothing e = rw e
