@@ -14,6 +14,7 @@ mod payloads;
 mod prepares;
 mod streams;
 mod tables;
+mod views;
 
 use judge::Judge;
 use second::generate::Rng;
@@ -21,13 +22,17 @@ use second::generate::Rng;
 type Case = fn(&mut Rng, &mut Judge);
 
 /// What is tried, and its share of the turns.
-const CASES: [(u64, Case); 18] = [
+const CASES: [(u64, Case); 22] = [
     (18, frames::check),
     (8, frames::write),
     (20, payloads::read),
     (16, payloads::write),
     (6, meanings::value),
     (2, meanings::orbit),
+    (12, views::satellite),
+    (12, views::hpac),
+    (4, views::gad),
+    (4, views::bpac),
     (4, streams::plain),
     (10, streams::odd),
     (6, books::history),
@@ -43,13 +48,17 @@ const CASES: [(u64, Case); 18] = [
 ];
 
 /// The answer numbers that each call can give.
-const CAN: [(&str, &[usize]); 22] = [
+const CAN: [(&str, &[usize]); 26] = [
     ("frame_check", &[0, 1, 2, 3, 4, 5, 9]),
     ("frame_write", &[0, 4, 8, 9]),
     ("payload_judge", &[0, 1, 4, 6, 7, 8, 9]),
     ("payload_read", &[0, 1, 4, 6, 7, 8, 9]),
     ("sheet_judge", &[0, 1, 4, 6, 7, 8, 9, 16]),
     ("sheet_write", &[0, 1, 4, 6, 7, 8, 9, 16]),
+    ("satellite_at", &[0, 1, 4, 6, 7, 8, 9, 16]),
+    ("hpac_area", &[0, 1, 4, 6, 7, 8, 9, 16]),
+    ("gad_area", &[0, 1, 8, 9, 16]),
+    ("bpac_area", &[0, 1, 4, 8, 9, 16]),
     ("stream_call", &[0, 9, 17]),
     ("stream_finish", &[0, 9, 17]),
     ("book_take", &[0, 1, 4, 8, 9, 13, 14, 15, 17]),
@@ -101,7 +110,7 @@ fn main() {
         judge.calls
     );
     judge.tell();
-    let missed = judge.missed(&CAN, &[&marks::MARKS[..], &marks::TYPES[..]].concat());
+    let missed = judge.missed(&CAN, &[&marks::MARKS[..], &marks::TYPES[..], &marks::VIEWS[..]].concat());
     if count >= 100_000 && !missed.is_empty() {
         println!("compare: never met: {}", missed.join(", "));
         std::process::exit(1);

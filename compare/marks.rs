@@ -1,17 +1,20 @@
-//! What was met of desks, their logs and the events of a stream, counted by name.
+//! What was met of desks, their logs, the events of a stream and the views of a sheet, counted by name.
 
 use crate::judge::Judge;
 use crate::logs::{entries, Entry};
 use crate::tables::Table;
+use second::answer::Refusal;
 use second::book;
 use second::desk::{Desk, HALF_DAY};
 use second::frame;
 use second::generate::TWELVE;
 use second::prepare::Event;
 use second::stream::MOST_NOISE;
+use second::values::Yaw;
+use second::views::{Satellite, SatelliteView};
 
 /// What a run of many inputs has to meet besides.
-pub const MARKS: [&str; 38] = [
+pub const MARKS: [&str; 48] = [
     "GAD: a book begins",
     "GAD: a book of 32",
     "GAD: the book grows",
@@ -50,6 +53,16 @@ pub const MARKS: [&str; 38] = [
     "unsound: solution",
     "unsound: tag",
     "unsound: the run's book",
+    "view: a satellite with all blocks",
+    "view: a satellite with no block",
+    "view: an ID that repeats",
+    "view: no biases",
+    "view: no clock",
+    "view: no orbit",
+    "view: no troposphere or ionosphere",
+    "view: yaw absent",
+    "view: yaw an angle",
+    "view: yaw invalid",
 ];
 
 /// The twelve types, as `TWELVE` lists them.
@@ -66,6 +79,40 @@ pub const TYPES: [&str; 12] = [
     "frame of 1-4",
     "frame of 2-0",
     "frame of 3-0",
+];
+
+/// Each view of each type: of OCB a satellite in use, one out of use, and a place past the last; of the others, as `TWELVE`
+/// lists them, an ID that a block has and one that none has.
+pub const VIEWS: [&str; 29] = [
+    "view of 0-0: in use",
+    "view of 0-0: out of use",
+    "view of 0-0: past the last",
+    "view of 0-1: in use",
+    "view of 0-1: out of use",
+    "view of 0-1: past the last",
+    "view of 0-2: in use",
+    "view of 0-2: out of use",
+    "view of 0-2: past the last",
+    "view of 0-3: in use",
+    "view of 0-3: out of use",
+    "view of 0-3: past the last",
+    "view of 0-4: in use",
+    "view of 0-4: out of use",
+    "view of 0-4: past the last",
+    "view of 1-0: an area",
+    "view of 1-0: no area",
+    "view of 1-1: an area",
+    "view of 1-1: no area",
+    "view of 1-2: an area",
+    "view of 1-2: no area",
+    "view of 1-3: an area",
+    "view of 1-3: no area",
+    "view of 1-4: an area",
+    "view of 1-4: no area",
+    "view of 2-0: an area",
+    "view of 2-0: no area",
+    "view of 3-0: an area",
+    "view of 3-0: no area",
 ];
 
 /// Counts the type of a frame that is given to a desk.
@@ -123,6 +170,47 @@ pub fn frame_taken(judge: &mut Judge, frame: &[u8], before: &Desk, after: &Desk,
             Entry::LeftOut { reason: 3 } => "log: 3, left out by 3",
             Entry::LeftOut { .. } => "log: 3, left out by 4",
         });
+    }
+}
+
+/// Counts what a satellite of a sheet was; `past` says that an accepted sheet has fewer.
+pub fn satellite_seen(judge: &mut Judge, subtype: u64, past: bool, seen: &Result<SatelliteView, Refusal>) {
+    let first = 3 * subtype as usize;
+    match seen {
+        Err(Refusal::Field) if past => judge.mark(VIEWS[first + 2]),
+        Err(_) => {}
+        Ok(SatelliteView { satellite: Satellite::OutOfUse, .. }) => judge.mark(VIEWS[first + 1]),
+        Ok(SatelliteView { satellite: Satellite::InUse(blocks), .. }) => {
+            judge.mark(VIEWS[first]);
+            let absent = [blocks.orbit.is_none(), blocks.clock.is_none(), blocks.biases.is_empty()];
+            for (is, what) in absent.iter().zip(["view: no orbit", "view: no clock", "view: no biases"]) {
+                if *is {
+                    judge.mark(what);
+                }
+            }
+            match absent {
+                [true, true, true] => judge.mark("view: a satellite with no block"),
+                [false, false, false] => judge.mark("view: a satellite with all blocks"),
+                _ => {}
+            }
+            judge.mark(match blocks.yaw {
+                Yaw::Absent => "view: yaw absent",
+                Yaw::Invalid => "view: yaw invalid",
+                Yaw::Degrees(_) => "view: yaw an angle",
+            });
+        }
+    }
+}
+
+/// Counts what an area of a sheet was: the first number told is 1 if it was found.
+pub fn area_seen(judge: &mut Judge, of: (u64, u64), numbers: &[u64], ids: &[u64], id: u64) {
+    let place = TWELVE.iter().position(|&other| other == of).expect("an accepted sheet is of the twelve");
+    judge.mark(VIEWS[15 + 2 * (place - 5) + usize::from(numbers[0] == 0)]);
+    if ids.iter().filter(|&&other| other == id).count() > 1 {
+        judge.mark("view: an ID that repeats");
+    }
+    if of.0 == 1 && numbers[0] == 1 && numbers[3..] == [0, 0] {
+        judge.mark("view: no troposphere or ionosphere");
     }
 }
 

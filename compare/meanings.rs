@@ -52,7 +52,7 @@ fn told(sf: u16, value: &Value) -> ([u64; 2], Option<f64>) {
 }
 
 /// Floats as their bits, so that -0.0 is not +0.0.
-fn bits(floats: &[f64]) -> Vec<u64> {
+pub fn bits(floats: &[f64]) -> Vec<u64> {
     floats.iter().map(|x| x.to_bits()).collect()
 }
 

@@ -3,12 +3,18 @@
  * Each call answers with document 01's number: 0 OK, 1 SHORT, 2 PREAMBLE, 3 FRAME_CRC, 4 LENGTH, 5 MESSAGE_CRC, 6 UNKNOWN_TYPE,
  * 7 MASK_EMPTY, 8 FIELD, 9 ROOM, 10 SEALED, 11 TAG, 12 NOT_OURS, 13 AREA_OFF, 14 CONFLICT, 15 BOOK_FULL, 16 LEFTOVER, 17 STATE, 18 FORM.
  *
- * A slice is lent as a pointer and a count of its elements (the pointer is not null, even for 0 elements, and two slices of a call do not
- * overlap if one of them is written to). A call writes inside the slices that it may write to and nowhere else. A slice under its stated
- * size is ROOM; a longer one is fine, its surplus is neither read nor written. A refusal (a number other than 0) changes nothing. On
- * success, places behind what is written stay as lent. No call keeps a pointer, takes memory or reads anything but its arguments.
+ * A slice is lent as a pointer and a count of its elements. What a caller in C must keep, since no call can test it:
+ *   - the pointer is not null, even for 0 elements, and is aligned for its elements;
+ *   - so many elements with values lie there, and no other thread writes to them, or reads those that the call may write, while the call runs;
+ *   - two slices of a call do not overlap if the call may write to one of them.
+ * Everything else is tested: there is no other way to call these functions wrongly.
  *
- * That each call does what is said here is proved, for all arguments (specs/ of crates/export, crates/exportdesk and crates/exportprepare).
+ * A call writes inside the slices that it may write to and nowhere else. A slice under its stated size is ROOM; a longer one is fine, its
+ * surplus is neither read nor written. A refusal (a number other than 0) changes nothing. On success, places behind what is written stay as
+ * lent. No call keeps a pointer, takes memory or reads anything but its arguments.
+ *
+ * That each call does what is said here is proved, for all arguments (specs/ of crates/export, crates/exportviews, crates/exportdesk and
+ * crates/exportprepare).
  */
 #ifndef HOMRALGYU_H
 #define HOMRALGYU_H
@@ -130,6 +136,61 @@ uint8_t homralgyu_value(uint16_t sf, uint64_t code, uint64_t *what, size_t what_
  * Refusals in order: ROOM (orbit, 3), FIELD.
  * Writes them in metres: radial, along-track, cross-track. */
 uint8_t homralgyu_orbit(uint64_t radial, uint64_t along_track, uint64_t cross_track, double *orbit, size_t orbit_len);
+
+/* Views of a sheet, which is all its entries. The sheet is judged first, as homralgyu_sheet_write does.
+ *
+ * A satellite of an OCB sheet of a subtype, by its place in the mask's order from 0 on: fourteen numbers and five floats. */
+enum homralgyu_satellite {
+    HOMRALGYU_SATELLITE_NUMBER,
+    HOMRALGYU_SATELLITE_IN_USE,           /* 0 out of use: nothing more is written; 1 in use */
+    HOMRALGYU_SATELLITE_CONTINUITY,       /* SF015 */
+    HOMRALGYU_SATELLITE_ORBIT,            /* 1 if it has an orbit block, else 0; what a block that is not there would say is written as 0 */
+    HOMRALGYU_SATELLITE_IODE,
+    HOMRALGYU_SATELLITE_YAW,              /* 0 invalid, 2 degrees, 6 absent */
+    HOMRALGYU_SATELLITE_CLOCK,            /* 1 if it has a clock block, else 0 */
+    HOMRALGYU_SATELLITE_CLOCK_CONTINUITY, /* SF022 */
+    HOMRALGYU_SATELLITE_CLOCK_ERROR,      /* SF024 */
+    HOMRALGYU_SATELLITE_BIASES,           /* 1 if it has a bias block, else 0 */
+    HOMRALGYU_SATELLITE_PHASES_AT,        /* the sheet's entry of the first phase bias, three entries each; size and bits of their mask lie before it */
+    HOMRALGYU_SATELLITE_PHASES,           /* how many there are */
+    HOMRALGYU_SATELLITE_CODES_AT,         /* the same of the code biases, one entry each */
+    HOMRALGYU_SATELLITE_CODES,
+    HOMRALGYU_SATELLITE                   /* the room that the numbers want: 14 */
+};
+
+enum homralgyu_satellite_floats {
+    HOMRALGYU_SATELLITE_RADIAL, /* metres, as the two below */
+    HOMRALGYU_SATELLITE_ALONG_TRACK,
+    HOMRALGYU_SATELLITE_CROSS_TRACK,
+    HOMRALGYU_SATELLITE_YAW_ANGLE,        /* degrees, 0 if absent or invalid */
+    HOMRALGYU_SATELLITE_CLOCK_CORRECTION, /* metres */
+    HOMRALGYU_SATELLITE_FLOATS            /* the room that the floats want: 5 */
+};
+
+/* Refusals in order: ROOM (view, 14; floats, 5), UNKNOWN_TYPE, the first fault (SHORT, FIELD or MASK_EMPTY), LEFTOVER, LENGTH, FIELD for a place
+ * past the last satellite.
+ * Writes the numbers into view, and the floats of a satellite in use. */
+uint8_t homralgyu_satellite_at(uint8_t subtype, const uint64_t *sheet, size_t sheet_len, uint64_t place, uint64_t *view, size_t view_len,
+                               double *floats, size_t floats_len);
+
+/* The first block of an area, by its ID, in a GAD sheet.
+ * Refusals in order: ROOM (view, 3; floats, 4), the first fault (SHORT or FIELD), LEFTOVER, LENGTH.
+ * Writes into view 1 and the counts of nodes, SF034 and SF035; and into floats the reference corner's latitude and longitude and the spacings of
+ * latitude and longitude, in degrees. That no block has the ID is no refusal: 0 is written into view, and nothing more. */
+uint8_t homralgyu_gad_area(uint8_t id, const uint64_t *sheet, size_t sheet_len, uint64_t *view, size_t view_len, double *floats,
+                           size_t floats_len);
+
+/* The same in an HPAC sheet of a subtype.
+ * Refusals in order: ROOM (view, 5), UNKNOWN_TYPE, the first fault (SHORT, FIELD or MASK_EMPTY), LEFTOVER, LENGTH.
+ * Writes into view 1, the sheet's entry at which the block starts, SF039, and SF040 of the troposphere and of the ionosphere; or 0. */
+uint8_t homralgyu_hpac_area(uint8_t subtype, uint8_t id, const uint64_t *sheet, size_t sheet_len, uint64_t *view, size_t view_len);
+
+/* The same in a BPAC sheet, by a BPAC area ID.
+ * Refusals in order: ROOM (view, 4; floats, 5), the first fault (SHORT or FIELD), LEFTOVER, LENGTH.
+ * Writes into view 1, the sheet's entry at which the block starts, and the counts of nodes, SF075 and SF076; and into floats the reference corner's
+ * latitude and longitude and the spacings of latitude and longitude, in degrees, and the average VTEC in TECU; or 0 into view. */
+uint8_t homralgyu_bpac_area(uint8_t id, const uint64_t *sheet, size_t sheet_len, uint64_t *view, size_t view_len, double *floats,
+                            size_t floats_len);
 
 /* A desk is nine numbers and the bytes of two books, 192 each: the live book's and the run's. */
 enum homralgyu_desk {

@@ -1,16 +1,21 @@
-/* One job in C: a desk is made, messages come as a stream with noise before them, in portions of 40 bytes, and each event is printed with
- * the log bytes that it adds. Then an area is looked up, and the book is kept and taken in by a second desk. */
+/* One job in C: messages come as a stream with noise before them, in portions of 40 bytes. Each event of the stream is printed by its number;
+ * then a desk is made, the same stream is prepared, and each event is printed with the log bytes that it adds. Then an area is looked up, and
+ * the book is kept and taken in by a second desk. Last come views of two sheets. */
 #include "homralgyu.h"
 
 #include <stdio.h>
 #include <stdlib.h>
 #include <string.h>
 
-enum { SOLUTION = 5, PROCESSOR = 11, GPS = 0, HPAC = 1, GAD = 2, PORTION = 40 };
+enum { SOLUTION = 5, PROCESSOR = 11, GPS = 0, HPAC = 1, GAD = 2, PORTION = 40, MOST_EVENTS = 100 };
+
+/* the events of a stream */
+enum { HUNGRY, FRAME, NOISE, DONE };
 
 /* Everything that a job lends to its calls. */
 struct job {
-    uint64_t desk[HOMRALGYU_DESK], tray[3], told[5], header[HOMRALGYU_HEADER];
+    uint64_t desk[HOMRALGYU_DESK], tray[3], told[HOMRALGYU_TOLD], header[HOMRALGYU_HEADER];
+    unsigned events;
     uint8_t bytes[HOMRALGYU_LONGEST_FRAME], live[HOMRALGYU_BOOK_BYTES], run[HOMRALGYU_BOOK_BYTES], log[HOMRALGYU_LOG_ROOM];
 };
 
@@ -64,42 +69,91 @@ static void make_input(struct input *input)
     add(input, HPAC, SOLUTION, 43200, bare, sizeof bare / sizeof *bare);
 }
 
-/* One event printed; 0 if nothing more is due. */
-static int tell(const struct job *job)
+/* One event printed by its number; 0 where nothing more is due. With another number for an event this job would print something else, stop
+ * here, or have more events than its stream has. */
+static int tell(struct job *job)
 {
-    switch (job->told[0]) {
-    case 1:
-        printf("frame %u %u %u: %u\n", (unsigned)job->header[HOMRALGYU_LENGTH], (unsigned)job->header[HOMRALGYU_TYPE],
-               (unsigned)job->header[HOMRALGYU_SUBTYPE], (unsigned)job->told[3]);
-        if (job->told[4] != 0)
-            print_bytes("log", job->log, job->told[4]);
-        return 1;
-    case 2:
-        printf("noise %u\n", (unsigned)job->told[2]);
-        return 1;
-    default:
+    job->events++;
+    if (job->events == MOST_EVENTS) {
+        printf("no end\n");
+        exit(1);
+    }
+    switch (job->told[HOMRALGYU_TOLD_EVENT]) {
+    case HUNGRY:
+        printf("hungry\n");
         return 0;
+    case FRAME:
+        printf("frame %u %u %u\n", (unsigned)job->header[HOMRALGYU_LENGTH], (unsigned)job->header[HOMRALGYU_TYPE],
+               (unsigned)job->header[HOMRALGYU_SUBTYPE]);
+        return 1;
+    case NOISE:
+        printf("noise %u\n", (unsigned)job->told[HOMRALGYU_TOLD_NOISE]);
+        return 1;
+    case DONE:
+        printf("done\n");
+        return 0;
+    default:
+        printf("event %u\n", (unsigned)job->told[HOMRALGYU_TOLD_EVENT]);
+        exit(1);
     }
 }
 
+/* An event with what the desk made of it. */
+static int tell_desk(struct job *job)
+{
+    int more = tell(job);
+    if (job->told[HOMRALGYU_TOLD_EVENT] == FRAME)
+        printf("the desk answers %u\n", (unsigned)job->told[HOMRALGYU_TOLD_NUMBER]);
+    if (job->told[HOMRALGYU_TOLD_LOG] != 0)
+        print_bytes("log", job->log, job->told[HOMRALGYU_TOLD_LOG]);
+    return more;
+}
+
+static size_t portion_at(const struct input *input, size_t at)
+{
+    size_t left = input->size - at;
+    return left < PORTION ? left : PORTION;
+}
+
+/* The stream alone: each portion until hungry, then finish until done. */
+static void listen(struct job *job, const struct input *input)
+{
+    for (size_t at = 0; at < input->size; at += PORTION) {
+        size_t size = portion_at(input, at), used = 0;
+        do {
+            must(homralgyu_stream_call(job->bytes, sizeof job->bytes, job->tray, 3, input->bytes + at + used, size - used, job->told,
+                                       HOMRALGYU_TOLD, job->header, HOMRALGYU_HEADER),
+                 "stream_call");
+            used += job->told[HOMRALGYU_TOLD_USED];
+        } while (tell(job));
+    }
+    do {
+        must(homralgyu_stream_finish(job->bytes, sizeof job->bytes, job->tray, 3, job->told, HOMRALGYU_TOLD, job->header,
+                                     HOMRALGYU_HEADER),
+             "stream_finish");
+    } while (tell(job));
+}
+
+/* The same with a desk. */
 static void prepare(struct job *job, const struct input *input)
 {
-    for (size_t at = 0; at < input->size;) {
-        size_t left = input->size - at;
-        must(homralgyu_prepare_call(job->bytes, sizeof job->bytes, job->tray, 3, job->desk, HOMRALGYU_DESK, job->live,
-                                    sizeof job->live, job->run, sizeof job->run, job->log, sizeof job->log, input->bytes + at,
-                                    left < PORTION ? left : PORTION, job->told, 5, job->header, HOMRALGYU_HEADER),
-             "prepare_call");
-        at += job->told[1];
-        tell(job);
+    for (size_t at = 0; at < input->size; at += PORTION) {
+        size_t size = portion_at(input, at), used = 0;
+        do {
+            must(homralgyu_prepare_call(job->bytes, sizeof job->bytes, job->tray, 3, job->desk, HOMRALGYU_DESK, job->live,
+                                        sizeof job->live, job->run, sizeof job->run, job->log, sizeof job->log,
+                                        input->bytes + at + used, size - used, job->told, HOMRALGYU_TOLD, job->header,
+                                        HOMRALGYU_HEADER),
+                 "prepare_call");
+            used += job->told[HOMRALGYU_TOLD_USED];
+        } while (tell_desk(job));
     }
     do {
         must(homralgyu_prepare_finish(job->bytes, sizeof job->bytes, job->tray, 3, job->desk, HOMRALGYU_DESK, job->live,
-                                      sizeof job->live, job->run, sizeof job->run, job->log, sizeof job->log, job->told, 5,
-                                      job->header, HOMRALGYU_HEADER),
+                                      sizeof job->live, job->run, sizeof job->run, job->log, sizeof job->log, job->told,
+                                      HOMRALGYU_TOLD, job->header, HOMRALGYU_HEADER),
              "prepare_finish");
-    } while (tell(job));
-    printf("end\n");
+    } while (tell_desk(job));
 }
 
 static void find(const struct job *job, uint8_t id)
@@ -127,18 +181,38 @@ static void hand_over(const struct job *from, struct job *to)
          "desk_take_book");
 }
 
+/* An area of a GAD in degrees, and a satellite with an orbit block and its yaw. */
+static void look(void)
+{
+    const uint64_t gad[] = {0, 3, 0, 0, 5, 900, 0, 1, 0, 0, 0};
+    const uint64_t ocb[] = {0, 0, 0, 1, 0, 0, 0, (uint64_t)1 << 31, 0, 4, 0, 9, 0, 8191, 16382, 59};
+    uint64_t area[3], satellite[HOMRALGYU_SATELLITE];
+    double degrees[4], floats[HOMRALGYU_SATELLITE_FLOATS];
+    must(homralgyu_gad_area(5, gad, sizeof gad / sizeof *gad, area, 3, degrees, 4), "gad_area");
+    printf("area 5: %u x %u nodes from %+.1f %+.1f every %.1f x %.1f degrees\n", (unsigned)area[1], (unsigned)area[2], degrees[0],
+           degrees[1], degrees[2], degrees[3]);
+    must(homralgyu_satellite_at(GPS, ocb, sizeof ocb / sizeof *ocb, 0, satellite, HOMRALGYU_SATELLITE, floats,
+                                HOMRALGYU_SATELLITE_FLOATS),
+         "satellite_at");
+    printf("satellite %u: %+.3f %+.3f %+.3f metres, yaw %.0f degrees\n", (unsigned)satellite[HOMRALGYU_SATELLITE_NUMBER],
+           floats[HOMRALGYU_SATELLITE_RADIAL], floats[HOMRALGYU_SATELLITE_ALONG_TRACK], floats[HOMRALGYU_SATELLITE_CROSS_TRACK],
+           floats[HOMRALGYU_SATELLITE_YAW_ANGLE]);
+}
+
 int main(void)
 {
-    static struct job job, next; /* zeros: a tray has to start so */
+    static struct job stream, job, next; /* zeros: a tray has to start so */
     static struct input input;
+    make_input(&input);
+    listen(&stream, &input);
     printf("a desk for constellation 5: %u\n", homralgyu_desk_new(SOLUTION, PROCESSOR, 5, job.desk, HOMRALGYU_DESK));
     must(homralgyu_desk_new(SOLUTION, PROCESSOR, GPS, job.desk, HOMRALGYU_DESK), "desk_new");
     must(homralgyu_desk_new(SOLUTION, PROCESSOR, GPS, next.desk, HOMRALGYU_DESK), "desk_new");
-    make_input(&input);
     prepare(&job, &input);
     find(&job, 5);
     find(&job, 6);
     hand_over(&job, &next);
     find(&next, 5);
+    look();
     return 0;
 }

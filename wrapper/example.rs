@@ -1,4 +1,5 @@
-//! The wrapper in use: a frame written, found in a stream behind three bytes of noise, and its payload read; then a desk that takes two messages.
+//! The wrapper in use: a frame written, found in a stream behind three bytes of noise, and its payload read; then a desk that takes two messages, and
+//! views of two sheets.
 
 use homralgyu::{Desk, Event, Parts, Refusal, Stream};
 
@@ -71,7 +72,19 @@ fn desk() -> Result<(), Refusal> {
     Ok(())
 }
 
+fn look() -> Result<(), Refusal> {
+    // satellite 1 of GPS with an orbit block and its yaw; area 5
+    let ocb = [0, 0, 0, 1, 0, 0, 0, 1 << 31, 0, 4, 0, 9, 0, 8191, 16382, 59];
+    let gad = [0, 3, 0, 0, 5, 900, 0, 1, 0, 0, 0];
+    println!("{:?}", homralgyu::satellite_at(0, &ocb, 0)?);
+    println!("at place 1: {:?}", homralgyu::satellite_at(0, &ocb, 1));
+    println!("area 5: {:?}", homralgyu::gad_area(5, &gad)?);
+    println!("area 6: {:?}", homralgyu::gad_area(6, &gad)?);
+    Ok(())
+}
+
 fn main() -> Result<(), Refusal> {
     find_and_read()?;
-    desk()
+    desk()?;
+    look()
 }

@@ -493,6 +493,95 @@ pub mod raw {
         }
     }
 
+    // views of a sheet
+    extern "C" {
+        fn homralgyu_satellite_at(
+            subtype: u8,
+            sheet: *const u64,
+            sheet_len: usize,
+            place: u64,
+            view: *mut u64,
+            view_len: usize,
+            floats: *mut f64,
+            floats_len: usize,
+        ) -> u8;
+        fn homralgyu_gad_area(
+            id: u8,
+            sheet: *const u64,
+            sheet_len: usize,
+            view: *mut u64,
+            view_len: usize,
+            floats: *mut f64,
+            floats_len: usize,
+        ) -> u8;
+        fn homralgyu_hpac_area(
+            subtype: u8,
+            id: u8,
+            sheet: *const u64,
+            sheet_len: usize,
+            view: *mut u64,
+            view_len: usize,
+        ) -> u8;
+        fn homralgyu_bpac_area(
+            id: u8,
+            sheet: *const u64,
+            sheet_len: usize,
+            view: *mut u64,
+            view_len: usize,
+            floats: *mut f64,
+            floats_len: usize,
+        ) -> u8;
+    }
+
+    pub fn satellite_at(subtype: u8, sheet: &[u64], place: u64, view: &mut [u64], floats: &mut [f64]) -> u8 {
+        unsafe {
+            homralgyu_satellite_at(
+                subtype,
+                sheet.as_ptr(),
+                sheet.len(),
+                place,
+                view.as_mut_ptr(),
+                view.len(),
+                floats.as_mut_ptr(),
+                floats.len(),
+            )
+        }
+    }
+
+    pub fn gad_area(id: u8, sheet: &[u64], view: &mut [u64], floats: &mut [f64]) -> u8 {
+        unsafe {
+            homralgyu_gad_area(
+                id,
+                sheet.as_ptr(),
+                sheet.len(),
+                view.as_mut_ptr(),
+                view.len(),
+                floats.as_mut_ptr(),
+                floats.len(),
+            )
+        }
+    }
+
+    pub fn hpac_area(subtype: u8, id: u8, sheet: &[u64], view: &mut [u64]) -> u8 {
+        unsafe {
+            homralgyu_hpac_area(subtype, id, sheet.as_ptr(), sheet.len(), view.as_mut_ptr(), view.len())
+        }
+    }
+
+    pub fn bpac_area(id: u8, sheet: &[u64], view: &mut [u64], floats: &mut [f64]) -> u8 {
+        unsafe {
+            homralgyu_bpac_area(
+                id,
+                sheet.as_ptr(),
+                sheet.len(),
+                view.as_mut_ptr(),
+                view.len(),
+                floats.as_mut_ptr(),
+                floats.len(),
+            )
+        }
+    }
+
     // stream and desk together
     extern "C" {
         fn homralgyu_prepare_call(
@@ -724,6 +813,151 @@ pub fn value(sf: u16, code: u64) -> Result<Value, Refusal> {
 pub fn orbit(radial: u64, along_track: u64, cross_track: u64) -> Result<[f64; 3], Refusal> {
     let mut orbit = [0.0; 3];
     answer(raw::orbit(radial, along_track, cross_track, &mut orbit), orbit).map(|_| orbit)
+}
+
+/// The yaw of a satellite.
+#[derive(Clone, Copy, PartialEq, Debug)]
+pub enum Yaw {
+    Absent,
+    Invalid,
+    Degrees(f64),
+}
+
+/// IODE, and the corrections in metres: radial, along-track, cross-track.
+#[derive(Clone, Copy, PartialEq, Debug)]
+pub struct OrbitBlock {
+    pub iode: u64,
+    pub corrections: [f64; 3],
+}
+
+/// SF022, the correction in metres, SF024.
+#[derive(Clone, Copy, PartialEq, Debug)]
+pub struct ClockBlock {
+    pub continuity: u64,
+    pub correction: f64,
+    pub error: u64,
+}
+
+/// Where biases are on the sheet: the entry of the first, behind the size and the bits of their mask, and how many there are.
+/// A phase bias has three entries, a code bias one.
+#[derive(Clone, Copy, PartialEq, Eq, Debug)]
+pub struct Biases {
+    pub phases_at: usize,
+    pub phases: usize,
+    pub codes_at: usize,
+    pub codes: usize,
+}
+
+/// The blocks of a satellite in use, with SF015.
+#[derive(Clone, Copy, PartialEq, Debug)]
+pub struct Blocks {
+    pub continuity: u64,
+    pub orbit: Option<OrbitBlock>,
+    pub yaw: Yaw,
+    pub clock: Option<ClockBlock>,
+    pub biases: Option<Biases>,
+}
+
+/// A satellite of OCB: its number, and its blocks if it is in use.
+#[derive(Clone, Copy, PartialEq, Debug)]
+pub struct Satellite {
+    pub number: u64,
+    pub blocks: Option<Blocks>,
+}
+
+/// The satellite at a place, from 0 on in the mask's order, of an OCB sheet.
+pub fn satellite_at(subtype: u8, sheet: &[u64], place: u64) -> Result<Satellite, Refusal> {
+    let (mut n, mut x) = ([0; 14], [0.0; 5]);
+    answer(raw::satellite_at(subtype, sheet, place, &mut n, &mut x), ())?;
+    let blocks = Blocks {
+        continuity: n[2],
+        orbit: (n[3] == 1).then_some(OrbitBlock { iode: n[4], corrections: [x[0], x[1], x[2]] }),
+        yaw: match n[5] {
+            0 => Yaw::Invalid,
+            2 => Yaw::Degrees(x[3]),
+            _ => Yaw::Absent,
+        },
+        clock: (n[6] == 1).then_some(ClockBlock { continuity: n[7], correction: x[4], error: n[8] }),
+        biases: (n[9] == 1).then_some(Biases {
+            phases_at: n[10] as usize,
+            phases: n[11] as usize,
+            codes_at: n[12] as usize,
+            codes: n[13] as usize,
+        }),
+    };
+    Ok(Satellite { number: n[0], blocks: (n[1] == 1).then_some(blocks) })
+}
+
+/// An area's grid: reference corner and spacings in degrees, counts of nodes.
+#[derive(Clone, Copy, PartialEq, Debug)]
+pub struct Grid {
+    pub latitude: f64,
+    pub longitude: f64,
+    pub rows: u64,
+    pub columns: u64,
+    pub latitude_spacing: f64,
+    pub longitude_spacing: f64,
+}
+
+/// The first block with this ID of a GAD sheet.
+pub fn gad_area(id: u8, sheet: &[u64]) -> Result<Option<Grid>, Refusal> {
+    let (mut n, mut x) = ([0; 3], [0.0; 4]);
+    answer(raw::gad_area(id, sheet, &mut n, &mut x), ())?;
+    Ok((n[0] == 1).then_some(Grid {
+        latitude: x[0],
+        longitude: x[1],
+        rows: n[1],
+        columns: n[2],
+        latitude_spacing: x[2],
+        longitude_spacing: x[3],
+    }))
+}
+
+/// An area of HPAC: SF039 and both SF040; its block starts at the sheet's entry `start`.
+#[derive(Clone, Copy, PartialEq, Eq, Debug)]
+pub struct HpacArea {
+    pub start: usize,
+    pub points: u64,
+    pub troposphere_blocks: u64,
+    pub ionosphere_blocks: u64,
+}
+
+/// The first block with this ID of an HPAC sheet.
+pub fn hpac_area(subtype: u8, id: u8, sheet: &[u64]) -> Result<Option<HpacArea>, Refusal> {
+    let mut n = [0; 5];
+    answer(raw::hpac_area(subtype, id, sheet, &mut n), ())?;
+    Ok((n[0] == 1).then_some(HpacArea {
+        start: n[1] as usize,
+        points: n[2],
+        troposphere_blocks: n[3],
+        ionosphere_blocks: n[4],
+    }))
+}
+
+/// An area of BPAC: its grid, its average VTEC in TECU; its block starts at the sheet's entry `start`.
+#[derive(Clone, Copy, PartialEq, Debug)]
+pub struct BpacArea {
+    pub start: usize,
+    pub grid: Grid,
+    pub average: f64,
+}
+
+/// The first block with this BPAC area ID of a BPAC sheet.
+pub fn bpac_area(id: u8, sheet: &[u64]) -> Result<Option<BpacArea>, Refusal> {
+    let (mut n, mut x) = ([0; 4], [0.0; 5]);
+    answer(raw::bpac_area(id, sheet, &mut n, &mut x), ())?;
+    Ok((n[0] == 1).then_some(BpacArea {
+        start: n[1] as usize,
+        grid: Grid {
+            latitude: x[0],
+            longitude: x[1],
+            rows: n[2],
+            columns: n[3],
+            latitude_spacing: x[2],
+            longitude_spacing: x[3],
+        },
+        average: x[4],
+    }))
 }
 
 /// What a stream says.

@@ -1,0 +1,20 @@
+-- One number into one place.
+use Rattle.export.specs.Stored.{stored-there}
+use borrow.Author.Needs.{needs}
+use Rattle.exportviews.proofs.areas.put_none.Statement.{statement}
+use Rattle.exportviews.proofs.areas.put_none.Tie as tie
+
+slice-aggregate-put : tie.Need-slice-aggregate-put
+slice-aggregate-put c = search needs
+
+put-requires : tie.Need-put-requires
+put-requires c κs = search needs
+
+same-length : tie.Need-same-length
+same-length c = search needs
+
+returns : tie.Need-returns
+returns c = search (stored-there, needs)
+
+pub put-none-spec : {M : Type 1} → statement M
+put-none-spec = tie.close (tie.spec slice-aggregate-put put-requires same-length returns)

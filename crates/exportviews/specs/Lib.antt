@@ -1,0 +1,5 @@
+pub mod Views
+pub mod Areas
+pub mod Satellites
+pub mod Theorems
+pub mod Determined
