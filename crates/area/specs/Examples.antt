@@ -1,8 +1,7 @@
--- Serves readers, and is proved by computing: measured case 7.
-use mathlib.Core.Bool.{true}
+-- Serves readers, and is proved by computing: what the bits of an area say.
 use mathlib.Core.Path.{_≡_, refl}
 use Prim.Native.Nat.{ℕ, _+_, _*_, _^_}
-use Rattle.area.specs.Area.{sf032, rows, latitudeSpacing, nodes, areaOff, isArea}
+use Rattle.area.specs.Area.{sf032, rows, latitudeSpacing, nodes}
 
 -- area 5 with this reference latitude: 8 rows at 3.2 degrees, 8 columns at 3.2 degrees, in the middle of the longitudes
 abbrev pub eightRows : ℕ → ℕ
@@ -10,12 +9,3 @@ eightRows latitude = ((((((5 * 2 ^ 11 + latitude) * 2 ^ 12 + 1800) * 2 ^ 3 + 7) 
 
 pub shape : (rows (eightRows 224) ≡ 8) × (latitudeSpacing (eightRows 224) ≡ 32) × (nodes (eightRows 224) ≡ 64) × (sf032 (eightRows 224) ≡ 224)
 shape = (refl, refl, refl, refl)
-
--- "8 rows at 3.2 degrees: latitude code 224 fits (-90.0), 223 AREA_OFF"
-pub fits : isArea (eightRows 224) ≡ true
-unfolding isArea areaOff
-fits = refl
-
-pub off : areaOff (eightRows 223) ≡ true
-unfolding areaOff
-off = refl

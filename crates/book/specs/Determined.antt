@@ -1,33 +1,66 @@
--- Two results of a call of this crate cannot differ: for equal inputs, answers and buffers that meet the contracts are equal. Proved.
-use mathlib.Core.Bool.{Bool}
-use mathlib.Core.Path.{_≡_, sym, _∙_}
-use mathlib.Core.List.{List}
+-- Two results of a public call of this crate cannot differ: for equal inputs, answers and lent buffers that meet the contract are equal. Proved.
+-- Written by tests/determined from the contracts in src/.
 use Prim.Native.Nat.{ℕ}
 use Rattle.area.specs.declared.AreaId.{AreaId}
-use Rattle.book.specs.Book.{bookOf, noBook, headSound, sound, found}
-use Rattle.book.specs.Take.{takenOf, bytesAfter, numberOfTaken}
+use Rattle.bits.specs.Part.{PartOf, part-determined}
+use Rattle.book.specs.Book.{areasIn, bookOf, found, foundAt, headSound, noBook, sound}
+use Rattle.book.specs.Take.{bytesAfter, lookup, numberOfTaken, takenOf}
 use Rattle.book.specs.declared.Book.{Book}
+use Rattle.book.specs.declared.Found.{Found}
 use Rattle.book.specs.declared.Taken.{Taken}
+use denote.Ref.{RefT, ptr}
+use mathlib.Core.Bool.{Bool}
+use mathlib.Core.List.{List}
+use mathlib.Core.Path.{_∙_, _≡_, sym}
 
-pub book-of-determined : (aiou count : ℕ) (a b : Book) → a ≡ bookOf aiou count → b ≡ bookOf aiou count → a ≡ b
-book-of-determined aiou count a b p q = p ∙ sym q
+pub book-of-determined : («aiou_plus_one» count : ℕ) (r₁ r₂ : Book)
+    → r₁ ≡ bookOf «aiou_plus_one» count
+    → r₂ ≡ bookOf «aiou_plus_one» count
+    → r₁ ≡ r₂
+book-of-determined «aiou_plus_one» count r₁ r₂ e0₁ e0₂ = e0₁ ∙ sym e0₂
 
-pub no-book-determined : (a b : Book) → a ≡ noBook → b ≡ noBook → a ≡ b
-no-book-determined a b p q = p ∙ sym q
+pub no-book-determined : (r₁ r₂ : Book)
+    → r₁ ≡ noBook
+    → r₂ ≡ noBook
+    → r₁ ≡ r₂
+no-book-determined r₁ r₂ e0₁ e0₂ = e0₁ ∙ sym e0₂
 
-pub head-is-sound-determined : (book : Book) (a b : Bool) → a ≡ headSound book → b ≡ headSound book → a ≡ b
-head-is-sound-determined book a b p q = p ∙ sym q
+pub head-is-sound-determined : (book : Book) (r₁ r₂ : Bool)
+    → r₁ ≡ headSound book
+    → r₂ ≡ headSound book
+    → r₁ ≡ r₂
+head-is-sound-determined book r₁ r₂ e0₁ e0₂ = e0₁ ∙ sym e0₂
 
-pub is-sound-determined : (book : Book) (s : List ℕ) (a b : Bool) → a ≡ sound book s → b ≡ sound book s → a ≡ b
-is-sound-determined book s a b p q = p ∙ sym q
+pub is-sound-determined : (book : Book) (bytes : List ℕ) (r₁ r₂ : Bool)
+    → r₁ ≡ sound book bytes
+    → r₂ ≡ sound book bytes
+    → r₁ ≡ r₂
+is-sound-determined book bytes r₁ r₂ e0₁ e0₂ = e0₁ ∙ sym e0₂
 
--- the bytes of the part that is found; where it starts: `part-determined` of bits/specs/Part.antt
-pub find-determined : (book : Book) (s : List ℕ) (id : AreaId) (a b : List ℕ) → a ≡ found book s id → b ≡ found book s id → a ≡ b
-find-determined book s id a b p q = p ∙ sym q
+pub find-determined : {X : Type 0} {bytes-part part₁ part₂ : RefT X} → (book : Book) (bytes : List ℕ) (id : AreaId) (r₁ r₂ : List ℕ)
+    → r₁ ≡ found book bytes id
+    → r₂ ≡ found book bytes id
+    → PartOf part₁ bytes-part (foundAt book bytes id)
+    → PartOf part₂ bytes-part (foundAt book bytes id)
+    → (r₁ ≡ r₂) × (ptr part₁ .0 ≡ ptr part₂ .0) × (ptr part₁ .1 ≡ ptr part₂ .1)
+find-determined book bytes id r₁ r₂ e0₁ e0₂ e1₁ e1₂ = (e0₁ ∙ sym e0₂, part-determined e1₁ e1₂ .0, part-determined e1₁ e1₂ .1)
 
-pub take-determined : (book : Book) (s payload : List ℕ) (a b : Taken) (t u : List ℕ) → a ≡ takenOf book s payload → b ≡ takenOf book s payload
-    → t ≡ bytesAfter book s payload → u ≡ bytesAfter book s payload → (a ≡ b) × (t ≡ u)
-take-determined book s payload a b t u ea eb et eu = (ea ∙ sym eb, et ∙ sym eu)
+pub look-determined : (bytes : List ℕ) (count id : ℕ) (r₁ r₂ : Found)
+    → r₁ ≡ lookup id (areasIn count bytes)
+    → r₂ ≡ lookup id (areasIn count bytes)
+    → r₁ ≡ r₂
+look-determined bytes count id r₁ r₂ e0₁ e0₂ = e0₁ ∙ sym e0₂
 
-pub number-taken-determined : (t : Taken) (a b : ℕ) → a ≡ numberOfTaken t → b ≡ numberOfTaken t → a ≡ b
-number-taken-determined t a b p q = p ∙ sym q
+pub take-determined : (book : Book) (bytes payload : List ℕ) (r₁ r₂ : Taken) (bytes₁ bytes₂ : List ℕ)
+    → r₁ ≡ takenOf book bytes payload
+    → r₂ ≡ takenOf book bytes payload
+    → bytes₁ ≡ bytesAfter book bytes payload
+    → bytes₂ ≡ bytesAfter book bytes payload
+    → (r₁ ≡ r₂) × (bytes₁ ≡ bytes₂)
+take-determined book bytes payload r₁ r₂ bytes₁ bytes₂ e0₁ e0₂ e1₁ e1₂ = (e0₁ ∙ sym e0₂, e1₁ ∙ sym e1₂)
+
+pub number-taken-determined : (answer : Taken) (r₁ r₂ : ℕ)
+    → r₁ ≡ numberOfTaken answer
+    → r₂ ≡ numberOfTaken answer
+    → r₁ ≡ r₂
+number-taken-determined answer r₁ r₂ e0₁ e0₂ = e0₁ ∙ sym e0₂

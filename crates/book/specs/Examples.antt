@@ -1,4 +1,4 @@
--- Computed and proved: the one-area GAD of measured case 6 and a book without areas.
+-- Computed and proved: a GAD of one area and a book without areas.
 use mathlib.Core.Path.{_≡_, refl}
 use mathlib.Core.List.{List, [], _∷_}
 use Prim.Native.Nat.{ℕ}

@@ -1,16 +1,19 @@
 -- Document 01, "Measured cases": one table against the definitions, with a single proof. Definitions to believe.
 use mathlib.Core.Path.{_≡_, refl}
 use mathlib.Core.Bool.{Bool, true, false}
-use mathlib.Core.List.{List, [], _∷_, map}
+use mathlib.Core.List.{List, [], _∷_, _++_, map}
 use Prim.Native.Nat.{ℕ, _+_, _*_, _^_}
 use lib.IntN.{pos}
 use lib.ListN.{replicate}
 use lib.Ieee.{Float, fin, binary64, round, div, ofInt}
-use Rattle.answer.specs.declared.Refusal.the-variants.{Field}
+use Rattle.answer.specs.declared.Refusal.the-variants.{Field, AreaOff}
 use Rattle.area.specs.Area.{areaOff}
 use Rattle.bits.specs.Bits.{bitsOf, toBits, number, field}
 use Rattle.sizes.specs.Sizes.{bookBytes, logRoom}
-use Rattle.book.specs.Book.{noBook, sound, headSound, areasSound}
+use Rattle.book.specs.Book.{bookOf, noBook, areasIn, sound, headSound, areasSound}
+use Rattle.book.specs.Take.{lookup, insert, takeBlock, takeAll, before, outcome, takenOf}
+use Rattle.book.specs.declared.Taken as took
+use Rattle.book.specs.declared.Taken.the-variants as gad
 use Rattle.checks.specs.Crc.{shift, crcBits, crc, lowFirst, reversed4, frameCrc, messageCrc}
 use Rattle.codes.specs.Fields.{numbered}
 use Rattle.codes.specs.Tables.{maskSizes, maskSize}
@@ -40,7 +43,7 @@ use Rattle.values.specs.Values.{quotient, valueOf}
 pub data Question : Type 0 where
   valueAt : (sf code : ℕ) → Question
   payloadOf : (kind subtype : ℕ) (sheet : List ℕ) → Question
-  offPole : (area : ℕ) → Question
+  intoBook : (payload : List ℕ) → Question
   inGroups : (number : ℕ) → Question
   runAfter : (frame : List ℕ) → Question
   logAfter : (frame : List ℕ) → Question
@@ -48,7 +51,7 @@ pub data Question : Type 0 where
 pub data Answer : Type 0 where
   means : (value : Value) → Answer
   takes : (answer : WriteAnswer) → Answer
-  isOff : (off : Bool) → Answer
+  leaves : (taken : took.Taken) → Answer
   bytes : (groups : List ℕ) → Answer
   opens : (run : Run) → Answer
   noDesk : Answer
@@ -72,7 +75,8 @@ firstLog (new.Refused why) frame = noDesk
 abbrev pub said : Question → Answer
 said (valueAt sf code) = means (valueOf sf code)
 said (payloadOf kind subtype sheet) = takes (judgedSheet kind subtype sheet)
-said (offPole area) = isOff (areaOff area)
+-- a GAD, taken into a book without areas
+said (intoBook payload) = leaves (takenOf noBook book payload)
 said (inGroups number) = bytes (groupsOf number)
 -- for solution 0, processor 0 and GPS
 said (runAfter frame) = firstRun (newDesk 0 0 0) frame
@@ -94,6 +98,10 @@ decimal negative digits over = round binary64 negative digits over
 -- 8 rows at 3.2 degrees from a latitude: SF034 is 7, SF036 is 31
 abbrev pub eightRows : ℕ → ℕ
 eightRows latitude = latitude * 2 ^ 28 + 7 * 2 ^ 13 + 31 * 2 ^ 5
+
+-- the GAD payload of one area: its 47 bits lie from bit 19 on, all else is zero
+abbrev pub gadOf : ℕ → List ℕ
+gadOf area = bytesOf 9 (bitsOf 19 0 ++ (bitsOf 47 area ++ bitsOf 6 0))
 
 -- the HPAC payload for GPS with area 5 alone and nothing sent of it: SF031 lies from bit 19 on, all else is zero
 abbrev pub areaFive : List ℕ
@@ -126,8 +134,8 @@ measured =
     -- 6. One-area GAD: 66 bits, 9 bytes.
     at (payloadOf 2 0 (5 ∷ 3 ∷ 0 ∷ 0 ∷ 7 ∷ 1234 ∷ 2000 ∷ 3 ∷ 4 ∷ 9 ∷ 9 ∷ [])) (takes (Written 66 9)) ∷
     -- 7. 8 rows at 3.2 degrees: latitude code 224 fits (-90.0), 223 AREA_OFF.
-    at (offPole (eightRows 224)) (isOff false) ∷
-    at (offPole (eightRows 223)) (isOff true) ∷
+    at (intoBook (gadOf (eightRows 224))) (leaves (gad.Holds (bookOf 1 1))) ∷
+    at (intoBook (gadOf (eightRows 223))) (leaves (gad.Refused AreaOff)) ∷
     -- 8. 43,199 is BF D1 02.
     at (inGroups 43199) (bytes (0xBF ∷ 0xD1 ∷ 0x02 ∷ [])) ∷
     -- 9. Tag 4294967295 becomes 23295.
@@ -137,5 +145,5 @@ measured =
     []
 
 pub measured-hold : map (λ (c : Case). said (c .asked)) measured ≡ map (λ (c : Case). c .answer) measured
-unfolding measured decimal valueOf sf lineOf find table quotient div ofInt round judgedSheet judgingSheet writeL judge bitsOf numbered maskSize maskSizes areaOff groupsOf groups groupsOfAll newDesk frameTaken loggedBy verdict noRoom byHeader deskSound sound headSound areasSound plain body start description checkOver bytesOf checked badFrameCrc badMessageCrc frameOf payloadIn authenticated authentication frameCrc messageCrc crc crcBits shift lowFirst reversed4 toBits number field judging readL logOf reasonFor
+unfolding measured decimal valueOf sf lineOf find table quotient div ofInt round judgedSheet judgingSheet writeL judge bitsOf numbered maskSize maskSizes areaOff groupsOf groups groupsOfAll newDesk frameTaken loggedBy verdict noRoom byHeader deskSound sound headSound areasSound plain body start description checkOver bytesOf checked badFrameCrc badMessageCrc frameOf payloadIn authenticated authentication frameCrc messageCrc crc crcBits shift lowFirst reversed4 toBits number field judging readL logOf reasonFor outcome before areasIn takeAll takeBlock lookup insert
 measured-hold = refl

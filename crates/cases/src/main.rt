@@ -14,6 +14,9 @@ use values::Yaw;
 // The number of FIELD.
 const FIELD: u8 = 8;
 
+// The number of AREA_OFF.
+const AREA_OFF: u8 = 13;
+
 // A line: the case as the page has it, and whether it holds.
 fn tell(text: &[u8], holds: bool) {
     io::write_all(STDOUT_FILENO, text);
@@ -65,9 +68,30 @@ fn takes(kind: u8, subtype: u8, sheet: &[u64], bits: usize, bytes: usize) -> boo
     }
 }
 
-// 8 rows at 3.2 degrees from a latitude: SF034 is 7, SF036 is 31.
+// What a book without areas makes of a GAD of one area, 8 rows at 3.2 degrees from a latitude: SF034 is 7, SF036 is 31. The area's
+// 47 bits lie from bit 19 on, all else is zero.
+fn into_book(latitude: u16) -> book::Taken {
+    let mut payload = [0u8; 9];
+    bits::put(
+        &mut payload,
+        19,
+        47,
+        latitude as u64 * 268435456 + 7 * 8192 + 31 * 32,
+    );
+    let mut bytes = [0u8; sizes::BOOK_BYTES];
+    book::take(book::no_book(), &mut bytes, &payload)
+}
+
+// The area is taken.
+fn fits(latitude: u16) -> bool {
+    match into_book(latitude) {
+        book::Taken::Holds(book) => book.aiou_plus_one == 1 && book.count == 1,
+        book::Taken::Refused(_) => false,
+    }
+}
+
 fn is_off(latitude: u16) -> bool {
-    area::is_off(latitude as u64 * 268435456 + 7 * 8192 + 31 * 32)
+    book::number_taken(into_book(latitude)) == AREA_OFF
 }
 
 // A number takes three bytes, and they are these.
@@ -193,7 +217,7 @@ fn main() {
     tell_payloads();
     tell(
         b"7. 8 rows at 3.2 degrees: latitude code 224 fits",
-        !is_off(224),
+        fits(224),
     );
     tell(
         b"7. 8 rows at 3.2 degrees: latitude code 223 AREA_OFF",

@@ -1,46 +1,79 @@
--- Proved: two results of a public call cannot differ, since each contract says that the result is a definition of the inputs.
-use mathlib.Core.Path.{_≡_}
-use Prim.Native.Nat.{ℕ, _+_, _%_, _≤_}
-use lib.Count.{ones}
-use lib.ListN.{length}
-use Rattle.layout.specs.declared.Field.{Field}
-use Rattle.layout.specs.Parts.{free}
-use Rattle.layout.specs.Determined.{determined}
-use Rattle.fields.specs.Fields.{sf}
+-- Two results of a public call of this crate cannot differ: for equal inputs, answers and lent buffers that meet the contract are equal. Proved.
+-- Written by tests/determined from the contracts in src/.
+use Prim.Native.Nat.{_%_, _+_, ℕ}
+use Rattle.codes.specs.Fields.{listed, maskField, satelliteAt, satellitesOf}
+use Rattle.codes.specs.Tables.{biasSize, firstSatellite, maskSf, maskSize}
 use Rattle.codes.specs.declared.Constellation.{Constellation}
 use Rattle.codes.specs.declared.satellites.Satellites.{Satellites}
-use Rattle.codes.specs.Tables.{maskSize, biasSize, firstSatellite, maskSf}
-use Rattle.codes.specs.Fields.{maskField, satellitesOf, listed, satelliteAt}
+use Rattle.fields.specs.Fields.{sf}
+use Rattle.layout.specs.Parts.{free}
+use Rattle.layout.specs.declared.Field.{Field}
+use lib.Count.{ones}
+use lib.ListN.{length}
+use mathlib.Core.Path.{_∙_, _≡_, sym}
 
-pub mask-size-determined : (c : Constellation) (size : ℕ) {r r' : ℕ} → r ≡ maskSize c size → r' ≡ maskSize c size → r ≡ r'
-mask-size-determined c size p q = determined p q
+pub satellites-of-determined : (constellation : Constellation) (size mask : ℕ) (r₁ r₂ : Satellites)
+    → r₁ ≡ listed (satellitesOf constellation size mask)
+    → r₂ ≡ listed (satellitesOf constellation size mask)
+    → r₁ ≡ r₂
+satellites-of-determined constellation size mask r₁ r₂ e0₁ e0₂ = e0₁ ∙ sym e0₂
 
-pub bias-size-determined : (c : Constellation) (size : ℕ) {r r' : ℕ} → r ≡ biasSize c size → r' ≡ biasSize c size → r ≡ r'
-bias-size-determined c size p q = determined p q
+pub satellite-count-determined : (constellation : Constellation) (size mask : ℕ) (r₁ r₂ : ℕ)
+    → r₁ ≡ length (satellitesOf constellation size mask)
+    → r₂ ≡ length (satellitesOf constellation size mask)
+    → r₁ ≡ r₂
+satellite-count-determined constellation size mask r₁ r₂ e0₁ e0₂ = e0₁ ∙ sym e0₂
 
-pub first-satellite-determined : (c : Constellation) {r r' : ℕ} → r ≡ firstSatellite c → r' ≡ firstSatellite c → r ≡ r'
-first-satellite-determined c p q = determined p q
+pub satellite-number-determined : (constellation : Constellation) (size mask more : ℕ) (r₁ r₂ : ℕ)
+    → r₁ ≡ satelliteAt (satellitesOf constellation size mask) more
+    → r₂ ≡ satelliteAt (satellitesOf constellation size mask) more
+    → r₁ ≡ r₂
+satellite-number-determined constellation size mask more r₁ r₂ e0₁ e0₂ = e0₁ ∙ sym e0₂
 
-pub mask-size-field-determined : (c : Constellation) {r r' : Field} → r ≡ sf (maskSf c) → r' ≡ sf (maskSf c) → r ≡ r'
-mask-size-field-determined c p q = determined p q
+pub set-bits-determined : (mask : ℕ) (r₁ r₂ : ℕ)
+    → r₁ ≡ ones mask
+    → r₂ ≡ ones mask
+    → r₁ ≡ r₂
+set-bits-determined mask r₁ r₂ e0₁ e0₂ = e0₁ ∙ sym e0₂
 
-pub mask-field-determined : (c : Constellation) (size : ℕ) {r r' : Field} → r ≡ maskField (maskSf c) (maskSize c size) → r' ≡ maskField (maskSf c) (maskSize c size) → r ≡ r'
-mask-field-determined c size p q = determined p q
+pub mask-size-determined : (constellation : Constellation) (size : ℕ) (r₁ r₂ : ℕ)
+    → r₁ ≡ maskSize constellation size
+    → r₂ ≡ maskSize constellation size
+    → r₁ ≡ r₂
+mask-size-determined constellation size r₁ r₂ e0₁ e0₂ = e0₁ ∙ sym e0₂
 
-pub bias-field-determined : (sf : ℕ) (c : Constellation) (size : ℕ) {r r' : Field} → r ≡ free sf (biasSize c size) → r' ≡ free sf (biasSize c size) → r ≡ r'
-bias-field-determined sf c size p q = determined p q
+pub bias-size-determined : (constellation : Constellation) (size : ℕ) (r₁ r₂ : ℕ)
+    → r₁ ≡ biasSize constellation size
+    → r₂ ≡ biasSize constellation size
+    → r₁ ≡ r₂
+bias-size-determined constellation size r₁ r₂ e0₁ e0₂ = e0₁ ∙ sym e0₂
 
-pub last-group-field-determined : (sf last : ℕ) {r r' : Field} → r ≡ free sf (last % 64 + 1) → r' ≡ free sf (last % 64 + 1) → r ≡ r'
-last-group-field-determined sf last p q = determined p q
+pub first-satellite-determined : (constellation : Constellation) (r₁ r₂ : ℕ)
+    → r₁ ≡ firstSatellite constellation
+    → r₂ ≡ firstSatellite constellation
+    → r₁ ≡ r₂
+first-satellite-determined constellation r₁ r₂ e0₁ e0₂ = e0₁ ∙ sym e0₂
 
-pub satellites-of-determined : (c : Constellation) (size mask : ℕ) {r r' : Satellites} → r ≡ listed (satellitesOf c size mask) → r' ≡ listed (satellitesOf c size mask) → r ≡ r'
-satellites-of-determined c size mask p q = determined p q
+pub mask-size-field-determined : (constellation : Constellation) (r₁ r₂ : Field)
+    → r₁ ≡ sf (maskSf constellation)
+    → r₂ ≡ sf (maskSf constellation)
+    → r₁ ≡ r₂
+mask-size-field-determined constellation r₁ r₂ e0₁ e0₂ = e0₁ ∙ sym e0₂
 
-pub satellite-count-determined : (c : Constellation) (size mask : ℕ) {r r' : ℕ} → r ≡ length (satellitesOf c size mask) → r' ≡ length (satellitesOf c size mask) → r ≡ r'
-satellite-count-determined c size mask p q = determined p q
+pub mask-field-determined : (constellation : Constellation) (size : ℕ) (r₁ r₂ : Field)
+    → r₁ ≡ maskField (maskSf constellation) (maskSize constellation size)
+    → r₂ ≡ maskField (maskSf constellation) (maskSize constellation size)
+    → r₁ ≡ r₂
+mask-field-determined constellation size r₁ r₂ e0₁ e0₂ = e0₁ ∙ sym e0₂
 
-pub satellite-number-determined : (c : Constellation) (size mask more : ℕ) {r r' : ℕ} → r ≡ satelliteAt (satellitesOf c size mask) more → r' ≡ satelliteAt (satellitesOf c size mask) more → r ≡ r'
-satellite-number-determined c size mask more p q = determined p q
+pub bias-field-determined : (sf : ℕ) (constellation : Constellation) (size : ℕ) (r₁ r₂ : Field)
+    → r₁ ≡ free sf (biasSize constellation size)
+    → r₂ ≡ free sf (biasSize constellation size)
+    → r₁ ≡ r₂
+bias-field-determined sf constellation size r₁ r₂ e0₁ e0₂ = e0₁ ∙ sym e0₂
 
-pub set-bits-determined : (mask : ℕ) {r r' : ℕ} → (r ≡ ones mask) × (r ≤ 64) → (r' ≡ ones mask) × (r' ≤ 64) → r ≡ r'
-set-bits-determined mask p q = determined (p .0) (q .0)
+pub last-group-field-determined : (sf last : ℕ) (r₁ r₂ : Field)
+    → r₁ ≡ free sf (last % 64 + 1)
+    → r₂ ≡ free sf (last % 64 + 1)
+    → r₁ ≡ r₂
+last-group-field-determined sf last r₁ r₂ e0₁ e0₂ = e0₁ ∙ sym e0₂

@@ -1,14 +1,10 @@
--- Computed and proved: the tables of sizes against the numbers of document 01, and measured cases 1 and 3 on the fields' ranges.
+-- Computed and proved: the tables of sizes against the numbers of document 01.
 use mathlib.Core.Path.{_≡_, refl}
 use mathlib.Core.List.{List, [], _∷_}
 use Prim.Native.Nat.{ℕ}
-use Rattle.answer.specs.declared.Refusal.the-variants as refusal
-use Rattle.layout.specs.declared.Verdict.the-variants.{Taken, Fault}
-use Rattle.layout.specs.Layout.{judge}
 use Rattle.codes.specs.declared.Constellation.{Constellation}
 use Rattle.codes.specs.declared.Constellation.the-variants.{Gps, Glonass, Galileo, BeiDou, Qzss}
 use Rattle.codes.specs.Tables.{maskSizes, maskSize, biasMaskSizes, biasSize}
-use Rattle.fields.specs.Fields.{table, find, lineOf, sf}
 
 by-constellation : (Constellation → List ℕ) → List (List ℕ)
 by-constellation f = f Gps ∷ f Glonass ∷ f Galileo ∷ f BeiDou ∷ f Qzss ∷ []
@@ -23,23 +19,3 @@ mask-sizes = refl
 bias-sizes : by-constellation (λ c. biasSize c 0 ∷ biasSize c 1 ∷ []) ≡ (6 ∷ 11 ∷ []) ∷ (5 ∷ 9 ∷ []) ∷ (8 ∷ 15 ∷ []) ∷ (8 ∷ 15 ∷ []) ∷ (6 ∷ 11 ∷ []) ∷ []
 unfolding by-constellation biasSize biasMaskSizes
 bias-sizes = refl
-
-correction-top : judge (sf 20) 16382 ≡ Taken
-unfolding judge table find lineOf sf
-correction-top = refl
-
-correction-over : judge (sf 20) 16383 ≡ Fault refusal.Field
-unfolding judge table find lineOf sf
-correction-over = refl
-
-yaw-top : judge (sf 21) 59 ≡ Taken
-unfolding judge table find lineOf sf
-yaw-top = refl
-
-yaw-over : judge (sf 21) 60 ≡ Fault refusal.Field
-unfolding judge table find lineOf sf
-yaw-over = refl
-
-yaw-invalid : judge (sf 21) 63 ≡ Taken
-unfolding judge table find lineOf sf
-yaw-invalid = refl

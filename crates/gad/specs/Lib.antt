@@ -1,5 +1,4 @@
 pub mod Gad
 pub mod Machine
-pub mod Examples
 pub mod Determined
 pub mod Rows

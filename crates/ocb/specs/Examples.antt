@@ -1,4 +1,4 @@
--- Computed and proved: worked messages, measured cases 4 and 5 among them.
+-- Computed and proved: worked messages.
 use mathlib.Core.Path.{_≡_, refl}
 use mathlib.Core.List.{List, [], _∷_}
 use lib.Count.{ones, onesIn}
@@ -7,28 +7,10 @@ use Rattle.bits.specs.Bits.{bitsOf, toBits, number}
 use Rattle.layout.specs.Layout.{done, judge, Outcome, accepted, refused, readL}
 use Rattle.fields.specs.Fields.{table, find, lineOf, sf}
 use Rattle.layout.specs.Parts.{absent, present}
-use Rattle.codes.specs.declared.Constellation.the-variants.{Gps, Glonass, BeiDou}
+use Rattle.codes.specs.declared.Constellation.the-variants.{Gps, Glonass}
 use Rattle.codes.specs.Tables.{maskSizes, maskSize, biasMaskSizes, biasSize}
 use Rattle.codes.specs.Fields.{numbered}
 use Rattle.ocb.specs.Ocb.{outOfUse, inUse, ocb}
-
--- case 4: GPS OCB, one unused satellite, number 5
-gps-unused : readL (ocb Gps done) (toBits (2 ∷ 192 ∷ 4 ∷ 0 ∷ 0 ∷ 0 ∷ 64 ∷ []))
-    ≡ accepted
-    (record { siou = 5; endOfSet = 1; datum = 0; ephemeris = 0; satellites = record { number = 5; state = outOfUse } ∷ [] })
-    (5 ∷ 1 ∷ 0 ∷ 0 ∷ 0 ∷ 0 ∷ 0 ∷ 134217728 ∷ 1 ∷ [])
-    50
-unfolding readL judge table find lineOf sf toBits bitsOf number numbered maskSize maskSizes
-gps-unused = refl
-
--- case 5: BeiDou likewise
-beidou-unused : readL (ocb BeiDou done) (toBits (2 ∷ 192 ∷ 1 ∷ 0 ∷ 0 ∷ 0 ∷ 0 ∷ 128 ∷ []))
-    ≡ accepted
-    (record { siou = 5; endOfSet = 1; datum = 0; ephemeris = 0; satellites = record { number = 5; state = outOfUse } ∷ [] })
-    (5 ∷ 1 ∷ 0 ∷ 0 ∷ 0 ∷ 0 ∷ 0 ∷ 4294967296 ∷ 1 ∷ [])
-    57
-unfolding readL judge table find lineOf sf toBits bitsOf number numbered maskSize maskSizes
-beidou-unused = refl
 
 -- a mask without a satellite
 no-satellite : readL (ocb Gps done) (toBits (2 ∷ 192 ∷ 0 ∷ 0 ∷ 0 ∷ 0 ∷ 64 ∷ [])) ≡ refused refusal.MaskEmpty
