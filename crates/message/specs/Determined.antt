@@ -1,22 +1,48 @@
--- Proved: two results of a public call cannot differ, since each contract says that the result is a definition of the inputs.
-use mathlib.Core.Path.{_≡_}
+-- Two results of a public call of this crate cannot differ: for equal inputs, answers and lent buffers that meet the contract are equal. Proved.
+-- Written by tests/determined from the contracts in src/.
 use Prim.Native.Nat.{ℕ}
 use Rattle.layout.specs.declared.Field.{Field}
-use Rattle.layout.specs.Determined.{determined}
-use Rattle.message.specs.declared.State.{State}
-use Rattle.message.specs.declared.Start.{Start}
-use Rattle.message.specs.declared.Subtype.{Subtype}
+use Rattle.message.specs.Machine.{fieldOf, startOf, stepOf}
 use Rattle.message.specs.Messages.{constellationFor}
-use Rattle.message.specs.Machine.{fieldOf, stepOf, startOf}
+use Rattle.message.specs.Rows.{lastOf, rowOf}
+use Rattle.message.specs.declared.Start.{Start}
+use Rattle.message.specs.declared.State.{State}
+use Rattle.message.specs.declared.Subtype.{Subtype}
+use Rattle.rows.specs.declared.Row.{Row}
+use mathlib.Core.Path.{_∙_, _≡_, sym}
 
-pub field-of-determined : (s : State) {r r' : Field} → r ≡ fieldOf s → r' ≡ fieldOf s → r ≡ r'
-field-of-determined s p q = determined p q
+pub field-of-determined : (s : State) (r₁ r₂ : Field)
+    → r₁ ≡ fieldOf s
+    → r₂ ≡ fieldOf s
+    → r₁ ≡ r₂
+field-of-determined s r₁ r₂ e0₁ e0₂ = e0₁ ∙ sym e0₂
 
-pub advance-determined : (s : State) (code : ℕ) {r r' : State} → r ≡ stepOf s code → r' ≡ stepOf s code → r ≡ r'
-advance-determined s code p q = determined p q
+pub advance-determined : (s : State) (code : ℕ) (r₁ r₂ : State)
+    → r₁ ≡ stepOf s code
+    → r₂ ≡ stepOf s code
+    → r₁ ≡ r₂
+advance-determined s code r₁ r₂ e0₁ e0₂ = e0₁ ∙ sym e0₂
 
-pub constellation-of-determined : (subtype : ℕ) {r r' : Subtype} → r ≡ constellationFor subtype → r' ≡ constellationFor subtype → r ≡ r'
-constellation-of-determined subtype p q = determined p q
+pub constellation-of-determined : (subtype : ℕ) (r₁ r₂ : Subtype)
+    → r₁ ≡ constellationFor subtype
+    → r₂ ≡ constellationFor subtype
+    → r₁ ≡ r₂
+constellation-of-determined subtype r₁ r₂ e0₁ e0₂ = e0₁ ∙ sym e0₂
 
-pub start-of-determined : (kind subtype : ℕ) {r r' : Start} → r ≡ startOf kind subtype → r' ≡ startOf kind subtype → r ≡ r'
-start-of-determined kind subtype p q = determined p q
+pub start-of-determined : (kind subtype : ℕ) (r₁ r₂ : Start)
+    → r₁ ≡ startOf kind subtype
+    → r₂ ≡ startOf kind subtype
+    → r₁ ≡ r₂
+start-of-determined kind subtype r₁ r₂ e0₁ e0₂ = e0₁ ∙ sym e0₂
+
+pub row-of-determined : (s : State) (r₁ r₂ : Row)
+    → r₁ ≡ rowOf s
+    → r₂ ≡ rowOf s
+    → r₁ ≡ r₂
+row-of-determined s r₁ r₂ e0₁ e0₂ = e0₁ ∙ sym e0₂
+
+pub after-determined : (s : State) (code : ℕ) (r₁ r₂ : State)
+    → r₁ ≡ stepOf (lastOf s) code
+    → r₂ ≡ stepOf (lastOf s) code
+    → r₁ ≡ r₂
+after-determined s code r₁ r₂ e0₁ e0₂ = e0₁ ∙ sym e0₂

@@ -1,39 +1,70 @@
--- Two results of a call of this crate cannot differ: for equal inputs, answers that meet the contracts are equal. Proved.
-use mathlib.Core.Path.{_≡_, sym, _∙_}
+-- Two results of a public call of this crate cannot differ: for equal inputs, answers and lent buffers that meet the contract are equal. Proved.
+-- Written by tests/determined from the contracts in src/.
 use Prim.Native.Nat.{ℕ}
-use Rattle.values.specs.Values.{valueOf, residualOf, yawOf, countOf, orbitOf, numberOfValue, numberOfResidual, numberOfYaw, numberOfCount, numberOfOrbit}
-use Rattle.values.specs.declared.Value.{Value}
-use Rattle.values.specs.declared.ResidualAnswer.{ResidualAnswer}
-use Rattle.values.specs.declared.YawAnswer.{YawAnswer}
+use Rattle.values.specs.Values.{countOf, numberOfCount, numberOfOrbit, numberOfResidual, numberOfValue, numberOfYaw, orbitOf, residualOf, valueOf, yawOf}
 use Rattle.values.specs.declared.CountAnswer.{CountAnswer}
 use Rattle.values.specs.declared.OrbitAnswer.{OrbitAnswer}
+use Rattle.values.specs.declared.ResidualAnswer.{ResidualAnswer}
+use Rattle.values.specs.declared.Value.{Value}
+use Rattle.values.specs.declared.YawAnswer.{YawAnswer}
+use mathlib.Core.Path.{_∙_, _≡_, sym}
 
-pub value-determined : (sf code : ℕ) (a b : Value) → a ≡ valueOf sf code → b ≡ valueOf sf code → a ≡ b
-value-determined sf code a b p q = p ∙ sym q
+pub value-of-determined : (sf code : ℕ) (r₁ r₂ : Value)
+    → r₁ ≡ valueOf sf code
+    → r₂ ≡ valueOf sf code
+    → r₁ ≡ r₂
+value-of-determined sf code r₁ r₂ e0₁ e0₂ = e0₁ ∙ sym e0₂
 
-pub residual-determined : (sf code : ℕ) (a b : ResidualAnswer) → a ≡ residualOf sf code → b ≡ residualOf sf code → a ≡ b
-residual-determined sf code a b p q = p ∙ sym q
+pub residual-of-determined : (sf code : ℕ) (r₁ r₂ : ResidualAnswer)
+    → r₁ ≡ residualOf sf code
+    → r₂ ≡ residualOf sf code
+    → r₁ ≡ r₂
+residual-of-determined sf code r₁ r₂ e0₁ e0₂ = e0₁ ∙ sym e0₂
 
-pub yaw-determined : (code : ℕ) (a b : YawAnswer) → a ≡ yawOf code → b ≡ yawOf code → a ≡ b
-yaw-determined code a b p q = p ∙ sym q
+pub yaw-of-determined : (code : ℕ) (r₁ r₂ : YawAnswer)
+    → r₁ ≡ yawOf code
+    → r₂ ≡ yawOf code
+    → r₁ ≡ r₂
+yaw-of-determined code r₁ r₂ e0₁ e0₂ = e0₁ ∙ sym e0₂
 
-pub count-determined : (sf code : ℕ) (a b : CountAnswer) → a ≡ countOf sf code → b ≡ countOf sf code → a ≡ b
-count-determined sf code a b p q = p ∙ sym q
+pub count-of-determined : (sf code : ℕ) (r₁ r₂ : CountAnswer)
+    → r₁ ≡ countOf sf code
+    → r₂ ≡ countOf sf code
+    → r₁ ≡ r₂
+count-of-determined sf code r₁ r₂ e0₁ e0₂ = e0₁ ∙ sym e0₂
 
-pub orbit-determined : (radial along cross : ℕ) (a b : OrbitAnswer) → a ≡ orbitOf radial along cross → b ≡ orbitOf radial along cross → a ≡ b
-orbit-determined radial along cross a b p q = p ∙ sym q
+pub orbit-of-determined : (radial «along_track» «cross_track» : ℕ) (r₁ r₂ : OrbitAnswer)
+    → r₁ ≡ orbitOf radial «along_track» «cross_track»
+    → r₂ ≡ orbitOf radial «along_track» «cross_track»
+    → r₁ ≡ r₂
+orbit-of-determined radial «along_track» «cross_track» r₁ r₂ e0₁ e0₂ = e0₁ ∙ sym e0₂
 
-pub number-of-value-determined : (answer : Value) (a b : ℕ) → a ≡ numberOfValue answer → b ≡ numberOfValue answer → a ≡ b
-number-of-value-determined answer a b p q = p ∙ sym q
+pub number-of-value-determined : (answer : Value) (r₁ r₂ : ℕ)
+    → r₁ ≡ numberOfValue answer
+    → r₂ ≡ numberOfValue answer
+    → r₁ ≡ r₂
+number-of-value-determined answer r₁ r₂ e0₁ e0₂ = e0₁ ∙ sym e0₂
 
-pub number-of-residual-determined : (answer : ResidualAnswer) (a b : ℕ) → a ≡ numberOfResidual answer → b ≡ numberOfResidual answer → a ≡ b
-number-of-residual-determined answer a b p q = p ∙ sym q
+pub number-of-residual-determined : (answer : ResidualAnswer) (r₁ r₂ : ℕ)
+    → r₁ ≡ numberOfResidual answer
+    → r₂ ≡ numberOfResidual answer
+    → r₁ ≡ r₂
+number-of-residual-determined answer r₁ r₂ e0₁ e0₂ = e0₁ ∙ sym e0₂
 
-pub number-of-yaw-determined : (answer : YawAnswer) (a b : ℕ) → a ≡ numberOfYaw answer → b ≡ numberOfYaw answer → a ≡ b
-number-of-yaw-determined answer a b p q = p ∙ sym q
+pub number-of-yaw-determined : (answer : YawAnswer) (r₁ r₂ : ℕ)
+    → r₁ ≡ numberOfYaw answer
+    → r₂ ≡ numberOfYaw answer
+    → r₁ ≡ r₂
+number-of-yaw-determined answer r₁ r₂ e0₁ e0₂ = e0₁ ∙ sym e0₂
 
-pub number-of-count-determined : (answer : CountAnswer) (a b : ℕ) → a ≡ numberOfCount answer → b ≡ numberOfCount answer → a ≡ b
-number-of-count-determined answer a b p q = p ∙ sym q
+pub number-of-count-determined : (answer : CountAnswer) (r₁ r₂ : ℕ)
+    → r₁ ≡ numberOfCount answer
+    → r₂ ≡ numberOfCount answer
+    → r₁ ≡ r₂
+number-of-count-determined answer r₁ r₂ e0₁ e0₂ = e0₁ ∙ sym e0₂
 
-pub number-of-orbit-determined : (answer : OrbitAnswer) (a b : ℕ) → a ≡ numberOfOrbit answer → b ≡ numberOfOrbit answer → a ≡ b
-number-of-orbit-determined answer a b p q = p ∙ sym q
+pub number-of-orbit-determined : (answer : OrbitAnswer) (r₁ r₂ : ℕ)
+    → r₁ ≡ numberOfOrbit answer
+    → r₂ ≡ numberOfOrbit answer
+    → r₁ ≡ r₂
+number-of-orbit-determined answer r₁ r₂ e0₁ e0₂ = e0₁ ∙ sym e0₂
