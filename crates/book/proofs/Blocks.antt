@@ -14,7 +14,8 @@ use Rattle.bits.specs.Laws.{got-there, field-lt}
 use Rattle.sizes.specs.Sizes.{mostAreas}
 use Rattle.area.specs.Area.{sf031, areaOff, numberIn, numberAt}
 use Rattle.book.specs.Book.{areasIn}
-use Rattle.book.specs.Take.{lookup}
+use Rattle.book.specs.Take.{lookup, looked}
+use Rattle.book.specs.FindLaws.{looked-there, looked-none}
 use Rattle.book.specs.Payload.{blockCount, mostBlocks, blockStart, blockAt, blocksFrom}
 use Rattle.book.specs.TakeLaws.{orElse}
 use Rattle.book.specs.Judge.{judgeFound, judgeBlock}
@@ -90,6 +91,13 @@ module _ (s : List ℕ) (id n : ℕ) where
 
       pub look-turn : (d ≡ id → ⊥) → Looking (i + 1)
       look-turn k = record { inside = omega arith; same = rw (ne-eqb _ _ k) at opened }
+
+  -- the bytes are too few, or they are there
+  pub look-few : length s / 6 < n → Nothing ≡ looked id n s
+  look-few h = sym (looked-none id n s (omega arith))
+
+  pub look-all : n ≤ length s / 6 → (r : Found) → r ≡ lookup id (areasIn n s) → r ≡ looked id n s
+  look-all h r e = e ∙ sym (looked-there id n s (omega arith))
 
 module _ (p : List ℕ) (id n : ℕ) where
   pub record LookingBack (i : ℕ) : Type 0 where

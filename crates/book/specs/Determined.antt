@@ -3,8 +3,8 @@
 use Prim.Native.Nat.{ℕ}
 use Rattle.area.specs.declared.AreaId.{AreaId}
 use Rattle.bits.specs.Part.{PartOf, part-determined}
-use Rattle.book.specs.Book.{areasIn, bookOf, found, foundAt, headSound, noBook, sound}
-use Rattle.book.specs.Take.{bytesAfter, lookup, numberOfTaken, takenOf}
+use Rattle.book.specs.Book.{bookOf, found, foundAt, headSound, noBook, sound}
+use Rattle.book.specs.Take.{bytesAfter, looked, numberOfTaken, takenOf}
 use Rattle.book.specs.declared.Book.{Book}
 use Rattle.book.specs.declared.Found.{Found}
 use Rattle.book.specs.declared.Taken.{Taken}
@@ -46,8 +46,8 @@ pub find-determined : {X : Type 0} {bytes-part part₁ part₂ : RefT X} → (bo
 find-determined book bytes id r₁ r₂ e0₁ e0₂ e1₁ e1₂ = (e0₁ ∙ sym e0₂, part-determined e1₁ e1₂ .0, part-determined e1₁ e1₂ .1)
 
 pub look-determined : (bytes : List ℕ) (count id : ℕ) (r₁ r₂ : Found)
-    → r₁ ≡ lookup id (areasIn count bytes)
-    → r₂ ≡ lookup id (areasIn count bytes)
+    → r₁ ≡ looked id count bytes
+    → r₂ ≡ looked id count bytes
     → r₁ ≡ r₂
 look-determined bytes count id r₁ r₂ e0₁ e0₂ = e0₁ ∙ sym e0₂
 

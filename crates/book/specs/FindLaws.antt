@@ -2,7 +2,7 @@
 use mathlib.Core.Path.{_≡_, refl, ap, ap₂, sym, _∙_}
 use mathlib.Core.Bool.{Bool, true, false, cond}
 use mathlib.Core.List.{List, [], _∷_, _++_}
-use Prim.Native.Nat.{ℕ, zero, suc, _+_, _*_}
+use Prim.Native.Nat.{ℕ, zero, suc, _+_, _*_, _≤_, _<_}
 use native.Mathlib.Omega.{arith}
 use lib.Dec.{ltb, eqb}
 use lib.ListN.{length, take, drop, take-append-drop}
@@ -13,10 +13,21 @@ use Rattle.area.specs.Area.{sf031, bytesOf}
 use Rattle.area.specs.declared.AreaId.{AreaId}
 use Rattle.book.specs.Book.{areasIn, bytesOfAll, sound, placeOf, found}
 use Rattle.book.specs.Laws.{Sound, length-areas, sound-lists}
-use Rattle.book.specs.Take.{lookup}
+use Rattle.book.specs.Take.{lookup, looked}
 use Rattle.book.specs.declared.Book.{Book}
 use Rattle.book.specs.declared.Found.{Found}
 use Rattle.book.specs.declared.Found.the-variants.{Area, Nothing}
+
+-- ---- `looked`: with the bytes there, and with too few
+
+module _ (id n : ℕ) (s : List ℕ) where
+  pub looked-there : 6 * n ≤ length s → looked id n s ≡ lookup id (areasIn n s)
+  unfolding looked
+  looked-there h = rw (le-ltb (length s) (6 * n) h)
+
+  pub looked-none : length s < 6 * n → looked id n s ≡ Nothing
+  unfolding looked
+  looked-none h = rw (lt-ltb (length s) (6 * n) h)
 
 -- the six bytes of the area that is looked up, or none
 abbrev pub bytesOfFound : Found → List ℕ

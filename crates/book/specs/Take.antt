@@ -42,6 +42,10 @@ unfoldable pub lookup : ℕ → List ℕ → Found
 lookup id [] = Nothing
 lookup id (a ∷ l) = cond (eqb (sf031 a) id) (Area a) (lookup id l)
 
+-- the same among the first n areas in a book's bytes; bytes that are too few for them hold none
+unfoldable pub looked : (id n : ℕ) → (s : List ℕ) → Found
+looked id n s = cond (ltb (length s) (6 * n)) Nothing (lookup id (areasIn n s))
+
 -- an area takes its place by ID
 unfoldable pub insert : ℕ → List ℕ → List ℕ
 insert a [] = a ∷ []

@@ -9,7 +9,7 @@ ghost use Rattle.sizes.specs.Sizes.{mostAreas, bookBytes};
 ghost use Rattle.bits.specs.Part.{PartOf};
 ghost use Rattle.area.specs.Area.{sf031};
 ghost use Rattle.book.specs.Book.{bookOf, noBook, areasIn, bytesOfAll, headSound, areasSound, sound, placeOf, found, foundAt};
-ghost use Rattle.book.specs.Take.{lookup, insert, takeAll, answerOf, leftBy, takenOf, bytesAfter, numberOfTaken};
+ghost use Rattle.book.specs.Take.{lookup, looked, insert, takeAll, answerOf, leftBy, takenOf, bytesAfter, numberOfTaken};
 ghost use Rattle.book.specs.Payload.{mostBlocks, aiouOf, blockCount, blockStart, blockAt, blocksFrom, blocksOf, takeBits};
 ghost use Rattle.book.specs.TakeLaws.{orElse};
 ghost use Rattle.book.specs.Judge.{judgedBy, isTaken, judgeFound, judgeBlock, Image};
@@ -189,8 +189,18 @@ fn block(payload: &[u8], i: usize) -> u64
     bits::get(payload, 19 + 47 * i, 47)
 }
 
-// The area with this ID among the book's. Internal: its callers have a sound book.
+// The area with this ID among the first `count` in a book's bytes. Bytes that are too few for them hold none.
 pub fn look(bytes: &[u8], count: usize, id: u8) -> Found
+    ensures { λ r. ⌜ r ≡ looked id count (now (bytes .entry)) ⌝ }
+{
+    if bytes.len() / 6 < count {
+        return Found::Nothing;
+    }
+    look_in(bytes, count, id)
+}
+
+// The same, where the bytes are there.
+fn look_in(bytes: &[u8], count: usize, id: u8) -> Found
     requires { ⌜ 6 * count ≤ length (now bytes) ⌝ }
     ensures { λ r. ⌜ r ≡ lookup id (areasIn count (now (bytes .entry))) ⌝ }
 {
@@ -226,7 +236,7 @@ fn known(bytes: &[u8], count: usize, payload: &[u8], n: usize, id: u8) -> Found
     requires { ⌜ (6 * count ≤ length (now bytes)) × (n ≤ mostBlocks) × (blockStart n ≤ 8 * length (now payload)) ⌝ }
     ensures { λ r. ⌜ r ≡ orElse (lookup id (areasIn count (now (bytes .entry)))) (lookup id (blocksFrom n 0 (now (payload .entry)))) ⌝ }
 {
-    match look(bytes, count, id) {
+    match look_in(bytes, count, id) {
         Found::Area(area) => Found::Area(area),
         Found::Nothing => look_before(payload, n, id),
     }
@@ -319,7 +329,7 @@ fn insert_all(bytes: &mut [u8], count: usize, payload: &[u8])
     let mut i: usize = 0;
     while i < n {
         let area = block(payload, i);
-        match look(bytes, held, area::id(area)) {
+        match look_in(bytes, held, area::id(area)) {
             Found::Area(_) => {
                 i += 1;
             }

@@ -23,8 +23,8 @@ block-requires c κs = search needs
 id-requires : tie.Need-id-requires Inv-loop μ-loop
 id-requires c κs = search needs
 
-look-requires : tie.Need-look-requires Inv-loop μ-loop
-look-requires c κs = search (fill-fits, needs)
+look-in-requires : tie.Need-look-in-requires Inv-loop μ-loop
+look-in-requires c κs = search (fill-fits, needs)
 
 enum-told : tie.Need-enum-told Inv-loop μ-loop
 enum-told c = search needs
@@ -73,7 +73,7 @@ insert-all-spec =
     loop-holds
     block-requires
     id-requires
-    look-requires
+    look-in-requires
     enum-told
     add-i
     loop-less

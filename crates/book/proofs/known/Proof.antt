@@ -4,8 +4,8 @@ use borrow.Author.Needs.{needs}
 use Rattle.book.proofs.known.Statement.{statement}
 use Rattle.book.proofs.known.Tie as tie
 
-look-requires : tie.Need-look-requires
-look-requires c κs = search needs
+look-in-requires : tie.Need-look-in-requires
+look-in-requires c κs = search needs
 
 enum-known-area : tie.Need-enum-known-area
 enum-known-area c = search needs
@@ -25,4 +25,4 @@ returns-2 c = search (known-before, needs)
 pub known-spec : {M : Type 1} → statement M
 known-spec =
     tie.close
-    (tie.spec look-requires enum-known-area enum-told look-before-requires returns returns-2)
+    (tie.spec look-in-requires enum-known-area enum-told look-before-requires returns returns-2)
