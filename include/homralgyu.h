@@ -9,11 +9,11 @@
  *   - two slices of a call do not overlap if the call may write to one of them.
  * Everything else is tested: there is no other way to call these functions wrongly.
  *
- * A call writes inside the slices that it may write to and nowhere else. A slice under its stated size is ROOM; a longer one is fine, its
- * surplus is neither read nor written. A refusal (a number other than 0) changes nothing. On success, places behind what is written stay as
- * lent. No call keeps a pointer, takes memory or reads anything but its arguments.
+ * A call writes inside the slices that it may write to and nowhere else. A slice under its stated size is ROOM, unless the call says
+ * otherwise; a longer one is fine, its surplus is neither read nor written. A refusal (a number other than 0) changes nothing. On success, places behind what is written stay as
+ * lent. No call keeps a pointer, takes memory or reads anything but its arguments (the language has no way to).
  *
- * That each call does what is said here is proved, for all arguments (specs/ of crates/export, crates/exportviews, crates/exportdesk and
+ * That each call does what is said of it below is proved, for all arguments (specs/ of crates/export, crates/exportviews, crates/exportdesk and
  * crates/exportprepare).
  */
 #ifndef HOMRALGYU_H

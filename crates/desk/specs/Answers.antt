@@ -1,4 +1,4 @@
--- Definitions to believe: the refusals by which a desk can answer a frame. Not among them: UNKNOWN_TYPE, since another payload type is NOT_OURS before; LEFTOVER and
+-- Definitions to believe: the refusals by which alone a desk answers a frame. Not among them: UNKNOWN_TYPE, since another payload type is NOT_OURS before; LEFTOVER and
 -- FORM, which are of sheets and kept books.
 use mathlib.Core.Bool.{Bool, true, false}
 use Rattle.answer.specs.declared.Refusal.{Refusal}

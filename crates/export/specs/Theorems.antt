@@ -1,12 +1,13 @@
 -- Theorems: calls for other languages in a row are calls of `stream`, `book` and `kept` in a row. The numbers and bytes which a call leaves, refused ones included, the next call reads as the
--- tray (`next-call`, `next-finish`) or the book (`next-take`, `next-read`) that the call below answered; so what those crates prove of calls in a row holds of these (`kept-back`). Proved; assumes nothing.
+-- tray (`next-call`, `next-finish`) or the book (`next-take`, `next-read`) that the call below answered; step by step they are those calls. A kept book that was written is the book again when it is read
+-- (`kept-back`, `kept-back-areas`). The theorems on whole streams are lifted for the calls of `prepare` (crate exportprepare). Proved; assumes nothing.
 use mathlib.Core.Path.{_≡_, refl, ap, _∙_, subst}
 use mathlib.Core.Bool.{Bool, true, false, cond, not}
-use mathlib.Core.List.{List, _∷_}
-use Prim.Native.Nat.{ℕ, _≤_, _<_}
+use mathlib.Core.List.{List, _∷_, _++_}
+use Prim.Native.Nat.{ℕ, _*_, _≤_, _<_}
 use native.Mathlib.Omega.{arith}
 use lib.Dec.{ltb}
-use lib.ListN.{length, take}
+use lib.ListN.{length, take, drop}
 use borrow.Author.Tests.{le-ltb, ltb-false}
 use Rattle.answer.specs.Stop.{stop}
 use Rattle.answer.specs.declared.Refusal.the-variants.{Room, State}
@@ -29,14 +30,14 @@ use Rattle.book.specs.declared.Book.{Book}
 use Rattle.book.specs.declared.Taken.{Taken}
 use Rattle.book.specs.declared.Taken.the-variants as taking
 use Rattle.kept.specs.Kept.{readKept, answerOf, leftBy}
-use Rattle.kept.specs.Theorems.{reads-sound, write-read}
+use Rattle.kept.specs.Theorems.{reads-sound, write-read, write-read-bytes}
 use Rattle.kept.specs.declared.Written.the-variants as writing
 use Rattle.kept.specs.declared.ReadKept.{ReadKept}
 use Rattle.kept.specs.declared.ReadKept.the-variants as reading
 use Rattle.export.specs.Numbers.{roomFor, laid, lentAfter, atMost}
 use Rattle.export.specs.Frames.{headerRoom}
 use Rattle.export.specs.Streams.{trayRoom, toldRoom, rooms, trayIn, trayOf, callOf, finishOf, traySaid, trayTold}
-use Rattle.export.specs.Books.{bookRoom, bookIn, takeOf, toldTaken, keptOf, keptLeaves, readOf, toldRead}
+use Rattle.export.specs.Books.{bookRoom, bookIn, takeOf, toldTaken, keptOf, keptLeaves, readOf, readLeaves, toldRead}
 use Rattle.export.specs.Back.{tray-back, event-noise, book-laid}
 
 -- what is asked of one answer or the other is asked of both
@@ -174,7 +175,7 @@ next-read kept book bytes =
     ∙ ap (roomFor bookRoom book (bookIn book))
     (next-kept book (answerOf (readKept kept bytes)) (λ new e. sound-head new (leftBy (readKept kept bytes) bytes) (reads-sound kept bytes new e)))
 
--- So a book that was written as a kept book is the book again when that is read, whatever numbers and bytes are lent for it.
+-- So a book that was written as a kept book has its AIOU and count again when that is read, whatever numbers and bytes are lent for it,
 pub kept-back : (book bytes out lent areas : List ℕ) (n : ℕ) → Bytes bytes → keptOf book bytes out ≡ writing.Bytes n → bookRoom ≤ length lent → bookBytes ≤ length areas
     → bookIn (lentAfter bookRoom lent (toldRead (readOf (take n (keptLeaves book bytes out)) areas))) ≡ bookIn book
 unfolding keptOf keptLeaves roomFor
@@ -183,3 +184,9 @@ kept-back book bytes out lent areas n b e h k =
     next-read (take n (keptLeaves book bytes out)) lent areas
     ∙ ap (λ t. cond t (bookIn lent) (afterRead (bookIn lent) (answerOf (readKept (take n (keptLeaves book bytes out)) areas)))) z
     ∙ ap (afterRead (bookIn lent)) (write-read (bookIn book) bytes out areas b n e k)
+
+-- and its areas: into the bytes that are lent come those of the areas held, and the others stay.
+pub kept-back-areas : (book bytes out areas : List ℕ) (n : ℕ) → Bytes bytes → keptOf book bytes out ≡ writing.Bytes n → bookBytes ≤ length areas
+    → readLeaves (take n (keptLeaves book bytes out)) areas ≡ take (6 * bookIn book .count) bytes ++ drop (6 * bookIn book .count) areas
+unfolding keptOf keptLeaves readLeaves
+kept-back-areas book bytes out areas n b e k = write-read-bytes (bookIn book) bytes out areas b n e k

@@ -12,9 +12,9 @@ use Rattle.area.specs.Laws.{both-left, both-right}
 use Rattle.codes.specs.Tables.{rowOf}
 use Rattle.codes.specs.declared.Constellation.{Constellation}
 use Rattle.codes.specs.declared.Constellation.the-variants.{Gps, Glonass, Galileo, BeiDou, Qzss}
-use Rattle.sizes.specs.Sizes.{tags}
+use Rattle.sizes.specs.Sizes.{tags, mostAreas}
 use Rattle.book.specs.Book.{sound}
-use Rattle.book.specs.Laws.{sound-head}
+use Rattle.book.specs.Laws.{sound-head, head-parts}
 use Rattle.book.specs.declared.Book.{Book}
 use Rattle.desk.specs.Desk.{sourceInRange, runSound, deskSound}
 use Rattle.desk.specs.Take.{Verdict, refused, defines, continues, opens, copied, deskBy, takenBy, frameTaken, bookTaken}
@@ -52,6 +52,46 @@ no-run : (desk : Desk) (live run : List ℕ) → runSound (desk .run) run ≡ fa
 unfolding deskSound
 no-run desk live run e = rw (e, never (sound (desk .book) live), never (sourceInRange (desk .solution) (desk .processor)))
 
+no-live : (desk : Desk) (live run : List ℕ) → sound (desk .book) live ≡ false → deskSound desk live run ≡ false
+unfolding deskSound
+no-live desk live run e = rw (e, never (sourceInRange (desk .solution) (desk .processor)))
+
+-- of a book with areas: its AIOU is over 15, or it has too many of them
+module _ (aiou areas : ℕ) (bytes : List ℕ) where
+  abbrev said : Book
+  said = bookIn (aiou ∷ areas ∷ [])
+
+  said-aiou : 15 < aiou → 0 < areas → said .«aiou_plus_one» ≡ 17
+  unfolding bookIn
+  said-aiou h k =
+      let z : eqb areas 0 ≡ false = ne-eqb areas 0 (λ q. omega arith) in
+      let m : atMost 16 aiou ≡ 16 = most-over 16 aiou (omega arith) in
+      rw (z, m)
+
+  said-areas : 0 < areas → said .count ≡ areas
+  unfolding bookIn
+  said-areas k = let z : eqb areas 0 ≡ false = ne-eqb areas 0 (λ q. omega arith) in rw z
+
+  aiou-over : 15 < aiou → 0 < areas → sound said bytes ≡ false
+  aiou-over h k = go (sound said bytes) refl
+    where
+      go : (b : Bool) → sound said bytes ≡ b → b ≡ false
+      go true e = absurd (omega (arith, said-aiou h k, head-parts said (sound-head said bytes e)))
+      go false e = refl
+
+  areas-over : mostAreas < areas → sound said bytes ≡ false
+  areas-over h = go (sound said bytes) refl
+    where
+      go : (b : Bool) → sound said bytes ≡ b → b ≡ false
+      go true e = absurd (omega (arith, said-areas (omega arith), head-parts said (sound-head said bytes e)))
+      go false e = refl
+
+open-book : (flag tag aiou areas : ℕ) (bytes : List ℕ) → flag ≡ 1 → sound (bookIn (aiou ∷ areas ∷ [])) bytes ≡ false → runSound (runIn flag tag aiou areas) bytes ≡ false
+unfolding runIn
+open-book flag tag aiou areas bytes f e =
+    let y : eqb flag 0 ≡ false = ne-eqb flag 0 (λ q. omega arith) in
+    rw (y, e, never (ltb tag tags))
+
 module _ (s live run : List ℕ) where
   pub solution-out : 127 < getD s 0 0 → deskSound (deskIn s) live run ≡ false
   unfolding deskIn solutionIn
@@ -83,6 +123,27 @@ module _ (s live run : List ℕ) where
       let z : ltb (getD s 6 0) tags ≡ false = le-ltb (getD s 6 0) tags h in
       no-run (deskIn s) live run (rw (y, z))
 
+  -- AIOU and count of the live book, and of the run's if a run is open
+  pub aiou-out : 0 < getD s 4 0 → 15 < getD s 3 0 → deskSound (deskIn s) live run ≡ false
+  unfolding deskIn
+  aiou-out k h = no-live (deskIn s) live run (aiou-over (getD s 3 0) (getD s 4 0) live h k)
+
+  pub areas-out : mostAreas < getD s 4 0 → deskSound (deskIn s) live run ≡ false
+  unfolding deskIn
+  areas-out h = no-live (deskIn s) live run (areas-over (getD s 3 0) (getD s 4 0) live h)
+
+  pub run-aiou-out : getD s 5 0 ≡ 1 → 0 < getD s 8 0 → 15 < getD s 7 0 → deskSound (deskIn s) live run ≡ false
+  unfolding deskIn
+  run-aiou-out f k h =
+      no-run (deskIn s) live run
+      (open-book (getD s 5 0) (getD s 6 0) (getD s 7 0) (getD s 8 0) run f (aiou-over (getD s 7 0) (getD s 8 0) run h k))
+
+  pub run-areas-out : getD s 5 0 ≡ 1 → mostAreas < getD s 8 0 → deskSound (deskIn s) live run ≡ false
+  unfolding deskIn
+  run-areas-out f h =
+      no-run (deskIn s) live run
+      (open-book (getD s 5 0) (getD s 6 0) (getD s 7 0) (getD s 8 0) run f (areas-over (getD s 7 0) (getD s 8 0) run h))
+
 -- ---- numbers that do not count
 
 module _ (solution processor constellation : ℕ) where
@@ -91,6 +152,11 @@ module _ (solution processor constellation : ℕ) where
       → deskIn (solution ∷ processor ∷ constellation ∷ a ∷ 0 ∷ flag ∷ tag ∷ aiou ∷ areas ∷ []) ≡ deskIn (solution ∷ processor ∷ constellation ∷ b ∷ 0 ∷ flag ∷ tag ∷ aiou ∷ areas ∷ [])
   unfolding deskIn bookIn
   empty-book a b flag tag aiou areas = refl
+
+  pub empty-run-book : (aiou areas flag tag a b : ℕ)
+      → deskIn (solution ∷ processor ∷ constellation ∷ aiou ∷ areas ∷ flag ∷ tag ∷ a ∷ 0 ∷ []) ≡ deskIn (solution ∷ processor ∷ constellation ∷ aiou ∷ areas ∷ flag ∷ tag ∷ b ∷ 0 ∷ [])
+  unfolding deskIn runIn bookIn
+  empty-run-book aiou areas flag tag a b = refl
 
   -- tag and book of a closed run
   pub closed-run : (aiou areas t a n u b m : ℕ)
@@ -160,7 +226,7 @@ module _ (s live run : List ℕ) (given : Given) where
   next : deskIn (laid (toldTaken (takenBy (deskIn s) live run (verdictOn held given)) .numbers) s) ≡ deskBy (deskIn s) (verdictOn held given)
   next = next-by (verdictOn held given) (fits-on held given) (stays-sound held given)
 
--- The next call reads the desk that `desk::take` answered, refused frames included; so what the theorems on desk say of frames in a row holds of calls in a row.
+-- The next call reads the desk that `desk::take` answered, refused frames included: step by step, calls in a row are calls of `desk` in a row.
 pub next-desk : (frame desk live run log : List ℕ) → deskIn (laid (toldTaken (takeOf frame desk live run log) .numbers) desk) ≡ takeOf frame desk live run log .desk
 unfolding takeOf frameTaken
 next-desk frame desk live run log = next desk live run (frameWith frame log)

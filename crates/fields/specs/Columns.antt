@@ -1,4 +1,4 @@
--- The table as the code holds it, seven numbers a field, SF000 to SF107. These serve the proofs and are proved to say what Fields.antt says.
+-- Definitions to believe: a field's line as seven numbers (`numbersOf`), in which the code has it. Behind them, proved: the code's table, SF000 to SF107, says what Fields.antt says.
 use mathlib.Core.Path.{_≡_, refl, sym, ap, _∙_}
 use mathlib.Core.List.{List, [], _∷_}
 use mathlib.Core.Bool.{Bool, true, false, _&&_}

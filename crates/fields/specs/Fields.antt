@@ -48,7 +48,7 @@ abbrev pub orInvalid : (number width perUnit : ℕ) → Meaning → Line
 orInvalid number n perUnit meaning =
     record { number = number; width = n; most = 2 ^ n - 2; invalid = 2 ^ n - 1; means = counts (about (2 ^ (n - 1) - 1)) perUnit meaning }
 
--- "Other ranges: .. SF032 0 to 1800; SF033 0 to 3600; SF073 0 to 170; SF074 0 to 360; SF040, SF041 and SF054 0 to 2."
+-- "Other ranges: .. SF032 0 to 1800; SF033 0 to 3600; SF073 0 to 170; SF074 0 to 360; SF040 0 to 2; SF041 and SF054 0 to 2."
 abbrev pub ranged : (number width most middle perUnit : ℕ) → Meaning → Line
 ranged number n most middle perUnit meaning = record { number = number; width = n; most = most; invalid = most; means = counts (about middle) perUnit meaning }
 

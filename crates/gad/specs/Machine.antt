@@ -1,4 +1,4 @@
--- Serves proofs, and is proved: the machine of lib.rt, and that it walks the layout.
+-- Mirror: the machine of lib.rt. It serves proofs, and it is proved that it walks the layout.
 use mathlib.Core.Path.{_≡_, refl, ap, sym, _∙_}
 use Prim.Native.Nat.{ℕ, zero, suc, _-_}
 use Rattle.layout.specs.declared.Field.{Field}

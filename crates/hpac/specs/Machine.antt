@@ -1,4 +1,4 @@
--- Serves proofs, and is proved: the machine of lib.rt, and that it walks the layouts.
+-- Mirror: the machine of lib.rt. It serves proofs, and it is proved that it walks the layouts.
 use mathlib.Core.Path.{_≡_, refl, ap, sym, _∙_}
 use mathlib.Core.Bool.{Bool, true, false}
 use mathlib.Core.List.{List, []}

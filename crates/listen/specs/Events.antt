@@ -1,4 +1,4 @@
--- What the functions of `listen` say of each other. Serves proofs: the program's lines are tried by its stored test.
+-- Serves proofs: what the functions of `listen` say of each other.
 use mathlib.Core.Bool.{Bool, true, false}
 use Rattle.stream.specs.declared.Said.{Said}
 use Rattle.stream.specs.declared.Said.the-variants.{Frame, Noise, Hungry, Done, Refused}

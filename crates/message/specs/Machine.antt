@@ -1,4 +1,4 @@
--- Serves proofs, and is proved: the machine of lib.rt over all twelve payloads, and that from its start it walks the payload's layout.
+-- Mirror: the machine of lib.rt over all twelve payloads. It serves proofs, and it is proved that from its start it walks the payload's layout.
 use mathlib.Core.Path.{_≡_, refl, ap, sym, _∙_, subst}
 use mathlib.Core.Bool.{Bool, true, false}
 use Prim.Native.Nat.{ℕ}

@@ -5,11 +5,13 @@ use mathlib.Core.Path.{_≡_, refl, sym, ap, ap₂, _∙_, subst}
 use mathlib.Core.List.{List, [], _∷_, _++_, append-assoc, append-nil, flatten}
 use Prim.Native.Nat.{ℕ, _≤_}
 use native.Mathlib.Omega.{arith}
-use lib.ListN.{length, replicate, length-replicate}
+use lib.ListN.{length, take, drop, replicate, length-replicate}
+use lib.Seq.{take-at}
 use Rattle.groups.specs.Groups.{groupsOfAll}
 use Rattle.frame.specs.declared.Frame.{Frame}
 use Rattle.stream.specs.Scan.{frame, scan}
-use Rattle.stream.specs.Tray.{Outcome, refused, told, hungry, done}
+use Rattle.stream.specs.Tray.{Outcome, told, hungry, done}
+use Rattle.stream.specs.Tray as tray
 use Rattle.stream.specs.Driver as streaming
 use Rattle.stream.specs.Driver.{Caller, waits}
 use Rattle.stream.specs.Theorems as stream
@@ -18,9 +20,11 @@ use Rattle.sizes.specs.Sizes.{bookBytes, logRoom}
 use Rattle.desk.specs.History.{Held, Snapshot, heldBy, KeptOn}
 use Rattle.desk.specs.declared.Desk.{Desk}
 use Rattle.desk.specs.declared.NewDesk.the-variants.{Made}
+use Rattle.desk.specs.declared.Said.{Said}
+use Rattle.desk.specs.declared.Said.the-variants as said
 use Rattle.desk.specs.Desk.{newDesk}
 use Rattle.desk.specs.Theorems.{new-sound, closed-kept}
-use Rattle.prepare.specs.Uncut.{Told, verdictOn, toldBy, toldOf, booksAfter, toldAll, booksAll, entriesOf, runLog, uncutTold, uncutLog, uncutBooks}
+use Rattle.prepare.specs.Uncut.{Told, accepted, refused, verdictOn, toldBy, toldOf, booksAfter, toldAll, booksAll, entriesOf, runLog, uncutTold, uncutLog, uncutBooks}
 use Rattle.prepare.specs.Prepare.{Handed, callOutcome, finishOutcome, answerOf, booksOf, written, booksIn, Result, byCall, byFinish}
 use Rattle.prepare.specs.Driver.{State, Sound, lent, callLeaves, finishLeaves, Feeds, start, Whole}
 use Rattle.prepare.specs.Lender.{Lender, LendsRoom, oneLog, WholeBy}
@@ -147,7 +151,7 @@ module _ (solution processor constellation : ℕ) (desk : Desk) (e : newDesk sol
 
 pub handed-back : (handed : Handed) (o : Outcome)
     → booksIn (answerOf handed o .desk) (booksOf handed o .live) (booksOf handed o .run) ≡ booksOf handed o
-handed-back handed (refused why) = refl
+handed-back handed (tray.refused why) = refl
 handed-back handed (told event contents used) = refl
 handed-back handed (hungry contents used) = refl
 handed-back handed (done contents) = refl
@@ -173,12 +177,38 @@ module _ (s : State) (log : List ℕ) where
 
 -- ---- "Each frame event goes to the desk in order": the uncut stream's step is what `desk::take` says of the frame's bytes, lent any log that has room
 
+abbrev pub toldSaid : Frame → (bytes log : List ℕ) → Said → Told
+toldSaid header bytes log (said.Accepted n) = accepted header bytes (take n log)
+toldSaid header bytes log (said.Refused why) = refused header bytes why
+
 module _ (books : Held) (sound : Sound books) (header : Frame) (bytes log : List ℕ) (room : logRoom ≤ length log) where
   abbrev handed : desk.Handed
   handed = desk.hands (books .desk) bytes (books .live) (books .run) log
 
+  entries-first : (v : desk.Verdict)
+      → desk.loggedBy (books .desk) (books .live) (books .run) v
+      ≡ take (length (desk.loggedBy (books .desk) (books .live) (books .run) v)) (desk.logBy (books .desk) (books .live) (books .run) log v)
+  entries-first v =
+      let e : List ℕ = desk.loggedBy (books .desk) (books .live) (books .run) v in
+      sym (take-at e (drop (length e) log) (length e) refl)
+
   now-is : desk.verdict handed ≡ verdictOn books bytes
   now-is = verdict-past books sound bytes log room
+
+  -- what is said of it is what `take` says, and its entries are the bytes that `take` writes first in the log
+  pub said-by-take : toldOf books (frame header bytes) ≡ toldSaid header bytes (desk.frameTaken handed .log) (desk.frameTaken handed .answer .said)
+  unfolding desk.frameTaken
+  said-by-take =
+      go (verdictOn books bytes)
+      ∙ ap (λ v. toldSaid header bytes (desk.logBy (books .desk) (books .live) (books .run) log v) (desk.takenBy (books .desk) (books .live) (books .run) v .said)) (sym now-is)
+    where
+      go : (v : desk.Verdict)
+          → toldBy books header bytes v
+          ≡ toldSaid header bytes (desk.logBy (books .desk) (books .live) (books .run) log v) (desk.takenBy (books .desk) (books .live) (books .run) v .said)
+      go (desk.refused why) = refl
+      go (desk.defines book live) = ap (accepted header bytes) (entries-first (desk.defines book live))
+      go (desk.continues book message) = ap (accepted header bytes) (entries-first (desk.continues book message))
+      go (desk.opens tag message) = ap (accepted header bytes) (entries-first (desk.opens tag message))
 
   pub books-by-take : booksAfter books (frame header bytes)
       ≡ booksIn (desk.frameTaken handed .answer .desk) (desk.frameTaken handed .live) (desk.frameTaken handed .run)

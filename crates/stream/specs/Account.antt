@@ -24,7 +24,7 @@ pub record FrameAt (stream : List ℕ) (at : ℕ) (header : Frame) (bytes : List
   pub lies : bytes ≡ take (header .length) (drop at stream)
   pub whole : length bytes ≡ header .length
 
--- from byte `at` on: so much noise, at no byte of which a frame begins. "told .. at 65,535", and "a zero count is never told"
+-- from byte `at` on: so much noise, at most 65,535 bytes and not none ("a zero count is never told"), at no byte of which a frame begins
 abbrev pub NoFrame : (stream : List ℕ) → (at count : ℕ) → Type 0
 NoFrame stream at count = (i : ℕ) → i < count → (header : Frame) → checked (drop (at + i) stream) ≡ Accepted header → ⊥
 

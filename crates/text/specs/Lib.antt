@@ -2,3 +2,4 @@ pub mod Text
 pub mod Determined
 pub mod Decimal
 pub mod Parts
+pub mod Output

@@ -1,7 +1,7 @@
 -- Definitions to believe: a text put behind the first bytes of a lent buffer, a text said behind the bytes that wait in it, and a number in decimal digits.
 use mathlib.Core.Bool.{Bool, cond}
 use mathlib.Core.List.{List, [], _∷_, _++_}
-use Prim.Native.Nat.{ℕ, zero, suc, _+_, _/_, _%_}
+use Prim.Native.Nat.{ℕ, zero, suc, _+_, _/_, _%_, _≤_}
 use lib.Dec.{leb, ltb}
 use lib.ListN.{length, take, drop}
 
@@ -49,6 +49,20 @@ putAll w (text ∷ texts) = putAll (waiting (outAfter (w .out) (w .at) text) (en
 unfoldable pub sayAll : Waiting → List (List ℕ) → Waiting
 sayAll w [] = w
 sayAll w (text ∷ texts) = sayAll (waiting (saidAfter (w .out) (w .at) text) (waitingAfter (w .out) (w .at) text)) texts
+
+-- the bytes that go out while they are said: those that wait, whenever a text has no room behind them
+unfoldable pub goesOut : (out : List ℕ) (at : ℕ) (text : List ℕ) → List ℕ
+goesOut out at text = cond (fits out at text) [] (take at out)
+
+unfoldable pub goneOut : Waiting → List (List ℕ) → List ℕ
+goneOut w [] = []
+goneOut w (text ∷ texts) =
+    goesOut (w .out) (w .at) text ++ goneOut (waiting (saidAfter (w .out) (w .at) text) (waitingAfter (w .out) (w .at) text)) texts
+
+-- none of them is longer than the buffer
+pub data Short (size : ℕ) : List (List ℕ) → Type 0 where
+  none : Short size []
+  more : {text : List ℕ} {texts : List (List ℕ)} → length text ≤ size → Short size texts → Short size (text ∷ texts)
 
 -- ---- a number
 
