@@ -118,29 +118,26 @@ module _ {lent : Lent} (s : Starts lent) where
       (h, ap logHeard h ∙ log-heard (uncutTold (booksLent lent) (flatten portions)), ends-so w (uncutBooks (booksLent lent) (flatten portions)) (x .2), ap (λ s. s .books) (x .2))
 
   -- And the calls end, whatever the portions are and whoever lends the log and the places: what is lent may depend on all that was heard before, and on all that the last
-  -- call left. Each call has the number 0 ..
+  -- call left.
   pub prepared-ends : {c : Caller} (lends : Lender) → LendsRoom lends → (portions : List (List ℕ)) → WholeBy c lends lent portions
   prepared-ends lends rooms portions =
       let f = feeds-end lends rooms portions (point [] lent) (starts-fit s) in
       let g = closes-end lends rooms (f .end₁) (f .fit) in
       record { before = f .heard; between = f .end₁; feeds = f .feeds; after = g .heard; end = g .end₁; closes = g .closes }
 
-  -- .. as it is of every call and every finish, in any order and on any input, whatever log and places are lent.
-  pub never-refused : {l : Lent} → Called lent l → ((input : List ℕ) → callNumber l input ≡ 0) × (finishNumber l ≡ 0)
-  never-refused k = let f = called-fit k (starts-fit s) in (λ input. call-is-zero _ f input, finish-is-zero _ f)
-
   -- So they end with the same slices lent again and again.
   pub same-again-ends : {c : Caller} (portions : List (List ℕ)) → WholeBy c sameAgain lent portions
   same-again-ends portions = prepared-ends sameAgain (λ _ r. r) portions
 
   -- And so they do for one who hands over what is left of a stream, however it is cut, if a call that said hungry is followed by one that is handed some while bytes are
-  -- left. If not, they may go on for ever: so they do where no call is handed anything.
+  -- left; the call behind an event may be handed none.
   pub stream-ends : {c : Caller} (lends : Lender) → LendsRoom lends → (cuts : Cutter) → GivesMore cuts → (stream : List ℕ) → WholeStreamBy c lends cuts lent stream
   stream-ends {c} lends rooms cuts gives stream =
       let f = stream-end lends rooms c cuts gives stream (point [] lent) (starts-fit s) in
       let g = closes-end lends rooms (f .end₁) (f .fit) in
       record { before = f .heard; between = f .end₁; feeds = f .feeds; after = g .heard; end = g .end₁; closes = g .closes }
 
+  -- That is asked with reason: the calls never end where none of them is handed anything.
   pub nothing-handed : {c : Caller} {lends : Lender} {stream : List ℕ} → LendsRoom lends → 1 ≤ length stream → WholeStreamBy c lends (λ _ _. 0) lent stream → ⊥
   nothing-handed {lends = lends} rooms some w = goes-on lends rooms (w .feeds) (starts-fit s) (fresh-tray (lent .tray) (s .tray-fresh) .1) some
 
@@ -153,6 +150,10 @@ module _ {lent : Lent} (s : Starts lent) where
   pub any-cutter : {c : Caller} {lends : Lender} {cuts : Cutter} {stream : List ℕ} → LendsRoom lends → (w : WholeStreamBy c lends cuts lent stream)
       → (FeedsStream lent stream (w .before) (w .between .left)) × (Closes (w .between .left) (w .after) (w .end .left))
   any-cutter {lends = lends} rooms w = let f = stream-any lends rooms (w .feeds) (starts-fit s) in (f .0, closes-any lends rooms (w .closes) (f .1))
+
+  -- Each of these calls has the number 0, as has every call and every finish, in any order and on any input, whatever log and places are lent.
+  pub never-refused : {l : Lent} → Called lent l → ((input : List ℕ) → callNumber l input ≡ 0) × (finishNumber l ≡ 0)
+  never-refused k = let f = called-fit k (starts-fit s) in (λ input. call-is-zero _ f input, finish-is-zero _ f)
 
   -- "Each residual is placed by the area definition in force when its run opened", if that holds of the run that is open at the start.
   pub in-force : (opening : Snapshot) → KeptOn (record { held = booksLent lent; opening = opening }) → {c : Caller} {portions : List (List ℕ)} (w : Whole c lent portions)
