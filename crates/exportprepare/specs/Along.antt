@@ -34,7 +34,7 @@ use Rattle.exportprepare.specs.Prepares.{Lent, handedIn, noRoom, stateSa
 use Rattle.exportprepare.specs.Puts.{AllThere}
 use Rattle.exportprepare.specs.Refusals.{refusalOf, call-number, finish-number}
 use Rattle.exportprepare.specs.NextState.{stateIn, next-call, next-finish}
-use Rattle.exportprepare.specs.Driver.{Heard, eventIn, Feeds, Closes, Called, Starts, booksLent}
+use Rattle.exportprepare.specs.Driver.{Heard, eventIn, Rooms, lentAnew, Feeds, Closes, Called, Starts, booksLent}
 use Rattle.exportprepare.specs.Driving.{no-number, there-room, stays-there, call-left, finish-left, call-parts, finish-parts, done-said}
 
 -- ---- what no call refuses
@@ -68,7 +68,7 @@ module _ (l : Lent) (f : Fit l) where
   abbrev room : noRoom (l .tray) (l .desk) (l .told) (l .header) ≡ false
   room = there-room l (f .there)
 
-  call-fit : (p : List ℕ) → Fit (callLeaves l p)
+  pub call-fit : (p : List ℕ) → Fit (callLeaves l p)
   unfolding callOutcome
   call-fit p =
       let h = handedIn l in
@@ -83,7 +83,7 @@ module _ (l : Lent) (f : Fit l) where
         ready = subst (λ s. Ready s) (sym (next-call l room p)) r;
       }
 
-  finish-fit : Fit (finishLeaves l)
+  pub finish-fit : Fit (finishLeaves l)
   unfolding finishOutcome
   finish-fit =
       let h = handedIn l in
@@ -104,17 +104,18 @@ module _ (l : Lent) (f : Fit l) where
   pub finish-is-zero : finishNumber l ≡ 0
   finish-is-zero = finish-number l ∙ fit-zero l f
 
+pub fit-anew : {l : Lent} {log told header : List ℕ} → Rooms log told header → Fit l → Fit (lentAnew l log told header)
+fit-anew r f = record {
+  there = record { tray-room = f .there .tray-room; desk-room = f .there .desk-room; told-room = r .told-room; header-room = r .header-room };
+  log-room = r .log-room;
+  ready = f .ready;
+}
+
 pub called-fit : {lent l : Lent} → Called lent l → Fit lent → Fit l
 called-fit Called.none-yet f = f
 called-fit (Called.a-call {l} k p) f = call-fit l (called-fit k f) p
 called-fit (Called.a-finish {l} k) f = finish-fit l (called-fit k f)
-called-fit (Called.lent-anew {l} r k) f =
-    let g = called-fit k f in
-    record {
-      there = record { tray-room = g .there .tray-room; desk-room = g .there .desk-room; told-room = r .told-room; header-room = r .header-room };
-      log-room = r .log-room;
-      ready = g .ready;
-    }
+called-fit (Called.lent-anew {l} r k) f = fit-anew r (called-fit k f)
 
 -- the calls that are heard are such calls
 pub feeds-called : {lent l l₁ : Lent} {c : Caller} {ps : List (List ℕ)} {hs : List Heard} → Feeds c l ps hs l₁ → Called lent l → Called lent l₁

@@ -114,10 +114,10 @@ hungry-used handed F p (hungry c u) m q = m
 hungry-used handed F p (done c) m q = let z : _≡_ {A = ℕ} 0 1 = cc in absurd (omega arith)
 
 module _ (l : Lent) (p : List ℕ) (q : callNumber l p ≡ 0) where
-  abbrev outcome : Outcome
+  abbrev pub outcome : Outcome
   outcome = callOutcome (handedIn l) p
 
-  abbrev used : ℕ
+  abbrev pub used : ℕ
   used = usedIn (callLeaves l p)
 
   used-is : used ≡ answerOf (handedIn l) outcome .used
@@ -127,14 +127,14 @@ module _ (l : Lent) (p : List ℕ) (q : callNumber l p ≡ 0) where
       let z = call-parts l p q in
       ap (λ x. usedIn x) (call-left l (z .0) p) ∙ used-told (a .used) (a .log) (l .told) (a .said) (z .1)
 
-  all-of-it : eventIn (callLeaves l p) ≡ 0 → used ≡ length p
+  pub all-of-it : eventIn (callLeaves l p) ≡ 0 → used ≡ length p
   all-of-it e =
       let z = call-parts l p q in
       let w = hungry-said l outcome (z .1) (ap (λ x. eventIn x) (sym (call-left l (z .0) p)) ∙ e) in
       used-is ∙ hungry-used (handedIn l) (callOutcome (handedIn l)) p outcome (outcome-cut (handedIn l) p) w
 
   module _ (h : Heard) (k : Hears (callLeaves l p) h) where
-    on-used : (callOutcome (handedIn l) (take used p) ≡ outcome) × (used ≤ length p)
+    pub on-used : (callOutcome (handedIn l) (take used p) ≡ outcome) × (used ≤ length p)
     on-used =
         let z = call-parts l p q in
         let w = hears-says l outcome (z .1) h (subst (λ x. Hears x h) (call-left l (z .0) p) k) in

@@ -18,9 +18,7 @@ use Rattle.prepare.specs.declared.Said.{Said}
 use Rattle.prepare.specs.declared.Said.the-variants as said
 use Rattle.prepare.specs.Uncut as uncut
 use Rattle.prepare.specs.Prepare.{answerOf, saidOf, resultOf, callOutcome, finishOutcome}
-use Rattle.prepare.specs.Driver.{State}
 use Rattle.prepare.specs.Driver as driver
-use Rattle.prepare.specs.Lender.{Point, oneLog, FeedsBy, ClosesBy}
 use Rattle.prepare.specs.Steps.{Says}
 use Rattle.export.specs.Numbers.{laid}
 use Rattle.export.specs.Frames.{headerRoom, headerOf}
@@ -135,7 +133,7 @@ module _ (l : Lent) where
   hears-says (done c) q h (a-frame e) = absurd (omega arith)
   hears-says (done c) q h (some-noise e) = absurd (omega arith)
 
-  says-hears : (o : Outcome) (t : uncut.Told) → Says (handedIn l) o t → zeroBy o × (Hears (leftBy o) (heardOf t)) × (usedIn (leftBy o) ≡ answerOf (handedIn l) o .used)
+  pub says-hears : (o : Outcome) (t : uncut.Told) → Says (handedIn l) o t → zeroBy o × (Hears (leftBy o) (heardOf t)) × (usedIn (leftBy o) ≡ answerOf (handedIn l) o .used)
   unfolding toldAnswer
   says-hears (refused why) t k = absurd k
   says-hears (told e c n) t k =
@@ -157,14 +155,14 @@ module _ (l : Lent) where
   unfolding toldAnswer
   done-said o q e = is-done (answerOf (handedIn l) o .used) (answerOf (handedIn l) o .log) (l .told) (answerOf (handedIn l) o .said) q e
 
-  said-hungry : (o : Outcome) → answerOf (handedIn l) o .said ≡ said.Hungry → zeroBy o × (eventIn (leftBy o) ≡ 0)
+  pub said-hungry : (o : Outcome) → answerOf (handedIn l) o .said ≡ said.Hungry → zeroBy o × (eventIn (leftBy o) ≡ 0)
   unfolding toldAnswer toldSaid eventOf laid
   said-hungry o q = (
     ap (λ w. toldSaid w (answerOf (handedIn l) o .used) (answerOf (handedIn l) o .log) .number) q,
     ap (eventSaid (answerOf (handedIn l) o .used) (answerOf (handedIn l) o .log) (l .told)) q,
   )
 
-  said-done : (o : Outcome) → answerOf (handedIn l) o .said ≡ said.Done → zeroBy o × (eventIn (leftBy o) ≡ 3)
+  pub said-done : (o : Outcome) → answerOf (handedIn l) o .said ≡ said.Done → zeroBy o × (eventIn (leftBy o) ≡ 3)
   unfolding toldAnswer toldSaid eventOf laid
   said-done o q = (
     ap (λ w. toldSaid w (answerOf (handedIn l) o .used) (answerOf (handedIn l) o .log) .number) q,
@@ -227,14 +225,6 @@ module _ (l : Lent) (room : noRoom (l .tray) (l .desk) (l .told) (l .header) ≡
   unfolding finishLeaves lentBy finishResult
   finish-left = rw room
 
-  call-zero : (p : List ℕ) → zeroBy l (callO p) → callNumber l p ≡ 0
-  unfolding callNumber numberBy callResult
-  call-zero p q = rw room q
-
-  finish-zero : zeroBy l finishO → finishNumber l ≡ 0
-  unfolding finishNumber numberBy finishResult
-  finish-zero q = rw room q
-
 -- a number that is 0, and what it says
 module _ (l : Lent) where
   pub call-parts : (p : List ℕ) → callNumber l p ≡ 0 → (noRoom (l .tray) (l .desk) (l .told) (l .header) ≡ false) × (zeroBy l (callOutcome (handedIn l) p))
@@ -283,96 +273,3 @@ closes-so (Closes.is-done {l} q k) =
     let w = done-said l (finishOutcome (handedIn l)) (z .1) (ap (λ x. eventIn x) (sym (finish-left l (z .0))) ∙ k) in
     ([], subst (λ s. driver.Closes (stateIn l) [] s) (sym (next-finish l (z .0))) (driver.Closes.is-done (l .log) (number-room l (sym (finish-number l) ∙ q)) w), refl)
 closes-so (Closes.lent-anew r f) = closes-so f
-
--- ---- and back: where calls of `prepare` with one log end, those that are heard do
-
-pub record FedOn (c : Caller) (l : Lent) (ps : List (List ℕ)) (ts : List uncut.Told) (x₁ : Point) : Type 0 where
-  pub end : Lent
-  pub feeds : Feeds c l ps (heardAll ts) end
-  pub there : AllThere (end .tray) (end .desk) (end .told) (end .header)
-  pub state-is : stateIn end ≡ x₁ .state
-  pub log-is : end .log ≡ x₁ .left
-
-pub record ClosedOn (l : Lent) (ts : List uncut.Told) : Type 0 where
-  pub end : Lent
-  pub closes : Closes l (heardAll ts) end
-
-abbrev TellsAt : (p : List ℕ) → uncut.Told → State → (log : List ℕ) → Type 0
-TellsAt p t s log = driver.Tells (driver.callSays s log p .said) (driver.callSays s log p .log) (driver.callLeaves s log p .bytes) (driver.callLogs s log p) t
-
-abbrev EndTellsAt : uncut.Told → State → (log : List ℕ) → Type 0
-EndTellsAt t s log = driver.Tells (driver.finishSays s log .said) (driver.finishSays s log .log) (driver.finishLeaves s log .bytes) (driver.finishLogs s log) t
-
-module _ (l : Lent) (r : AllThere (l .tray) (l .desk) (l .told) (l .header)) (s : State) (log : List ℕ) (e : stateIn l ≡ s) (g : l .log ≡ log) where
-  abbrev room : noRoom (l .tray) (l .desk) (l .told) (l .header) ≡ false
-  room = there-room l r
-
-  at-lent : (P : State → List ℕ → Type 0) → P s log → P (stateIn l) (l .log)
-  at-lent P x = subst (λ s. P s (l .log)) (sym e) (subst (λ log. P s log) (sym g) x)
-
-  call-there : (p : List ℕ) → AllThere (callLeaves l p .tray) (callLeaves l p .desk) (callLeaves l p .told) (callLeaves l p .header)
-  call-there p = subst (λ x. AllThere (x .tray) (x .desk) (x .told) (x .header)) (sym (call-left l room p)) (stays-there l r (callO l room p))
-
-  call-state : (p : List ℕ) → stateIn (callLeaves l p) ≡ driver.callLeaves s log p
-  call-state p = next-call l room p ∙ ap₂ (λ s log. driver.callLeaves s log p) e g
-
-  call-log : (p : List ℕ) → callLeaves l p .log ≡ driver.callLogs s log p
-  call-log p = ap (λ x. x .log) (call-left l room p) ∙ ap₂ (λ s log. driver.callLogs s log p) e g
-
-  finish-there : AllThere (finishLeaves l .tray) (finishLeaves l .desk) (finishLeaves l .told) (finishLeaves l .header)
-  finish-there = subst (λ x. AllThere (x .tray) (x .desk) (x .told) (x .header)) (sym (finish-left l room)) (stays-there l r (finishO l room))
-
-  finish-state : stateIn (finishLeaves l) ≡ driver.finishLeaves s log
-  finish-state = next-finish l room ∙ ap₂ (λ s log. driver.finishLeaves s log) e g
-
-  finish-log : finishLeaves l .log ≡ driver.finishLogs s log
-  finish-log = ap (λ x. x .log) (finish-left l room) ∙ ap₂ (λ s log. driver.finishLogs s log) e g
-
-pub so-feeds : {c : Caller} {x x₁ : Point} {ps : List (List ℕ)} {ts : List uncut.Told} → FeedsBy c oneLog x ps ts x₁ → (l : Lent)
-    → AllThere (l .tray) (l .desk) (l .told) (l .header) → stateIn l ≡ x .state → l .log ≡ x .left → FedOn c l ps ts x₁
-unfolding heardAll
-so-feeds FeedsBy.no-more l r e g = record { end = l; feeds = Feeds.no-more; there = r; state-is = e; log-is = g }
-so-feeds {c} (FeedsBy.an-event {x} {x₁} {p} {ps} {t} {ts} k f) l r e g =
-    let m = there-room l r in
-    let o = callOutcome (handedIn l) p in
-    let w = says-hears l o t (at-lent l r (x .state) (x .left) e g (TellsAt p t) k) in
-    let y = so-feeds f (callLeaves l p) (call-there l r (x .state) (x .left) e g p) (call-state l r (x .state) (x .left) e g p) (call-log l r (x .state) (x .left) e g p) in
-    let n : usedIn (callLeaves l p) ≡ driver.callSays (x .state) (x .left) p .used
-    = ap (λ x. usedIn x) (call-left l m p) ∙ w .2 ∙ ap₂ (λ s log. driver.callSays s log p .used) e g in
-    let z = subst (λ n. Feeds c (callLeaves l p) (drop n p ∷ ps) (heardAll ts) (y .end)) (sym n) (y .feeds) in
-    record {
-      end = y .end;
-      feeds = Feeds.an-event (call-zero l m p (w .0)) (subst (λ x. Hears x (heardOf t)) (sym (call-left l m p)) (w .1)) z;
-      there = y .there;
-      state-is = y .state-is;
-      log-is = y .log-is;
-    }
-so-feeds {c} (FeedsBy.all-used {x} {x₁} {p} {ps} {ts} k f) l r e g =
-    let m = there-room l r in
-    let o = callOutcome (handedIn l) p in
-    let w = said-hungry l o (at-lent l r (x .state) (x .left) e g (λ s log. driver.callSays s log p .said ≡ said.Hungry) k) in
-    let y = so-feeds f (callLeaves l p) (call-there l r (x .state) (x .left) e g p) (call-state l r (x .state) (x .left) e g p) (call-log l r (x .state) (x .left) e g p) in
-    record {
-      end = y .end;
-      feeds = Feeds.all-used (call-zero l m p (w .0)) (ap (λ x. eventIn x) (call-left l m p) ∙ w .1) (y .feeds);
-      there = y .there;
-      state-is = y .state-is;
-      log-is = y .log-is;
-    }
-so-feeds (FeedsBy.passed-over h f) l r e g =
-    let y = so-feeds f l r e g in
-    record { end = y .end; feeds = Feeds.passed-over h (y .feeds); there = y .there; state-is = y .state-is; log-is = y .log-is }
-
-pub so-closes : {x x₁ : Point} {ts : List uncut.Told} → ClosesBy oneLog x ts x₁ → (l : Lent)
-    → AllThere (l .tray) (l .desk) (l .told) (l .header) → stateIn l ≡ x .state → l .log ≡ x .left → ClosedOn l ts
-unfolding heardAll
-so-closes (ClosesBy.an-event {x} {x₁} {t} {ts} k f) l r e g =
-    let m = there-room l r in
-    let o = finishOutcome (handedIn l) in
-    let w = says-hears l o t (at-lent l r (x .state) (x .left) e g (EndTellsAt t) k) in
-    let y = so-closes f (finishLeaves l) (finish-there l r (x .state) (x .left) e g) (finish-state l r (x .state) (x .left) e g) (finish-log l r (x .state) (x .left) e g) in
-    record { end = y .end; closes = Closes.an-event (finish-zero l m (w .0)) (subst (λ x. Hears x (heardOf t)) (sym (finish-left l m)) (w .1)) (y .closes) }
-so-closes (ClosesBy.is-done {x} k) l r e g =
-    let m = there-room l r in
-    let w = said-done l (finishOutcome (handedIn l)) (at-lent l r (x .state) (x .left) e g (λ s log. driver.finishSays s log .said ≡ said.Done) k) in
-    record { end = finishLeaves l; closes = Closes.is-done (finish-zero l m (w .0)) (ap (λ x. eventIn x) (finish-left l m) ∙ w .1) }

@@ -1,10 +1,13 @@
 pub mod Prepares
 pub mod Puts
 pub mod Driver
+pub mod Lender
 pub mod Determined
 pub mod Refusals
 pub mod NextState
 pub mod Driving
 pub mod Cutting
 pub mod Along
+pub mod Ending
+pub mod Injective
 pub mod Theorems

@@ -35,9 +35,11 @@ use Rattle.exportdesk.specs.Theorems.{reads-back}
 use Rattle.exportprepare.specs.Prepares.{Lent, callNumber, finishNumber}
 use Rattle.exportprepare.specs.NextState.{state, stateIn}
 use Rattle.exportprepare.specs.Driver.{Heard, Feeds, FeedsStream, Closes, Whole, Called, none-yet, Starts, booksLent, Ends, heardOf, heardAll, entriesOf, logHeard}
-use Rattle.exportprepare.specs.Driving.{counts, no-number, longer, feeds-so, closes-so, so-feeds, so-closes}
+use Rattle.exportprepare.specs.Lender.{point, Lender, sameAgain, LendsRoom, Cutter, GivesMore, WholeBy, WholeStreamBy}
+use Rattle.exportprepare.specs.Driving.{counts, no-number, longer, feeds-so, closes-so}
 use Rattle.exportprepare.specs.Cutting.{into-portions}
 use Rattle.exportprepare.specs.Along.{fresh-tray, sound-whole, starts-sound, starts-fit, call-is-zero, finish-is-zero, called-fit, feeds-called, closes-called, feeds-beyond, closes-numbers}
+use Rattle.exportprepare.specs.Ending.{feeds-end, closes-end, stream-end, goes-on, feeds-any, stream-any, closes-any, feeds-before, stream-before, closes-before}
 
 -- ---- what is heard, one behind the other, and its log
 
@@ -115,15 +117,41 @@ module _ {lent : Lent} (s : Starts lent) where
       let h = heard-below w ∙ ap heardAll (x .0) in
       (h, ap logHeard h ∙ log-heard (uncutTold (booksLent lent) (flatten portions)), ends-so w (uncutBooks (booksLent lent) (flatten portions)) (x .2), ap (λ s. s .books) (x .2))
 
-  -- And the calls end, whatever the portions are, with the same slices lent again and again; each with the number 0 ..
-  pub prepared-ends : {c : Caller} (portions : List (List ℕ)) → Whole c lent portions
-  prepared-ends portions =
-      let w = prepare.one-log-ends (s .bytes-clear) (starts-sound s) (lent .log) (s .rooms .log-room) portions in
-      let f = so-feeds (w .feeds) lent (starts-fit s .there) starts-state refl in
-      let g = so-closes (w .closes) (f .end) (f .there) (f .state-is) (f .log-is) in
-      record { before = heardAll (w .before); between = f .end; feeds = f .feeds; after = heardAll (w .after); end = g .end; closes = g .closes }
+  -- And the calls end, whatever the portions are and whoever lends the log and the places: what is lent may depend on all that was heard before, and on all that the last
+  -- call left.
+  pub prepared-ends : {c : Caller} (lends : Lender) → LendsRoom lends → (portions : List (List ℕ)) → WholeBy c lends lent portions
+  prepared-ends lends rooms portions =
+      let f = feeds-end lends rooms portions (point [] lent) (starts-fit s) in
+      let g = closes-end lends rooms (f .end₁) (f .fit) in
+      record { before = f .heard; between = f .end₁; feeds = f .feeds; after = g .heard; end = g .end₁; closes = g .closes }
 
-  -- .. as it is of every call and every finish, in any order and on any input, whatever log and places are lent.
+  -- So they end with the same slices lent again and again.
+  pub same-again-ends : {c : Caller} (portions : List (List ℕ)) → WholeBy c sameAgain lent portions
+  same-again-ends portions = prepared-ends sameAgain (λ _ r. r) portions
+
+  -- And so they do for one who hands over what is left of a stream, however it is cut, if a call that said hungry is followed by one that is handed some while bytes are
+  -- left; the call behind an event may be handed none.
+  pub stream-ends : {c : Caller} (lends : Lender) → LendsRoom lends → (cuts : Cutter) → GivesMore cuts → (stream : List ℕ) → WholeStreamBy c lends cuts lent stream
+  stream-ends {c} lends rooms cuts gives stream =
+      let f = stream-end lends rooms c cuts gives stream (point [] lent) (starts-fit s) in
+      let g = closes-end lends rooms (f .end₁) (f .fit) in
+      record { before = f .heard; between = f .end₁; feeds = f .feeds; after = g .heard; end = g .end₁; closes = g .closes }
+
+  -- That is asked with reason: the calls never end where none of them is handed anything.
+  pub nothing-handed : {c : Caller} {lends : Lender} {stream : List ℕ} → LendsRoom lends → 1 ≤ length stream → WholeStreamBy c lends (λ _ _. 0) lent stream → ⊥
+  nothing-handed {lends = lends} rooms some w = goes-on lends rooms (w .feeds) (starts-fit s) (fresh-tray (lent .tray) (s .tray-fresh) .1) some
+
+  -- Whoever lends and whoever cuts, such calls are calls of Driver.antt: so all that is said here of `Whole`, `FeedsStream` and `Closes` holds of them.
+  pub any-lender : {c : Caller} {lends : Lender} {portions : List (List ℕ)} → LendsRoom lends → WholeBy c lends lent portions → Whole c lent portions
+  any-lender {lends = lends} rooms w =
+      let f = feeds-any lends rooms (w .feeds) (starts-fit s) in
+      record { before = w .before; between = w .between .left; feeds = f .0; after = w .after; end = w .end .left; closes = closes-any lends rooms (w .closes) (f .1) }
+
+  pub any-cutter : {c : Caller} {lends : Lender} {cuts : Cutter} {stream : List ℕ} → LendsRoom lends → (w : WholeStreamBy c lends cuts lent stream)
+      → (FeedsStream lent stream (w .before) (w .between .left)) × (Closes (w .between .left) (w .after) (w .end .left))
+  any-cutter {lends = lends} rooms w = let f = stream-any lends rooms (w .feeds) (starts-fit s) in (f .0, closes-any lends rooms (w .closes) (f .1))
+
+  -- Each of these calls has the number 0, as has every call and every finish, in any order and on any input, whatever log and places are lent.
   pub never-refused : {l : Lent} → Called lent l → ((input : List ℕ) → callNumber l input ≡ 0) × (finishNumber l ≡ 0)
   never-refused k = let f = called-fit k (starts-fit s) in (λ input. call-is-zero _ f input, finish-is-zero _ f)
 
@@ -184,6 +212,15 @@ module _ {lent : Lent} (s : Starts lent) where
         desk-sound = sound-whole (w .end .desk) (w .end .live) (w .end .run) (f .there .desk-room) (b .live-room) (b .run-room) (b .is-sound);
         rooms = record { log-room = f .log-room; told-room = f .there .told-room; header-room = f .there .header-room };
       }
+
+-- What a lender and a cutter may look at is all that was heard before.
+pub lender-knows : {c : Caller} {lends : Lender} {lent : Lent} {portions : List (List ℕ)} (w : WholeBy c lends lent portions)
+    → (w .between .heard ≡ w .before) × (w .end .heard ≡ w .before ++ w .after)
+lender-knows w = let f = feeds-before (w .feeds) in (f, closes-before (w .closes) ∙ ap (λ hs. hs ++ w .after) f)
+
+pub cutter-knows : {c : Caller} {lends : Lender} {cuts : Cutter} {lent : Lent} {stream : List ℕ} (w : WholeStreamBy c lends cuts lent stream)
+    → (w .between .heard ≡ w .before) × (w .end .heard ≡ w .before ++ w .after)
+cutter-knows w = let f = stream-before (w .feeds) in (f, closes-before (w .closes) ∙ ap (λ hs. hs ++ w .after) f)
 
 -- The number heard of a frame that the desk refused is not 0.
 pub refused-heard : (why : Refusal) → numberOf why ≡ 0 → ⊥
