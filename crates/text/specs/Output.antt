@@ -1,12 +1,13 @@
--- Theorem: nothing that is said is lost. Of texts that are no longer than the buffer, what went out and what waits, joined, are what waited before and the texts, one behind the other. Proved.
-use mathlib.Core.Path.{_≡_, refl, sym, ap, _∙_, subst}
+-- Theorem: nothing that is said is lost. If no text is longer than the buffer, what goes out while texts are said, and then what waits, are what waited before and the texts,
+-- one behind the other. Proved.
+use mathlib.Core.Path.{_≡_, refl, sym, ap, _∙_}
 use mathlib.Core.Bool.{Bool, true, false, cond}
 use mathlib.Core.List.{List, [], _∷_, _++_, append-assoc, append-nil, flatten}
 use Prim.Native.Nat.{ℕ, _+_, _≤_}
 use native.Mathlib.Omega.{arith}
 use lib.ListN.{length, take}
 use borrow.Author.Tests.{leb-true}
-use Rattle.text.specs.Text.{fits, endAfter, outAfter, placeFor, waitingAfter, saidAfter, Waiting, waiting, sayAll, goesOut, goneOut, Short, none, more}
+use Rattle.text.specs.Text.{fits, endAfter, outAfter, placeFor, waitingAfter, saidAfter, Waiting, waiting, sayAll, goesOut, goneOut, Short}
 use Rattle.text.specs.Parts.{end-is, out-length, front-is}
 
 -- ---- one text
@@ -20,40 +21,42 @@ module _ (out : List ℕ) (at : ℕ) (text : List ℕ) (small : length text ≤ 
       go true e = leb-true (at + length text) (length out) e
       go false e = omega arith
 
-  said-end : waitingAfter out at text ≡ placeFor out at text + length text
-  unfolding waitingAfter
-  said-end = end-is out (placeFor out at text) text has-place
-
   said-length : length (saidAfter out at text) ≡ length out
   unfolding saidAfter
   said-length = out-length out (placeFor out at text) text has-place
 
   said-front : take (waitingAfter out at text) (saidAfter out at text) ≡ take (placeFor out at text) out ++ text
-  unfolding saidAfter
+  unfolding saidAfter waitingAfter
   said-front =
-      ap (λ n. take n (outAfter out (placeFor out at text) text)) said-end
+      ap (λ n. take n (outAfter out (placeFor out at text) text)) (end-is out (placeFor out at text) text has-place)
       ∙ front-is out (placeFor out at text) text has-place
 
-  said-kept : goesOut out at text ++ take (waitingAfter out at text) (saidAfter out at text) ≡ take at out ++ text
-  unfolding goesOut placeFor
-  said-kept = ap (λ x. goesOut out at text ++ x) said-front ∙ go (fits out at text)
+  -- what goes out before it, and then what waits, are what waited and the text
+  said-kept : goesOut (waiting out at) text ++ take (waitingAfter out at text) (saidAfter out at text) ≡ take at out ++ text
+  unfolding placeFor
+  said-kept = ap (λ x. goesOut (waiting out at) text ++ x) said-front ∙ go (fits out at text)
     where
       go : (b : Bool) → cond b [] (take at out) ++ (take (cond b at 0) out ++ text) ≡ take at out ++ text
       go true = refl
       go false = refl
 
--- ---- texts
+-- ---- texts; the buffer keeps its length
 
-pub nothing-lost : (texts : List (List ℕ)) (w : Waiting) → Short (length (w .out)) texts
-    → goneOut w texts ++ take (sayAll w texts .at) (sayAll w texts .out) ≡ take (w .at) (w .out) ++ flatten texts
+pub nothing-lost : (texts : List (List ℕ)) (room : ℕ) (out : List ℕ) (at : ℕ) → room ≤ length out → Short room texts
+    → (goneOut (waiting out at) texts ++ take (sayAll (waiting out at) texts .at) (sayAll (waiting out at) texts .out) ≡ take at out ++ flatten texts)
+    × (length (sayAll (waiting out at) texts .out) ≡ length out)
 unfolding goneOut sayAll flatten
-nothing-lost [] w s = sym (append-nil (take (w .at) (w .out)))
-nothing-lost (text ∷ texts) w (more h s) =
-    let gone : List ℕ = goesOut (w .out) (w .at) text in
-    let next : Waiting = waiting (saidAfter (w .out) (w .at) text) (waitingAfter (w .out) (w .at) text) in
-    let rest = nothing-lost texts next (subst (λ n. Short n texts) (sym (said-length (w .out) (w .at) text h)) s) in
-    append-assoc gone (goneOut next texts) (take (sayAll next texts .at) (sayAll next texts .out))
-    ∙ ap (λ x. gone ++ x) rest
-    ∙ sym (append-assoc gone (take (next .at) (next .out)) (flatten texts))
-    ∙ ap (λ x. x ++ flatten texts) (said-kept (w .out) (w .at) text h)
-    ∙ append-assoc (take (w .at) (w .out)) text (flatten texts)
+nothing-lost [] room out at h s = (sym (append-nil (take at out)), refl)
+nothing-lost (text ∷ texts) room out at h s =
+    let small : length text ≤ length out = omega (arith, s .0) in
+    let gone : List ℕ = goesOut (waiting out at) text in
+    let next : Waiting = waiting (saidAfter out at text) (waitingAfter out at text) in
+    let l = said-length out at text small in
+    let rest = nothing-lost texts room (next .out) (next .at) (omega arith) (s .1) in (
+      append-assoc gone (goneOut next texts) (take (sayAll next texts .at) (sayAll next texts .out))
+          ∙ ap (λ x. gone ++ x) (rest .0)
+          ∙ sym (append-assoc gone (take (next .at) (next .out)) (flatten texts))
+          ∙ ap (λ x. x ++ flatten texts) (said-kept out at text small)
+          ∙ append-assoc (take at out) text (flatten texts),
+      rest .1 ∙ l,
+    )

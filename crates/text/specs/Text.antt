@@ -50,19 +50,18 @@ unfoldable pub sayAll : Waiting → List (List ℕ) → Waiting
 sayAll w [] = w
 sayAll w (text ∷ texts) = sayAll (waiting (saidAfter (w .out) (w .at) text) (waitingAfter (w .out) (w .at) text)) texts
 
--- the bytes that go out while they are said: those that wait, whenever a text has no room behind them
-unfoldable pub goesOut : (out : List ℕ) (at : ℕ) (text : List ℕ) → List ℕ
-goesOut out at text = cond (fits out at text) [] (take at out)
+-- the bytes that go out while they are said: those that wait, before a text that has no room behind them
+abbrev pub goesOut : Waiting → (text : List ℕ) → List ℕ
+goesOut w text = cond (fits (w .out) (w .at) text) [] (take (w .at) (w .out))
 
 unfoldable pub goneOut : Waiting → List (List ℕ) → List ℕ
 goneOut w [] = []
-goneOut w (text ∷ texts) =
-    goesOut (w .out) (w .at) text ++ goneOut (waiting (saidAfter (w .out) (w .at) text) (waitingAfter (w .out) (w .at) text)) texts
+goneOut w (text ∷ texts) = goesOut w text ++ goneOut (waiting (saidAfter (w .out) (w .at) text) (waitingAfter (w .out) (w .at) text)) texts
 
--- none of them is longer than the buffer
-pub data Short (size : ℕ) : List (List ℕ) → Type 0 where
-  none : Short size []
-  more : {text : List ℕ} {texts : List (List ℕ)} → length text ≤ size → Short size texts → Short size (text ∷ texts)
+-- no text is longer than there is room for
+abbrev pub Short : (room : ℕ) → List (List ℕ) → Type 0
+Short room [] = Unit {0}
+Short room (text ∷ texts) = (length text ≤ room) × Short room texts
 
 -- ---- a number
 
