@@ -48,26 +48,12 @@ module _ (f : Frame) (l l₁ l₂ l₃ : List ℕ) (w n r : ℕ) where
   frame-is ew ow e er or =
       last-put l₂ l₃ n r lineEnd er or ∙ ap (λ v. putAll v (lineEnd ∷ [])) e ∙ one-put l l₁ 0 w frameWord (numberParts f ++ (lineEnd ∷ [])) ew ow
 
-pub frame-short : (f : Frame) → length (decimal (f .length)) ≤ 20 → length (decimal (f .«message_type»)) ≤ 20 → length (decimal (f .subtype)) ≤ 20
-    → length (flatten (frameParts f)) ≤ 80
-unfolding flatten
-frame-short f a b c =
-    rw (
-      length-append (decimal (f .length)) (32 ∷ (decimal (f .«message_type») ++ (32 ∷ (decimal (f .subtype) ++ (10 ∷ []))))),
-      length-append (decimal (f .«message_type»)) (32 ∷ (decimal (f .subtype) ++ (10 ∷ []))),
-      length-append (decimal (f .subtype)) (10 ∷ []),
-    ) (omega arith)
-
 module _ (count : ℕ) (l l₁ l₂ l₃ : List ℕ) (w n r : ℕ) where
   pub noise-is : w ≡ endAfter l 0 noiseWord → l₁ ≡ outAfter l 0 noiseWord → waiting l₂ n ≡ putAll (waiting l₁ w) (space ∷ decimal count ∷ [])
       → r ≡ endAfter l₂ n lineEnd → l₃ ≡ outAfter l₂ n lineEnd → waiting l₃ r ≡ putAll (waiting l 0) (noiseParts count)
   noise-is ew ow e₂ er or =
       last-put l₂ l₃ n r lineEnd er or ∙ two-put l₁ l₂ w n space (decimal count) (lineEnd ∷ []) e₂
       ∙ one-put l l₁ 0 w noiseWord (space ∷ decimal count ∷ lineEnd ∷ []) ew ow
-
-pub noise-short : (count : ℕ) → length (decimal count) ≤ 20 → length (flatten (noiseParts count)) ≤ 80
-unfolding flatten
-noise-short count a = rw (length-append (decimal count) (10 ∷ [])) (omega arith)
 
 -- what is said, by its kind; what is no event has no parts
 module _ (s : Said) (l : List ℕ) where

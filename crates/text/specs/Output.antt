@@ -7,7 +7,7 @@ use Prim.Native.Nat.{ℕ, _+_, _≤_}
 use native.Mathlib.Omega.{arith}
 use lib.ListN.{length, take}
 use borrow.Author.Tests.{leb-true}
-use Rattle.text.specs.Text.{fits, endAfter, outAfter, placeFor, waitingAfter, saidAfter, Waiting, waiting, sayAll, goesOut, goneOut, Short}
+use Rattle.text.specs.Text.{fits, endAfter, outAfter, placeFor, waitingAfter, saidAfter, Waiting, waiting, sayAll, goesOut, goneOut, wholeOut, Short}
 use Rattle.text.specs.Parts.{end-is, out-length, front-is}
 
 -- ---- one text
@@ -60,3 +60,25 @@ nothing-lost (text ∷ texts) room out at h s =
           ∙ append-assoc (take at out) text (flatten texts),
       rest .1 ∙ l,
     )
+
+-- So from an empty buffer on all that goes out is the texts.
+pub whole-out : (out out′ : List ℕ) (at′ room : ℕ) (texts : List (List ℕ)) → waiting out′ at′ ≡ sayAll (waiting out 0) texts → room ≤ length out → Short room texts
+    → (wholeOut out texts out′ at′ ≡ flatten texts) × (length out′ ≡ length out)
+whole-out out out′ at′ room texts e h s =
+    let r = nothing-lost texts room out 0 h s in
+    (ap (λ w. wholeOut out texts (w .out) (w .at)) e ∙ r .0, ap (λ w. length (w .out)) e ∙ r .1)
+
+-- ---- lists of texts
+
+pub short-append : (room : ℕ) (a b : List (List ℕ)) → Short room a → Short room b → Short room (a ++ b)
+short-append room [] b s t = t
+short-append room (x ∷ a) b s t = (s .0, short-append room a b (s .1) t)
+
+pub short-parts : (room : ℕ) (a b : List (List ℕ)) → Short room (a ++ b) → Short room a × Short room b
+short-parts room [] b s = (tt, s)
+short-parts room (x ∷ a) b s = let r = short-parts room a b (s .1) in ((s .0, r .0), r .1)
+
+pub flatten-append : (a b : List (List ℕ)) → flatten (a ++ b) ≡ flatten a ++ flatten b
+unfolding flatten
+flatten-append [] b = refl
+flatten-append (x ∷ a) b = ap (λ l. x ++ l) (flatten-append a b) ∙ sym (append-assoc x (flatten a) (flatten b))

@@ -58,6 +58,10 @@ unfoldable pub goneOut : Waiting → List (List ℕ) → List ℕ
 goneOut w [] = []
 goneOut w (text ∷ texts) = goesOut w text ++ goneOut (waiting (saidAfter (w .out) (w .at) text) (waitingAfter (w .out) (w .at) text)) texts
 
+-- all that goes out where texts are said from an empty buffer on, and then what waits
+abbrev pub wholeOut : (out : List ℕ) → List (List ℕ) → (out′ : List ℕ) (at′ : ℕ) → List ℕ
+wholeOut out texts out′ at′ = goneOut (waiting out 0) texts ++ take at′ out′
+
 -- no text is longer than there is room for
 abbrev pub Short : (room : ℕ) → List (List ℕ) → Type 0
 Short room [] = Unit {0}

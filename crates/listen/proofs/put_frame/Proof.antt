@@ -1,5 +1,6 @@
 -- The parts of the line are put one behind the other.
-use Rattle.listen.proofs.Lines.{frame-is, frame-short}
+use Rattle.listen.proofs.Lines.{frame-is}
+use Rattle.listen.specs.Lengths.{frame-short}
 use borrow.Author.Needs.{needs}
 use Rattle.listen.proofs.put_frame.Statement.{statement}
 use Rattle.listen.proofs.put_frame.Tie as tie

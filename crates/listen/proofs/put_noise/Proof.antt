@@ -1,5 +1,6 @@
 -- The parts of the line are put one behind the other.
-use Rattle.listen.proofs.Lines.{noise-is, noise-short}
+use Rattle.listen.proofs.Lines.{noise-is}
+use Rattle.listen.specs.Lengths.{noise-short}
 use borrow.Author.Needs.{needs}
 use Rattle.listen.proofs.put_noise.Statement.{statement}
 use Rattle.listen.proofs.put_noise.Tie as tie
