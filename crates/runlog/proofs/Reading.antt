@@ -10,7 +10,7 @@ use lib.Dec.{ltb}
 use lib.ListN.{length, take, length-append, replicate}
 use lib.Seq.{length-take-le}
 use borrow.Author.Tests.{not-true, not-false, lt-ltb, le-ltb}
-use Rattle.sizes.specs.Sizes.{longestFrame, bookBytes}
+use Rattle.sizes.specs.Sizes.{longestFrame, bookBytes, logRoom}
 use Rattle.stream.specs.declared.Tray.{Tray}
 use Rattle.stream.specs.Tray.{freshTray}
 use Rattle.desk.specs.declared.Desk.{Desk}
@@ -138,9 +138,10 @@ module _ (raw : Bool) (start : State) (bytes₀ live₀ run₀ log₀ out₀ byt
 
 -- ---- what is wanted
 
-pub ran-is : (desk : Desk) (raw : Bool) (stop : Stop) (out bytes₂ live₂ run₂ out₂ : List ℕ)
+pub ran-is : (desk : Desk) (raw : Bool) (stop : Stop) (out bytes₂ live₂ run₂ out₂ : List ℕ) → logRoom ≡ length out
     → AllTold raw (stateOf (replicate longestFrame 0) freshTray desk (replicate bookBytes 0) (replicate bookBytes 0)) out bytes₂ live₂ run₂ out₂ stop → Ran desk raw stop
-ran-is desk raw stop out bytes₂ live₂ run₂ out₂ a = record { out = out; bytes₂ = bytes₂; live₂ = live₂; run₂ = run₂; out₂ = out₂; all-told = a }
+ran-is desk raw stop out bytes₂ live₂ run₂ out₂ h a =
+    record { out = out; out-room = omega arith; bytes₂ = bytes₂; live₂ = live₂; run₂ = run₂; out₂ = out₂; all-told = a }
 
 module _ (wanted : Wanted) (j : Job) (e : j ≡ jobOf wanted) where
   pub does-run : (desk : Desk) (raw : Bool) (stop : Stop) → j ≡ job.Run desk raw → Ran desk raw stop → Does (jobOf wanted) (done.Ran stop)

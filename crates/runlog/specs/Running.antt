@@ -4,10 +4,10 @@ use mathlib.Core.Path.{_≡_}
 use mathlib.Core.Bool.{Bool, false, _&&_}
 use mathlib.Core.Logic.{_⊎_}
 use mathlib.Core.List.{List, [], _∷_}
-use Prim.Native.Nat.{ℕ, _+_, _-_, _^_}
+use Prim.Native.Nat.{ℕ, _+_, _-_, _≤_, _^_}
 use lib.Dec.{ltb}
 use lib.ListN.{length, replicate}
-use Rattle.sizes.specs.Sizes.{longestFrame, bookBytes}
+use Rattle.sizes.specs.Sizes.{longestFrame, bookBytes, logRoom}
 use Rattle.stream.specs.declared.Tray.{Tray}
 use Rattle.stream.specs.Tray.{freshTray}
 use Rattle.desk.specs.declared.Desk.{Desk}
@@ -52,9 +52,10 @@ pub record AllTold (raw : Bool) (state : State) (out bytes₂ live₂ run₂ out
 abbrev pub atStart : Desk → State
 atStart desk = stateOf (replicate longestFrame 0) freshTray desk (replicate bookBytes 0) (replicate bookBytes 0)
 
--- A desk runs over all that comes.
+-- A desk runs over all that comes. The output's buffer has room for a frame's log.
 pub record Ran (desk : Desk) (raw : Bool) (stop : Stop) : Type 0 where
   pub out : List ℕ
+  pub out-room : logRoom ≤ length out
   pub bytes₂ : List ℕ
   pub live₂ : List ℕ
   pub run₂ : List ℕ

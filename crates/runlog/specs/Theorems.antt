@@ -1,23 +1,24 @@
--- With `raw` the program says the run log of the uncut stream: the bytes that it says, portion after portion and at the end, are those that document 01 lays down for all
+-- With `raw` the program writes the run log of the uncut stream: the bytes that go out, portion after portion and at the end, are those that document 01 lays down for all
 -- bytes that came, by the desk that the command line asked for, however the reads cut them. Proved.
-use mathlib.Core.Path.{_≡_, refl, sym, ap, _∙_, subst}
+use mathlib.Core.Path.{_≡_, refl, sym, ap, ap₂, _∙_, subst}
 use mathlib.Core.Bool.{Bool, true}
-use mathlib.Core.List.{List, [], _∷_, _++_, append-assoc, append-nil, flatten}
+use mathlib.Core.List.{List, [], _∷_, _++_, flatten}
 use Prim.Native.Nat.{ℕ, _≤_}
 use native.Mathlib.Omega.{arith}
 use lib.ListN.{length, replicate, length-replicate}
 use Rattle.text.specs.Text.{waiting, sayAll}
-use Rattle.sizes.specs.Sizes.{longestFrame, bookBytes}
+use Rattle.sizes.specs.Sizes.{longestFrame, bookBytes, logRoom}
+use Rattle.stream.specs.Scan.{scan}
 use Rattle.stream.specs.Driver.{Clear, waits}
 use Rattle.stream.specs.Theorems.{zeros-clear}
 use Rattle.desk.specs.declared.Desk.{Desk}
-use Rattle.desk.specs.declared.NewDesk.{NewDesk}
-use Rattle.desk.specs.declared.NewDesk.the-variants.{Made, Refused}
+use Rattle.desk.specs.declared.NewDesk.the-variants.{Made}
 use Rattle.desk.specs.Desk.{newDesk}
 use Rattle.desk.specs.History.{Held}
 use Rattle.prepare.specs.Uncut as uncut
-use Rattle.prepare.specs.Uncut.{entriesOf, runLog, uncutTold, uncutLog}
+use Rattle.prepare.specs.Uncut.{runLog, uncutTold, uncutLog}
 use Rattle.prepare.specs.Driver.{State, Sound, Feeds, Whole, start}
+use Rattle.prepare.specs.Driving.{log-append}
 use Rattle.prepare.specs.Theorems.{prepared, fresh-sound}
 use Rattle.runlog.specs.declared.command.Wanted.the-variants.{Log}
 use Rattle.runlog.specs.declared.hearing.Stop.{Stop}
@@ -25,18 +26,15 @@ use Rattle.runlog.specs.declared.Job.the-variants as job
 use Rattle.runlog.specs.declared.Done.{Done}
 use Rattle.runlog.specs.declared.Done.the-variants as done
 use Rattle.runlog.specs.Command.{jobBy, jobOf}
-use Rattle.runlog.specs.Telling.{some, logsOf}
+use Rattle.runlog.specs.Telling.{logsOf}
 use Rattle.runlog.specs.Running.{Reads, AllTold, atStart, Ran, Does}
+use Rattle.runlog.specs.Outgoing.{outWith, outIn, outOf}
+use Rattle.runlog.specs.Joined.{Short, all-joined, logs-join, told-short, short-parts}
 
 -- what is told of all portions
 unfoldable pub toldIn : {raw : Bool} {s s₁ : State} {o o₁ : List ℕ} {ps : List (List ℕ)} → Reads raw s o ps s₁ o₁ → List uncut.Told
 toldIn Reads.no-more = []
 toldIn (Reads.a-portion at told rest) = told .told ++ toldIn rest
-
--- Texts said from the buffer `out` to the buffer `out′`, some and then some; what waits goes out behind each of these, so that the buffer is empty then.
-pub data Says : (out : List ℕ) → List (List ℕ) → (out′ : List ℕ) → Type 0 where
-  nothing : {o : List ℕ} → Says o [] o
-  some-then : {o o₁ o₂ : List ℕ} {rest : List (List ℕ)} (texts : List (List ℕ)) (at : ℕ) → waiting o₁ at ≡ sayAll (waiting o 0) texts → Says o₁ rest o₂ → Says o (texts ++ rest) o₂
 
 portion-then : {s s₁ s₂ : State} {p : List ℕ} {ps : List (List ℕ)} {ts us : List uncut.Told} → Feeds waits s (p ∷ []) ts s₁ → Feeds waits s₁ ps us s₂
     → Feeds waits s (p ∷ ps) (ts ++ us) s₂
@@ -49,31 +47,23 @@ unfolding toldIn
 portions-feed Reads.no-more = Feeds.no-more
 portions-feed (Reads.a-portion at told rest) = portion-then (told .feeds) (portions-feed rest)
 
--- the entries of what is told, joined, are its run log
-some-flat : (entries : List ℕ) (rest : List (List ℕ)) → flatten (some entries ++ rest) ≡ entries ++ flatten rest
-unfolding flatten
-some-flat [] rest = refl
-some-flat (x ∷ xs) rest = refl
+-- what goes out while something is told, and behind it, is its run log
+told-joined : (o o₁ : List ℕ) (at : ℕ) (ts : List uncut.Told) → waiting o₁ at ≡ sayAll (waiting o 0) (logsOf ts) → logRoom ≤ length o → Short logRoom (logsOf ts)
+    → (outWith o ts o₁ at ≡ runLog ts) × (length o₁ ≡ length o)
+told-joined o o₁ at ts e h s =
+    let r = all-joined (logsOf ts) logRoom o 0 h s in
+    (ap (λ w. outWith o ts (w .out) (w .at)) e ∙ r .0 ∙ logs-join ts, ap (λ w. length (w .out)) e ∙ r .1)
 
-logs-join : (ts : List uncut.Told) → flatten (logsOf ts) ≡ runLog ts
-unfolding logsOf runLog flatten
-logs-join [] = refl
-logs-join (t ∷ ts) = some-flat (entriesOf t) (logsOf ts) ∙ ap (λ l. entriesOf t ++ l) (logs-join ts)
-
-logs-append : (ts us : List uncut.Told) → logsOf (ts ++ us) ≡ logsOf ts ++ logsOf us
-unfolding logsOf
-logs-append [] us = refl
-logs-append (t ∷ ts) us = ap (λ l. some (entriesOf t) ++ l) (logs-append ts us) ∙ sym (append-assoc (some (entriesOf t)) (logsOf ts) (logsOf us))
-
--- what is said of all portions, and then the rest
-says-all : {raw : Bool} {s s₁ : State} {o o₁ o₂ : List ℕ} {ps rest : List (List ℕ)} → raw ≡ true → (r : Reads raw s o ps s₁ o₁) → Says o₁ rest o₂
-    → Says o (logsOf (toldIn r) ++ rest) o₂
-unfolding toldIn logsOf
-says-all q Reads.no-more k = k
-says-all {o = o} {o₂ = o₂} {rest = rest} q (Reads.a-portion at told more) k =
-    subst (λ texts. Says o texts o₂)
-    (sym (append-assoc (logsOf (told .told)) (logsOf (toldIn more)) rest) ∙ ap (λ texts. texts ++ rest) (sym (logs-append (told .told) (toldIn more))))
-    (Says.some-then (logsOf (told .told)) at (told .says q) (says-all q more k))
+portions-joined : {raw : Bool} {s s₁ : State} {o o₁ : List ℕ} {ps : List (List ℕ)} → raw ≡ true → (r : Reads raw s o ps s₁ o₁) → logRoom ≤ length o → Short logRoom (logsOf (toldIn r))
+    → (outIn r ≡ runLog (toldIn r)) × (length o₁ ≡ length o)
+unfolding toldIn outIn runLog
+portions-joined q Reads.no-more h s = (refl, refl)
+portions-joined q (Reads.a-portion {o = o} {o₁ = p} at told rest) h s =
+    let d = short-parts logRoom (told .told) (toldIn rest) s in
+    let j = told-joined o p at (told .told) (told .says q) h (d .0) in
+    let l = j .1 in
+    let r = portions-joined q rest (omega arith) (d .1) in
+    (ap₂ (λ x y. x ++ y) (j .0) (r .0) ∙ sym (log-append (told .told) (toldIn rest)), r .1 ∙ l)
 
 module _ {raw : Bool} {books : Held} {bytes out bytes₂ live₂ run₂ out₂ : List ℕ} {stop : Stop} (clear : Clear bytes) (sound : Sound books)
     (a : AllTold raw (start bytes books) out bytes₂ live₂ run₂ out₂ stop) where
@@ -91,32 +81,29 @@ module _ {raw : Bool} {books : Held} {bytes out bytes₂ live₂ run₂ out₂ :
   pub told-uncut : toldIn (a .reads) ++ a .closes .ends .told ≡ uncutTold books (flatten (a .portions))
   told-uncut = prepared clear sound whole .0
 
-  -- And with `raw` the texts that are said, joined, are its run log.
-  pub said-uncut : raw ≡ true → (texts : List (List ℕ)) × Says out texts out₂ × (flatten texts ≡ uncutLog books (flatten (a .portions)))
-  said-uncut q =
+  -- And with `raw` the bytes that go out are its run log.
+  pub out-uncut : raw ≡ true → logRoom ≤ length out → outOf a ≡ uncutLog books (flatten (a .portions))
+  out-uncut q h =
       let ts = toldIn (a .reads) in
       let us = a .closes .ends .told in
-      let z = Says.some-then (logsOf us) (a .closes .at′) (a .closes .ends .says q) Says.nothing in (
-        logsOf (ts ++ us),
-        subst (λ texts. Says out texts out₂) (ap (λ texts. logsOf ts ++ texts) (append-nil (logsOf us)) ∙ sym (logs-append ts us)) (says-all q (a .reads) z),
-        logs-join (ts ++ us) ∙ prepared clear sound whole .1,
-      )
+      let s = short-parts logRoom ts us (subst (λ ts. Short logRoom (logsOf ts)) (sym told-uncut) (told-short (scan (flatten (a .portions))) books sound)) in
+      let r = portions-joined q (a .reads) h (s .0) in
+      let l = r .1 in
+      let j = told-joined (a .out₁) out₂ (a .closes .at′) us (a .closes .ends .says q) (omega arith) (s .1) in
+      ap₂ (λ x y. x ++ y) (r .0) (j .0) ∙ sym (log-append ts us) ∙ prepared clear sound whole .1
 
--- So does the program for the desk that the command line asks for, if there is one.
-pub record SaysLog (desk : Desk) (stop : Stop) : Type 0 where
+-- So it is of the desk that the command line asks for, if there is one: a new desk for its solution, processor and constellation.
+pub record WritesLog (desk : Desk) (stop : Stop) : Type 0 where
   pub ran : Ran desk true stop
-  pub texts : List (List ℕ)
-  pub says : Says (ran .out) texts (ran .out₂)
-  pub joined : flatten texts ≡ uncutLog (atStart desk .books) (flatten (ran .all-told .portions))
+  pub is-log : outOf (ran .all-told) ≡ uncutLog (atStart desk .books) (flatten (ran .all-told .portions))
 
 ran-by : {desk : Desk} {raw : Bool} {d : Done} → Does (job.Run desk raw) d → (stop : Stop) × Ran desk raw stop × (d ≡ done.Ran stop)
 ran-by (Does.runs {stop = stop} r) = (stop, r, refl)
 
 pub run-log : (solution processor constellation : ℕ) (desk : Desk) → newDesk solution processor constellation ≡ Made desk
-    → {d : Done} → Does (jobOf (Log solution processor constellation true)) d → (stop : Stop) × SaysLog desk stop × (d ≡ done.Ran stop)
+    → {d : Done} → Does (jobOf (Log solution processor constellation true)) d → (stop : Stop) × WritesLog desk stop × (d ≡ done.Ran stop)
 run-log solution processor constellation desk e does =
     let r = ran-by (rw e at does) in
     let room : bookBytes ≤ length (replicate {A = ℕ} bookBytes 0) = omega (arith, length-replicate {A = ℕ} bookBytes 0) in
     let sound = fresh-sound solution processor constellation desk e (replicate bookBytes 0) (replicate bookBytes 0) room room in
-    let said = said-uncut (zeros-clear longestFrame (omega arith)) sound (r .1 .all-told) refl in
-    (r .0, record { ran = r .1; texts = said .0; says = said .1; joined = said .2 }, r .2)
+    (r .0, record { ran = r .1; is-log = out-uncut (zeros-clear longestFrame (omega arith)) sound (r .1 .all-told) refl (r .1 .out-room) }, r .2)
