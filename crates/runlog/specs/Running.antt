@@ -3,7 +3,7 @@
 use mathlib.Core.Path.{_≡_}
 use mathlib.Core.Bool.{Bool, false, _&&_}
 use mathlib.Core.Logic.{_⊎_}
-use mathlib.Core.List.{List, [], _∷_}
+use mathlib.Core.List.{List, [], _∷_, _++_}
 use Prim.Native.Nat.{ℕ, _+_, _-_, _≤_, _^_}
 use lib.Dec.{ltb}
 use lib.ListN.{length, replicate}
@@ -11,6 +11,7 @@ use Rattle.sizes.specs.Sizes.{longestFrame, bookBytes, logRoom}
 use Rattle.stream.specs.declared.Tray.{Tray}
 use Rattle.stream.specs.Tray.{freshTray}
 use Rattle.desk.specs.declared.Desk.{Desk}
+use Rattle.prepare.specs.Uncut as uncut
 use Rattle.prepare.specs.Driver.{State}
 use Rattle.runlog.specs.declared.hearing.Turn.{Turn}
 use Rattle.runlog.specs.declared.hearing.Stop.{Stop}
@@ -24,6 +25,11 @@ use Rattle.runlog.specs.Telling.{stateOf, some, Told, Ended}
 pub data Reads (raw : Bool) : State → List ℕ → List (List ℕ) → State → List ℕ → Type 0 where
   no-more : {s : State} {o : List ℕ} → Reads raw s o [] s o
   a-portion : {s s₁ s₂ : State} {o o₁ o₂ p : List ℕ} {ps : List (List ℕ)} (at : ℕ) → Told raw s o 0 p s₁ o₁ at → Reads raw s₁ o₁ ps s₂ o₂ → Reads raw s o (p ∷ ps) s₂ o₂
+
+-- what is told of all portions
+unfoldable pub toldIn : {raw : Bool} {s s₁ : State} {o o₁ : List ℕ} {ps : List (List ℕ)} → Reads raw s o ps s₁ o₁ → List uncut.Told
+toldIn Reads.no-more = []
+toldIn (Reads.a-portion at told rest) = told .told ++ toldIn rest
 
 -- A read is told, if something came. It goes on where something came and the log went out.
 pub record Came (raw : Bool) (state : State) (out portion : List ℕ) (state′ : State) (out′ : List ℕ) (turn : Turn) : Type 0 where

@@ -25,16 +25,11 @@ use Rattle.runlog.specs.declared.hearing.Stop.{Stop}
 use Rattle.runlog.specs.declared.Job.the-variants as job
 use Rattle.runlog.specs.declared.Done.{Done}
 use Rattle.runlog.specs.declared.Done.the-variants as done
-use Rattle.runlog.specs.Command.{jobBy, jobOf}
+use Rattle.runlog.specs.Command.{jobOf}
 use Rattle.runlog.specs.Telling.{logsOf}
-use Rattle.runlog.specs.Running.{Reads, AllTold, atStart, Ran, Does}
+use Rattle.runlog.specs.Running.{Reads, toldIn, AllTold, atStart, Ran, Does}
 use Rattle.runlog.specs.Outgoing.{outWith, outIn, outOf}
 use Rattle.runlog.specs.Joined.{Short, all-joined, logs-join, told-short, short-parts}
-
--- what is told of all portions
-unfoldable pub toldIn : {raw : Bool} {s s₁ : State} {o o₁ : List ℕ} {ps : List (List ℕ)} → Reads raw s o ps s₁ o₁ → List uncut.Told
-toldIn Reads.no-more = []
-toldIn (Reads.a-portion at told rest) = told .told ++ toldIn rest
 
 portion-then : {s s₁ s₂ : State} {p : List ℕ} {ps : List (List ℕ)} {ts us : List uncut.Told} → Feeds waits s (p ∷ []) ts s₁ → Feeds waits s₁ ps us s₂
     → Feeds waits s (p ∷ ps) (ts ++ us) s₂
@@ -92,18 +87,15 @@ module _ {raw : Bool} {books : Held} {bytes out bytes₂ live₂ run₂ out₂ :
       let j = told-joined (a .out₁) out₂ (a .closes .at′) us (a .closes .ends .says q) (omega arith) (s .1) in
       ap₂ (λ x y. x ++ y) (r .0) (j .0) ∙ sym (log-append ts us) ∙ prepared clear sound whole .1
 
--- So it is of the desk that the command line asks for, if there is one: a new desk for its solution, processor and constellation.
-pub record WritesLog (desk : Desk) (stop : Stop) : Type 0 where
-  pub ran : Ran desk true stop
-  pub is-log : outOf (ran .all-told) ≡ uncutLog (atStart desk .books) (flatten (ran .all-told .portions))
-
 ran-by : {desk : Desk} {raw : Bool} {d : Done} → Does (job.Run desk raw) d → (stop : Stop) × Ran desk raw stop × (d ≡ done.Ran stop)
 ran-by (Does.runs {stop = stop} r) = (stop, r, refl)
 
+-- So it is by the desk that the command line asks for, if there is one: a new one for its solution, processor and constellation.
 pub run-log : (solution processor constellation : ℕ) (desk : Desk) → newDesk solution processor constellation ≡ Made desk
-    → {d : Done} → Does (jobOf (Log solution processor constellation true)) d → (stop : Stop) × WritesLog desk stop × (d ≡ done.Ran stop)
+    → {d : Done} → Does (jobOf (Log solution processor constellation true)) d
+    → (stop : Stop) × (ran : Ran desk true stop) × (d ≡ done.Ran stop) × (outOf (ran .all-told) ≡ uncutLog (atStart desk .books) (flatten (ran .all-told .portions)))
 run-log solution processor constellation desk e does =
     let r = ran-by (rw e at does) in
     let room : bookBytes ≤ length (replicate {A = ℕ} bookBytes 0) = omega (arith, length-replicate {A = ℕ} bookBytes 0) in
     let sound = fresh-sound solution processor constellation desk e (replicate bookBytes 0) (replicate bookBytes 0) room room in
-    (r .0, record { ran = r .1; is-log = out-uncut (zeros-clear longestFrame (omega arith)) sound (r .1 .all-told) refl (r .1 .out-room) }, r .2)
+    (r .0, r .1, r .2, out-uncut (zeros-clear longestFrame (omega arith)) sound (r .1 .all-told) refl (r .1 .out-room))
