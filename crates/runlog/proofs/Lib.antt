@@ -1,4 +1,5 @@
 pub mod Telling
 pub mod Turns
+pub mod Reading
 pub mod Digits
 pub mod Wanting

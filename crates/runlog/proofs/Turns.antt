@@ -29,6 +29,7 @@ use Rattle.prepare.specs.Steps.{back, itself, Hears}
 use Rattle.prepare.specs.Stays.{sound-after}
 use Rattle.prepare.specs.Theorems as theorems
 use Rattle.runlog.specs.declared.hearing.Heard.{Heard}
+use Rattle.runlog.specs.declared.hearing.Turn.{Turn}
 use Rattle.runlog.specs.declared.command.Wanted.{Wanted}
 use Rattle.runlog.specs.declared.command.Wanted.the-variants.{Log, Nothing}
 use Rattle.runlog.specs.declared.Job.{Job}
@@ -213,7 +214,7 @@ first-turn bytes live run log out h = record { holds = h; same-bytes = refl; sam
 module _ (bytes₀ live₀ run₀ log₀ out₀ bytes live run log out bytes′ live′ run′ log′ out′ : List ℕ) (Held : Type 0)
     (t : Turning Held bytes₀ live₀ run₀ log₀ out₀ bytes live run log out) (b : length bytes′ ≡ length bytes) (l : length live′ ≡ length live)
     (r : length run′ ≡ length run) (g : length log′ ≡ length log) (o : length out′ ≡ length out) where
-  next-turn : {Holds : Type 0} → Holds → Turning Holds bytes₀ live₀ run₀ log₀ out₀ bytes′ live′ run′ log′ out′
+  pub next-turn : {Holds : Type 0} → Holds → Turning Holds bytes₀ live₀ run₀ log₀ out₀ bytes′ live′ run′ log′ out′
   next-turn h = record {
     holds = h;
     same-bytes = b ∙ t .same-bytes;
@@ -222,10 +223,6 @@ module _ (bytes₀ live₀ run₀ log₀ out₀ bytes live run log out bytes′ 
     same-log = g ∙ t .same-log;
     same-out = o ∙ t .same-out;
   }
-
-  pub after-read : (tray : Tray) (desk : Desk) → Prepared bytes′ tray desk live′ run′ log′
-      → Turning (Prepared bytes′ tray desk live′ run′ log′) bytes₀ live₀ run₀ log₀ out₀ bytes′ live′ run′ log′ out′
-  after-read tray desk p = next-turn p
 
 -- what holds of a portion: what is still to be told of it from here is what was to be told at its start
 pub record Heeding (raw : Bool) (start : State) (out₀ : List ℕ) (at₀ : ℕ) (portion bytes : List ℕ) (tray : Tray) (desk : Desk) (live run log out : List ℕ) (at used : ℕ) : Type 0 where
@@ -270,38 +267,32 @@ module _ (raw : Bool) (start : State) (at₀ : ℕ) (portion bytes₀ live₀ ru
           goes = λ s oo aa z. t .holds .goes s oo aa (o .nearer .goes (not-false (next .more) n) s oo aa z);
         })
 
-pub first-nearing : (raw : Bool) (bytes live run log out : List ℕ) (heard : Heard) → Prepared bytes (heard .tray) (heard .desk) live run log
-    → Nearing raw (stateOf bytes (heard .tray) (heard .desk) live run) out (heard .at) bytes (heard .tray) (heard .desk) live run log out (heard .at)
-first-nearing raw bytes live run log out heard p = record { prepared = p; goes = λ s o a z. z }
+-- ---- the start of a portion, and of the stream's end
 
--- ---- between two portions, and at the start
+module _ (raw : Bool) (bytes live run log out : List ℕ) (turn : Turn) (r : Heard) (e : r ≡ record { tray = turn .tray; desk = turn .desk; used = 0; at = 0; more = true }) where
+  started : Prepared bytes (turn .tray) (turn .desk) live run log → Prepared bytes (r .tray) (r .desk) live run log
+  started p = rw e p
 
-module _ (heard r : Heard) (at : ℕ) (more : Bool) (e : r ≡ record { tray = heard .tray; desk = heard .desk; used = 0; at = at; more = more }) where
-  pub turned-prepared : {bytes live run log : List ℕ} → Prepared bytes (heard .tray) (heard .desk) live run log → Prepared bytes (r .tray) (r .desk) live run log
-  turned-prepared p = rw e p
-
-  pub turned-hearing : {bytes live run log : List ℕ} (room : ℕ) → room < 2 ^ 64
-      → Prepared bytes (heard .tray) (heard .desk) live run log → Hearing bytes (r .tray) (r .desk) live run log (r .used) room
-  turned-hearing room w p = rw e (record { prepared = p; within = record { inside = omega arith; fits = w } })
-
--- the start of a portion
-module _ (raw : Bool) (bytes live run log portion out : List ℕ) (heard r : Heard) (more : Bool)
-    (e : r ≡ record { tray = heard .tray; desk = heard .desk; used = 0; at = heard .at; more = more }) where
-  pub first-heeding : length portion < 2 ^ 64 → Prepared bytes (heard .tray) (heard .desk) live run log
+  pub first-heeding : (portion : List ℕ) → length portion < 2 ^ 64 → Prepared bytes (turn .tray) (turn .desk) live run log
       → Heeding raw (stateOf bytes (r .tray) (r .desk) live run) out (r .at) portion bytes (r .tray) (r .desk) live run log out (r .at) (r .used)
-  first-heeding w p = record {
-    hearing = turned-hearing heard r (heard .at) more e (length portion) w p;
+  first-heeding portion w p = record {
+    hearing = record { prepared = started p; within = record { inside = rw e (omega arith); fits = w } };
     goes = λ s o a z.
         subst (λ (u : ℕ). Told raw (stateOf bytes (r .tray) (r .desk) live run) out (r .at) (drop u portion) s o a) (ap (λ h. h .used) e) z;
   }
 
-  pub from-start : (s : State) (o : List ℕ) (a : ℕ) → Told raw (stateOf bytes (r .tray) (r .desk) live run) out (r .at) portion s o a
-      → Told raw (stateOf bytes (heard .tray) (heard .desk) live run) out (heard .at) portion s o a
-  from-start s o a z = rw e at z
+  pub first-nearing : Prepared bytes (turn .tray) (turn .desk) live run log
+      → Nearing raw (stateOf bytes (r .tray) (r .desk) live run) out (r .at) bytes (r .tray) (r .desk) live run log out (r .at)
+  first-nearing p = record { prepared = started p; goes = λ s o a z. z }
 
-pub start-prepared : (bytes live run log : List ℕ) (desk : Desk) (r : Heard) → r ≡ record { tray = stream.freshTray; desk = desk; used = 0; at = 0; more = true }
-    → Prepared bytes stream.freshTray desk live run log → Prepared bytes (r .tray) (r .desk) live run log
-start-prepared bytes live run log desk r e p = rw e p
+module _ (raw : Bool) (bytes live run out : List ℕ) (turn : Turn) (r : Heard) (e : r ≡ record { tray = turn .tray; desk = turn .desk; used = 0; at = 0; more = true })
+    (s : State) (o : List ℕ) (a : ℕ) where
+  pub from-start : (portion : List ℕ) → Told raw (stateOf bytes (r .tray) (r .desk) live run) out (r .at) portion s o a
+      → Told raw (stateOf bytes (turn .tray) (turn .desk) live run) out 0 portion s o a
+  from-start portion z = rw e at z
+
+  pub end-from-start : Ended raw (stateOf bytes (r .tray) (r .desk) live run) out (r .at) s o a → Ended raw (stateOf bytes (turn .tray) (turn .desk) live run) out 0 s o a
+  end-from-start z = rw e at z
 
 -- ---- a new desk, with the buffers that the program lends
 

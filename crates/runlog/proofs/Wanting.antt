@@ -17,7 +17,7 @@ use Rattle.runlog.specs.declared.command.Wanted.{Wanted}
 use Rattle.runlog.specs.declared.command.Wanted.the-variants.{Log, Nothing}
 use Rattle.runlog.specs.declared.Job.{Job}
 use Rattle.runlog.specs.declared.Job.the-variants.{Run, Usage}
-use Rattle.runlog.specs.Command.{byteOf, isRaw, formOf, loggedIn, numbered, byNumbers, jobBy, jobOf}
+use Rattle.runlog.specs.Command.{byteOf, isRaw, formOf, loggedIn, wantedBy, jobBy, jobOf}
 
 -- the form
 module _ (count : ℕ) (word : List ℕ) where
@@ -49,17 +49,22 @@ module _ (f : Form) (solution processor constellation : ℕ) where
   pub logged-not : f ≡ form.Unknown → Nothing ≡ loggedIn f solution processor constellation
   logged-not e = rw e
 
--- a number, or nothing
-module _ (b : Byte) (word : List ℕ) (e : b ≡ byteOf word) (next : ℕ → Wanted) where
-  pub number-not : b ≡ Not → Nothing ≡ numbered (byteOf word) next
-  number-not q = rw (← e, q)
+-- three numbers and the form, or nothing
+module _ (count : ℕ) (first second third fourth : List ℕ) (a : Byte) (ea : a ≡ byteOf first) where
+  pub no-solution : a ≡ Not → Nothing ≡ wantedBy count first second third fourth
+  no-solution q = rw (← ea, q)
 
-  pub number-is : (n : ℕ) (r : Wanted) → b ≡ Is n → r ≡ next n → r ≡ numbered (byteOf word) next
-  number-is n r q p = rw (← e, q) p
+  module _ (solution : ℕ) (qa : a ≡ Is solution) (b : Byte) (eb : b ≡ byteOf second) where
+    pub no-processor : b ≡ Not → Nothing ≡ wantedBy count first second third fourth
+    no-processor q = rw (← ea, qa, ← eb, q)
 
-pub numbers-are : (f : Form) (count : ℕ) (fourth : List ℕ) (solution processor constellation : ℕ) (r : Wanted) → f ≡ formOf count fourth → r ≡ loggedIn f solution processor constellation
-    → r ≡ byNumbers solution processor constellation count fourth
-numbers-are f count fourth solution processor constellation r e p = rw (← e) p
+    module _ (processor : ℕ) (qb : b ≡ Is processor) (c : Byte) (ec : c ≡ byteOf third) where
+      pub no-constellation : c ≡ Not → Nothing ≡ wantedBy count first second third fourth
+      no-constellation q = rw (← ea, qa, ← eb, qb, ← ec, q)
+
+      pub all-numbers : (constellation : ℕ) → c ≡ Is constellation → (f : Form) → f ≡ formOf count fourth → (r : Wanted) → r ≡ loggedIn f solution processor constellation
+          → r ≡ wantedBy count first second third fourth
+      all-numbers constellation qc f ef r p = rw (← ea, qa, ← eb, qb, ← ec, qc, ← ef) p
 
 -- the desk
 module _ (made : NewDesk) (raw : Bool) where

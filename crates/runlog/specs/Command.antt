@@ -49,17 +49,12 @@ numbered (Is n) next = next n
 numbered Not next = Nothing
 
 -- what a command line of so many words asks for, by the four behind the program's name: SOLUTION PROCESSOR CONSTELLATION [raw]
-abbrev pub byNumbers : (solution processor constellation count : ℕ) (fourth : List ℕ) → Wanted
-byNumbers solution processor constellation count fourth = loggedIn (formOf count fourth) solution processor constellation
-
-abbrev pub byProcessor : (solution processor count : ℕ) (third fourth : List ℕ) → Wanted
-byProcessor solution processor count third fourth = numbered (byteOf third) (λ constellation. byNumbers solution processor constellation count fourth)
-
-abbrev pub bySolution : (solution count : ℕ) (second third fourth : List ℕ) → Wanted
-bySolution solution count second third fourth = numbered (byteOf second) (λ processor. byProcessor solution processor count third fourth)
-
 abbrev pub wantedBy : (count : ℕ) (first second third fourth : List ℕ) → Wanted
-wantedBy count first second third fourth = numbered (byteOf first) (λ solution. bySolution solution count second third fourth)
+wantedBy count first second third fourth =
+    numbered (byteOf first) (λ solution.
+    numbered (byteOf second) (λ processor.
+    numbered (byteOf third) (λ constellation.
+    loggedIn (formOf count fourth) solution processor constellation)))
 
 -- the desk that is wanted, in the form of its log; if there is none, the usage is said
 abbrev pub jobBy : NewDesk → (raw : Bool) → Job

@@ -17,8 +17,8 @@ use Rattle.prepare.specs.Driver.{State, Feeds, Closes}
 abbrev pub stateOf : (bytes : List ℕ) → Tray → Desk → (live run : List ℕ) → State
 stateOf bytes tray desk live run = record { bytes = bytes; tray = tray; books = booksIn desk live run }
 
--- entries, if there are any
-abbrev pub some : (entries : List ℕ) → List (List ℕ)
+-- bytes, if there are any: entries that are said, or a portion that came
+abbrev pub some : (bytes : List ℕ) → List (List ℕ)
 some [] = []
 some (x ∷ xs) = (x ∷ xs) ∷ []
 

@@ -1,6 +1,6 @@
 // The command line: SOLUTION PROCESSOR CONSTELLATION [raw].
 ghost use mathlib.Core.Path.{_≡_};
-ghost use Rattle.runlog.specs.Command.{byteOf, isRaw, formOf, loggedIn, byNumbers, byProcessor, bySolution, wantedBy};
+ghost use Rattle.runlog.specs.Command.{byteOf, isRaw, formOf, loggedIn, wantedBy};
 use libc::STDERR_FILENO;
 
 // What the command line asks for, in numbers that a desk may still refuse.
@@ -104,45 +104,25 @@ fn logged(solution: u8, processor: u8, constellation: u8, form: Form) -> Wanted
     }
 }
 
-// What is wanted once the three numbers are read.
-fn by_numbers(solution: u8, processor: u8, constellation: u8, count: usize, fourth: &[u8]) -> Wanted
-    ensures { λ r. ⌜ r ≡ byNumbers solution processor constellation count (now (fourth .entry)) ⌝ }
-{
-    let form = form_of(count, fourth);
-    logged(solution, processor, constellation, form)
-}
-
-// What is wanted once solution and processor are read, and the words behind them are these.
-fn by_processor(solution: u8, processor: u8, count: usize, third: &[u8], fourth: &[u8]) -> Wanted
-    ensures { λ r. ⌜ r ≡ byProcessor solution processor count (now (third .entry)) (now (fourth .entry)) ⌝ }
-{
-    match byte_of(third) {
-        Byte::Is(constellation) => by_numbers(solution, processor, constellation, count, fourth),
-        Byte::Not => Wanted::Nothing,
-    }
-}
-
-// What is wanted once the solution is read.
-fn by_solution(solution: u8, count: usize, second: &[u8], third: &[u8], fourth: &[u8]) -> Wanted
-    ensures { λ r. ⌜ r ≡ bySolution solution count (now (second .entry)) (now (third .entry)) (now (fourth .entry)) ⌝ }
-{
-    match byte_of(second) {
-        Byte::Is(processor) => by_processor(solution, processor, count, third, fourth),
-        Byte::Not => Wanted::Nothing,
-    }
-}
-
 // What a command line of so many words asks for, by the four behind the program's name.
 fn asked(count: usize, first: &[u8], second: &[u8], third: &[u8], fourth: &[u8]) -> Wanted
     ensures { λ r. ⌜ r ≡ wantedBy count (now (first .entry)) (now (second .entry)) (now (third .entry)) (now (fourth .entry)) ⌝ }
 {
+    let form = form_of(count, fourth);
     match byte_of(first) {
-        Byte::Is(solution) => by_solution(solution, count, second, third, fourth),
+        Byte::Is(solution) => match byte_of(second) {
+            Byte::Is(processor) => match byte_of(third) {
+                Byte::Is(constellation) => logged(solution, processor, constellation, form),
+                Byte::Not => Wanted::Nothing,
+            },
+            Byte::Not => Wanted::Nothing,
+        },
         Byte::Not => Wanted::Nothing,
     }
 }
 
-// Of a word that is longer than its buffer, `os::arg` hands out nothing.
+// Of a word that is longer than its buffer, `os::arg` hands out nothing. Which words it hands out is not promised, so there is nothing to say of them here; what is wanted
+// of words is `asked`'s.
 pub fn read_command() -> Wanted {
     let mut first = [0u8; 16];
     let mut second = [0u8; 16];

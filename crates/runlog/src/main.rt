@@ -7,15 +7,25 @@ ghost use mathlib.Core.Path.{_≡_};
 ghost use Rattle.stream.specs.Tray.{freshTray};
 ghost use Rattle.runlog.specs.Command.{jobBy, jobOf};
 ghost use Rattle.runlog.specs.Events.{Prepared, IsNew};
+ghost use Rattle.runlog.specs.Telling.{stateOf};
+ghost use Rattle.runlog.specs.Running.{AllTold, Ran, Does};
 use command::Wanted;
 use desk::Desk;
 use desk::NewDesk;
-use hearing::hear_end;
+use hearing::Stop;
+use hearing::first_turn;
 use hearing::hear_some;
+use hearing::tell_end;
 
 // What there is to do: a desk runs, its log in words or raw, or the usage is said.
 enum Job {
     Run { desk: Desk, raw: bool },
+    Usage,
+}
+
+// What was done: a desk ran until there was no further read, or the usage was said.
+enum Done {
+    Ran(Stop),
     Usage,
 }
 
@@ -29,22 +39,28 @@ fn prepare_all(
     input: &mut [u8],
     raw: bool,
     out: &mut [u8],
-)
+) -> Stop
     requires { ⌜ Prepared (now bytes) freshTray desk (now live) (now run) (now log) ⌝ }
+    ensures { λ r. ⌜ AllTold raw (stateOf (now (bytes .entry)) freshTray desk (now (live .entry)) (now (run .entry))) (now (out .entry)) (now (bytes .exit)) (now (live .exit)) (now (run .exit)) (now (out .exit)) r ⌝ }
 {
-    let mut heard = hearing::start(desk);
+    let mut turn = first_turn(desk);
     let mut turns = u64::MAX;
-    while turns > 0 && heard.more {
-        heard = hear_some(bytes, live, run, log, heard, input, raw, out);
+    loop {
+        if turns == 0 {
+            return tell_end(bytes, live, run, log, turn, turns, raw, out);
+        }
+        if !turn.more {
+            return tell_end(bytes, live, run, log, turn, turns, raw, out);
+        }
+        turn = hear_some(bytes, live, run, log, turn, input, raw, out);
         turns -= 1;
     }
-    let ended = hear_end(bytes, live, run, log, heard, raw, out);
-    text::flush(out, ended.at);
 }
 
 // Lends a new desk its buffers.
-fn run_desk(desk: Desk, raw: bool)
+fn run_desk(desk: Desk, raw: bool) -> Stop
     requires { ⌜ IsNew desk ⌝ }
+    ensures { λ r. ⌜ Ran desk raw r ⌝ }
 {
     let mut bytes = [0u8; sizes::LONGEST_FRAME];
     let mut live = [0u8; sizes::BOOK_BYTES];
@@ -61,7 +77,7 @@ fn run_desk(desk: Desk, raw: bool)
         &mut input,
         raw,
         &mut out,
-    );
+    )
 }
 
 fn desk_by(made: NewDesk, raw: bool) -> Job
@@ -91,10 +107,16 @@ fn desk_for(wanted: Wanted) -> Job
     }
 }
 
-fn run_wanted(wanted: Wanted) {
+// Does what is wanted.
+fn run_wanted(wanted: Wanted) -> Done
+    ensures { λ r. ⌜ Does (jobOf wanted) r ⌝ }
+{
     match desk_for(wanted) {
-        Job::Run { desk, raw } => run_desk(desk, raw),
-        Job::Usage => command::say_usage(),
+        Job::Run { desk, raw } => Done::Ran(run_desk(desk, raw)),
+        Job::Usage => {
+            command::say_usage();
+            Done::Usage
+        }
     }
 }
 

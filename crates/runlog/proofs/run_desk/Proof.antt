@@ -1,5 +1,6 @@
--- A new desk with the buffers that it is lent here is prepared.
+-- A new desk with the buffers that it is lent here is prepared, and they are zeros.
 use Rattle.runlog.proofs.Turns.{new-prepared}
+use Rattle.runlog.proofs.Reading.{ran-is}
 use borrow.Author.Needs.{needs}
 use Rattle.runlog.proofs.run_desk.Statement.{statement}
 use Rattle.runlog.proofs.run_desk.Tie as tie
@@ -35,7 +36,7 @@ prepare-all-requires : tie.Need-prepare-all-requires
 prepare-all-requires c κs = search (new-prepared, needs)
 
 returns : tie.Need-returns
-returns c = search needs
+returns c = search (ran-is, needs)
 
 pub run-desk-spec : {M : Type 1} → statement M
 run-desk-spec =

@@ -1,5 +1,6 @@
--- The desk is one that was made.
+-- The desk is one that was made, and it runs.
 use Rattle.runlog.proofs.Turns.{is-new}
+use Rattle.runlog.proofs.Reading.{does-run, does-usage}
 use borrow.Author.Needs.{needs}
 use Rattle.runlog.proofs.run_wanted.Statement.{statement}
 use Rattle.runlog.proofs.run_wanted.Tie as tie
@@ -20,10 +21,10 @@ say-usage-requires : tie.Need-say-usage-requires
 say-usage-requires c κs = search needs
 
 returns : tie.Need-returns
-returns c = search needs
+returns c = search (does-run, needs)
 
 returns-2 : tie.Need-returns-2
-returns-2 c = search needs
+returns-2 c = search (does-usage, needs)
 
 pub run-wanted-spec : {M : Type 1} → statement M
 run-wanted-spec =

@@ -16,8 +16,8 @@ Inv-loop bytes₀ live₀ run₀ log₀ portion raw out₀ next₀ bytes live ru
 abbrev μ-loop : tie.MeasureT-loop
 μ-loop bytes₀ live₀ run₀ log₀ portion raw out₀ next₀ bytes live run log out next = toTell bytes (next .tray) (next .used) portion
 
-turned-requires : tie.Need-turned-requires Inv-loop μ-loop
-turned-requires c κs = search needs
+start-requires : tie.Need-start-requires Inv-loop μ-loop
+start-requires c κs = search needs
 
 loop-holds : tie.Need-loop-holds Inv-loop μ-loop
 loop-holds c = search (first-turn, first-heeding, needs)
@@ -55,7 +55,7 @@ hear-spec =
     (tie.spec
     Inv-loop
     μ-loop
-    turned-requires
+    start-requires
     loop-holds
     hear-one-requires
     same-length
