@@ -20,24 +20,34 @@ use Rattle.book.specs.Laws.{head-parts, sound-head, length-areas, small-at, are
 use Rattle.book.proofs.Reading.{number-there, sound-count, sound-image}
 use Rattle.book.specs.Judge.{Image}
 use Rattle.book.specs.declared.Book.{Book}
-use Rattle.groups.specs.Groups.{groupsOf, groupsOfAll}
+use Rattle.groups.specs.Groups.{groupsOf, groupsOfAll, bytesPut, putInto}
 use Rattle.groups.proofs.Behind.{room-behind, lay-behind, lay-on, lay-to}
-use Rattle.groups.specs.Laws.{groups-all-append, length-le, length-last}
+use Rattle.groups.specs.Laws.{groups-all-append, length-le, length-last, put-some, left-some}
 use Rattle.kept.specs.Walk.{headBytes}
 use Rattle.kept.specs.Kept.{form, keptOf, keptBytes, written, outAfter}
 use Rattle.kept.specs.declared.Written.the-variants.{Bytes, Refused}
 
 -- a number put behind at bytes
 module _ (x at : ℕ) (out : List ℕ) (h : at + length (groupsOf x) ≤ length out) where
-  pub number-room : length (groupsOf x) ≤ length (take (length out - at) (drop at out))
+  number-room : length (groupsOf x) ≤ length (take (length out - at) (drop at out))
   number-room = room-behind at out (groupsOf x) h
 
-  pub number-laid : (part : List ℕ) (r : ℕ) → r ≡ length (groupsOf x)
-      → part ≡ groupsOf x ++ drop (length (groupsOf x)) (take (length out - at) (drop at out))
-      → take at out ++ (part ++ drop (length out - at) (drop at out)) ≡ take at out ++ (groupsOf x ++ drop (at + r) out)
-  number-laid part r er ep =
-      lay-behind at r out (groupsOf x) part h er
-      (ep ∙ ap (λ k. groupsOf x ++ drop k (take (length out - at) (drop at out))) (sym er))
+  module _ (r : ℕ) (put : r ≡ bytesPut (groupsOf x) (take (length out - at) (drop at out))) where
+    count : r ≡ length (groupsOf x)
+    count = put ∙ put-some (groupsOf x) (take (length out - at) (drop at out)) number-room
+
+    pub number-fits : length out < 2 ^ 64 → at + r < 2 ^ 64
+    number-fits k = omega (arith, count)
+
+    pub number-ends : at + r ≡ at + length (groupsOf x)
+    number-ends = omega (arith, count)
+
+    pub number-laid : (part : List ℕ) → part ≡ putInto (groupsOf x) (take (length out - at) (drop at out))
+        → take at out ++ (part ++ drop (length out - at) (drop at out)) ≡ take at out ++ (groupsOf x ++ drop (at + r) out)
+    number-laid part ep =
+        lay-behind at r out (groupsOf x) part h count
+        (ep ∙ left-some (groupsOf x) (take (length out - at) (drop at out)) number-room
+        ∙ ap (λ k. groupsOf x ++ drop k (take (length out - at) (drop at out))) (sym count))
 
 -- the areas before the i-th are laid behind at bytes
 pub record Laying (out₀ l : List ℕ) (at n i e : ℕ) (out : List ℕ) : Type 0 where

@@ -1,5 +1,5 @@
 -- `put_number`: the groups are put into the part that starts there.
-use Rattle.kept.proofs.Putting.{number-room, number-laid}
+use Rattle.kept.proofs.Putting.{number-fits, number-ends, number-laid}
 use borrow.Author.Needs.{needs}
 use Rattle.kept.proofs.put_number.Statement.{statement}
 use Rattle.kept.proofs.put_number.Tie as tie
@@ -14,16 +14,16 @@ part-put-groups-end : tie.Need-part-put-groups-end
 part-put-groups-end c = search needs
 
 put-groups-requires : tie.Need-put-groups-requires
-put-groups-requires c κs = search (number-room, needs)
+put-groups-requires c κs = search needs
 
 add-result : tie.Need-add-result
-add-result c = search needs
+add-result c = record { fits = search (number-fits, needs) }
 
 same-length : tie.Need-same-length
 same-length c = search needs
 
 returns : tie.Need-returns
-returns c = (search needs, search (number-laid, needs))
+returns c = (search (number-ends, needs), search (number-laid, needs))
 
 pub put-number-spec : {M : Type 1} → statement M
 put-number-spec =
