@@ -1,11 +1,12 @@
 -- Laws: the bits of a cell, and a word of cells taken apart.
 use mathlib.Core.Path.{_≡_, refl, ap, sym, _∙_}
 use mathlib.Core.Bool.{Bool, true, false}
-use mathlib.Core.List.{List, [], _∷_}
+use mathlib.Core.List.{List, [], _∷_, _++_}
 use Prim.Native.Nat.{ℕ, zero, suc, _/_, _%_, _≤_, _<_}
 use native.Mathlib.Omega.{arith}
 use borrow.Author.Tests.{eq-eqb, ne-eqb, eqb-false}
 use lib.Dec.{eqb}
+use lib.ListN.{length}
 use Rattle.layout.specs.declared.Field.{Field}
 use Rattle.layout.specs.Layout.{pick}
 use Rattle.layout.specs.Parts.{free}
@@ -52,3 +53,6 @@ pub cells-more : (w : ℕ) → (w ≡ 0 → ⊥) → cellsIn w ≡ w % 256 ∷ c
 unfolding cells cellsIn
 cells-more zero h = absurd (h refl)
 cells-more (suc v) h = rw (ne-eqb (suc v) 0 h) (ap (λ l. suc v % 256 ∷ l) (cells-same v (suc v / 256) (suc v / 256) (omega arith) (omega arith)))
+
+pub cells-some : (w : ℕ) (cs : List ℕ) → (w ≡ 0 → ⊥) → 0 < length (cellsIn w ++ cs)
+cells-some w cs h = rw (cells-more w h) (omega arith)

@@ -1,32 +1,27 @@
--- Laws: a row written by its cells, one after the other, and what a machine that goes along the row comes to.
+-- Laws: a row written by its cells, and that it comes to what the machine's steps come to by the layout.
 use mathlib.Core.Path.{_≡_, refl, ap, ap₂, sym, _∙_, subst}
-use mathlib.Core.Bool.{Bool, true, false}
-use mathlib.Core.List.{List, [], _∷_, _++_, append-assoc}
-use Prim.Native.Nat.{ℕ, _+_, _*_, _/_, _%_, _^_, _≤_, _<_}
+use mathlib.Core.Bool.{Bool, true, false, cond}
+use mathlib.Core.List.{List, _++_, append-assoc}
+use Prim.Native.Nat.{ℕ, suc, _+_, _*_, _^_, _≤_, _<_}
 use native.Mathlib.Omega.{arith}
-use borrow.Author.Tests.{lt-ltb, le-ltb, ltb-true, ltb-false}
-use lib.Dec.{ltb}
+use borrow.Author.Tests.{le-leb, leb-true, ltb-true, ltb-false}
+use lib.Dec.{leb, ltb}
 use lib.ListN.{length, take, drop, getD}
-use lib.Seq.{sets, sets-eq}
+use lib.Seq.{sets, sets-eq, length-sets}
 use Rattle.sizes.specs.Sizes.{sheetRoom}
-use Rattle.answer.specs.declared.Refusal.{Refusal}
-use Rattle.answer.specs.declared.Refusal.the-variants as refusal
-use Rattle.bits.specs.Bits.{toBits, bitsOf, leaves}
-use Rattle.bits.specs.Laws.{leaves-there, length-toBits, length-bitsOf}
+use Rattle.bits.specs.Bits.{toBits, bitsOf, putTo, leaves}
+use Rattle.bits.specs.Laws.{length-toBits, length-bitsOf}
 use Rattle.layout.specs.declared.Field.{Field}
 use Rattle.layout.specs.declared.Verdict.{Verdict}
 use Rattle.layout.specs.declared.Verdict.the-variants.{Taken, Fault}
 use Rattle.layout.specs.Layout.{Layout, pick, judge}
-use Rattle.layout.specs.Run.{Ended, On}
-use Rattle.layout.specs.Run as ended
+use Rattle.layout.specs.Run.{Ended}
 use Rattle.layout.specs.Put.{putL, put-short, put-fault, put-on}
 use Rattle.layout.specs.Walks.{Walks}
-use Rattle.rows.specs.Rows.{widthIn, fieldIn, cellsIn}
-use Rattle.rows.specs.Cells.{cell-bits, cells-none, cells-more}
-use Rattle.rows.specs.Along.{In, Along, stays, decides, passes, width-is, judge-is}
-use Rattle.rows.specs.Runs.{Went, to, stopped, judgedW, then, then-pick}
-use Rattle.rows.specs.declared.Ran.{Ran}
-use Rattle.rows.specs.declared.Ran.the-variants.{To, Stopped}
+use Rattle.rows.specs.Rows.{widthIn, fieldIn}
+use Rattle.rows.specs.Cells.{cell-bits}
+use Rattle.rows.specs.Along.{In, width-is, judge-is}
+use Rattle.rows.specs.Walk.{Way, walk, Comes, walk-comes, Turned, short, fault, taken, Turns}
 
 -- ---- the count of bits
 
@@ -60,145 +55,119 @@ counted-on {count} {bits} width count' c e = go (ltb sheetRoom count) (ltb sheet
 
 -- ---- the bits so far
 
+-- the bits of a code stand in others from a position on, where all of them have room; else nothing changes
+abbrev pub putIn : List ℕ → (pos width code : ℕ) → List ℕ
+putIn bits pos width code = pick (leb (pos + width) (length bits)) (sets bits pos (bitsOf width code)) bits
+
+-- it is what `bits::put` leaves
+pub leaves-bits : (out : List ℕ) (pos w code : ℕ) → w ≤ 64 → leaves out pos w code ≡ putIn (toBits out) pos w code
+leaves-bits out pos w code h = rw (le-leb w 64 h, length-toBits out) (go (leb (pos + w) (8 * length out)) refl)
+  where
+    go : (b : Bool) → leb (pos + w) (8 * length out) ≡ b
+        → cond b (putTo (toBits out) pos w code) (toBits out) ≡ pick b (sets (toBits out) pos (bitsOf w code)) (toBits out)
+    go true e =
+        let k = leb-true (pos + w) (8 * length out) e in
+        let i : length (bitsOf w code) ≡ w = length-bitsOf w code in
+        ap (λ (x : ℕ). take pos (toBits out) ++ (bitsOf w code ++ drop (pos + x) (toBits out))) (sym i)
+        ∙ sym (append-assoc (take pos (toBits out)) (bitsOf w code) (drop (pos + length (bitsOf w code)) (toBits out)))
+        ∙ sym (sets-eq (bitsOf w code) (toBits out) pos (omega (arith, length-toBits out)))
+    go false e = refl
+
+put-length : (bits : List ℕ) (pos w code : ℕ) → length (putIn bits pos w code) ≡ length bits
+put-length bits pos w code = go (leb (pos + w) (length bits))
+  where
+    go : (b : Bool) → length (pick b (sets bits pos (bitsOf w code)) bits) ≡ length bits
+    go true = length-sets bits pos (bitsOf w code)
+    go false = refl
+
 -- So many bits, and those that stand in `out` by a store that goes on past its end; where all fit, they do stand there.
 pub record Kept (place : ℕ) (bits : List ℕ) (pos : ℕ) (out : List ℕ) : Type 0 where
   pub count : Counted pos place
-  pub stored : place ≤ sheetRoom → place ≤ 8 * length out → toBits out ≡ bits
+  pub stored : place ≤ sheetRoom → place ≤ length out → out ≡ bits
 
-pub kept-first : (out : List ℕ) → Kept 0 (toBits out) 0 out
+pub kept-first : (out : List ℕ) → Kept 0 out 0 out
 kept-first out = record { count = record { exact = λ h. refl; over = λ h. h }; stored = λ h k. refl }
 
-store-on : (out out' bits : List ℕ) (w code place pos : ℕ) → w ≤ 64 → toBits out' ≡ leaves out pos w code → pos ≡ place → toBits out ≡ bits
-    → place + w ≤ 8 * length out → toBits out' ≡ sets bits place (bitsOf w code)
-store-on out out' bits w code place pos m put p b k =
-    let n : length (toBits out) ≡ 8 * length out = length-toBits out in
-    let i : length (bitsOf w code) ≡ w = length-bitsOf w code in
-    put ∙ leaves-there out pos w code m (omega arith)
-    ∙ ap₂ (λ (x : ℕ) y. take x y ++ (bitsOf w code ++ drop (x + w) y)) p b
-    ∙ ap (λ (x : ℕ). take place bits ++ (bitsOf w code ++ drop (place + x) bits)) (sym i)
-    ∙ sym (append-assoc (take place bits) (bitsOf w code) (drop (place + length (bitsOf w code)) bits))
-    ∙ sym (sets-eq (bitsOf w code) bits place (omega (arith, ap length b)))
-
 -- the bits of one more code
-pub kept-on : {place : ℕ} {bits : List ℕ} {pos : ℕ} {out : List ℕ} (w code pos' : ℕ) (out' : List ℕ) → w ≤ 64 → length out' ≡ length out
-    → toBits out' ≡ leaves out pos w code → pos' ≡ onward pos w → Kept place bits pos out → Kept (place + w) (sets bits place (bitsOf w code)) pos' out'
-kept-on {place} {bits} {pos} {out} w code pos' out' m same put moved k =
+pub kept-on : {place : ℕ} {bits : List ℕ} {pos : ℕ} {out : List ℕ} (w code : ℕ) → Kept place bits pos out
+    → Kept (place + w) (sets bits place (bitsOf w code)) (onward pos w) (putIn out pos w code)
+kept-on {place} {bits} {pos} {out} w code k =
     record {
-      count = counted-on w pos' (k .count) moved;
-      stored = λ a b. store-on out out' bits w code place pos m put (k .count .exact (omega arith)) (k .stored (omega arith) (omega arith)) (omega arith);
+      count = counted-on w (onward pos w) (k .count) refl;
+      stored = λ a b. let p : pos ≡ place = k .count .exact (omega arith) in
+          let r : place + w ≤ length out = omega (arith, put-length out pos w code) in
+          rw (le-leb (pos + w) (length out) (omega arith)) (ap₂ (λ (x : ℕ) y. sets y x (bitsOf w code)) p (k .stored (omega arith) (omega arith)));
     }
 
 -- ---- cells written one after the other
 
-unfoldable pub puts : List ℕ → (sheet : List ℕ) (place at last : ℕ) (bits : List ℕ) → Went
-puts [] sheet place at last bits = to place at last bits
-puts (cell ∷ cs) sheet place at last bits =
-    let c : ℕ = getD sheet at 0 in
-    pick (ltb at (length sheet))
-    (judgedW (judge (fieldIn cell) c) (puts cs sheet (place + widthIn cell) (at + 1) c (sets bits place (bitsOf (widthIn cell) c))))
-    (stopped refusal.Short)
+-- the entries of a sheet come into bits
+abbrev pub writing : List ℕ → Way
+writing sheet =
+    record {
+      there = λ pos at width. ltb at (length sheet);
+      code = λ pos at width. getD sheet at 0;
+      behind = onward;
+      stored = λ pos at width code bits. putIn bits pos width code;
+    }
 
--- what the code's answer says, with the bytes that it left
-pub data PutBy : Went → Ran → List ℕ → Type 0 where
-  onTo : {place at last : ℕ} {bits : List ℕ} {pos : ℕ} {out : List ℕ} → Kept place bits pos out → PutBy (to place at last bits) (To pos at last) out
-  halted : {why : Refusal} {out : List ℕ} → PutBy (stopped why) (Stopped why) out
+-- Where a writing is, with so many cells left: within the sheet, an entry behind for each cell.
+pub record Wrote (sheet cs : List ℕ) (at left p a : ℕ) : Type 0 where
+  pub inside : a ≤ length sheet
+  pub small : p < 2 ^ 33
+  pub count : a + left ≡ at + length cs
 
--- where the answer says that it came to; a word that has cells takes it further
-pub data Taken-in (sheet : List ℕ) (word at : ℕ) : Ran → Type 0 where
-  inside : {p a l : ℕ} → at ≤ a → a ≤ length sheet → p < 2 ^ 33 → ((word ≡ 0 → ⊥) → at < a) → Taken-in sheet word at (To p a l)
-  nowhere : {why : Refusal} → Taken-in sheet word at (Stopped why)
+onward-small : (p w : ℕ) → p < 2 ^ 33 → w ≤ 16 → onward p w < 2 ^ 33
+onward-small p w h k = go (ltb sheetRoom p) refl
+  where
+    go : (b : Bool) → ltb sheetRoom p ≡ b → pick b p (p + w) < 2 ^ 33
+    go true e = h
+    go false e = let i = ltb-false sheetRoom p e in omega arith
 
-pub record CellsPut (sheet out cs : List ℕ) (word pos at last : ℕ) (r : Ran) (out' : List ℕ) : Type 0 where
-  pub put : (place : ℕ) (bits : List ℕ) → Kept place bits pos out → PutBy (puts cs sheet place at last bits) r out'
-  pub within : Taken-in sheet word at r
+pub writing-comes : (sheet cs : List ℕ) (pos at last : ℕ) (bits : List ℕ) → at ≤ length sheet → pos < 2 ^ 33
+    → Comes (Wrote sheet cs at 0) (walk (writing sheet) cs pos at last bits)
+writing-comes sheet cs pos at last bits h k =
+    walk-comes (writing sheet) (Wrote sheet cs at) step cs pos at last bits (record { inside = h; small = k; count = refl })
+  where
+    step : (left p a cell : ℕ) → Wrote sheet cs at (suc left) p a → ltb a (length sheet) ≡ true → Wrote sheet cs at left (onward p (widthIn cell)) (a + 1)
+    step left p a cell r e =
+        let i = ltb-true a (length sheet) e in
+        record { inside = omega arith; small = onward-small p (widthIn cell) (r .small) (cell-bits cell .1); count = omega (arith, r .count) }
 
--- ---- the first cell of a word
+-- the layout's run from a place of a writing, by the bits that stand there
+pub record Writes {A : Type 0} (sheet : List ℕ) (pos at : ℕ) (out : List ℕ) (l : Layout A) (here : Ended) : Type 0 where
+  pub place : ℕ
+  pub bits : List ℕ
+  pub kept : Kept place bits pos out
+  pub inside : at ≤ length sheet
+  pub same : here ≡ putL l (drop at sheet) place at bits
 
-pub puts-none : (sheet : List ℕ) {word : ℕ} (place at last : ℕ) (bits : List ℕ) → word ≡ 0 → puts (cellsIn word) sheet place at last bits ≡ to place at last bits
-unfolding puts
-puts-none sheet {word} place at last bits z = rw (cells-none word z)
-
-module _ (sheet : List ℕ) (word place at last : ℕ) (bits : List ℕ) (some : word ≡ 0 → ⊥) where
-  pub puts-short : length sheet ≤ at → puts (cellsIn word) sheet place at last bits ≡ stopped refusal.Short
-  unfolding puts
-  puts-short h = rw (cells-more word some, le-ltb at (length sheet) h)
-
-  pub puts-fault : (why : Refusal) → at < length sheet → judge (fieldIn (word % 256)) (getD sheet at 0) ≡ Fault why
-      → puts (cellsIn word) sheet place at last bits ≡ stopped why
-  unfolding puts
-  puts-fault why h j = rw (cells-more word some, lt-ltb at (length sheet) h, j)
-
-  pub puts-more : at < length sheet → judge (fieldIn (word % 256)) (getD sheet at 0) ≡ Taken
-      → puts (cellsIn word) sheet place at last bits
-      ≡ puts (cellsIn (word / 256)) sheet (place + widthIn (word % 256)) (at + 1) (getD sheet at 0)
-      (sets bits place (bitsOf (widthIn (word % 256)) (getD sheet at 0)))
-  unfolding puts
-  puts-more h j = rw (cells-more word some, lt-ltb at (length sheet) h, j)
-
--- ---- some cells, then others
-
-pub puts-append : (cs ds sheet : List ℕ) (place at last : ℕ) (bits : List ℕ)
-    → puts (cs ++ ds) sheet place at last bits ≡ then (puts cs sheet place at last bits) (λ p a l b. puts ds sheet p a l b)
-unfolding puts
-puts-append [] ds sheet place at last bits = refl
-puts-append (cell ∷ cs) ds sheet place at last bits =
-    let c : ℕ = getD sheet at 0 in
-    let more : List ℕ = sets bits place (bitsOf (widthIn cell) c) in
-    ap (λ x. pick (ltb at (length sheet)) (judgedW (judge (fieldIn cell) c) x) (stopped refusal.Short))
-    (puts-append cs ds sheet (place + widthIn cell) (at + 1) c more)
-    ∙ then-pick (ltb at (length sheet)) (judge (fieldIn cell) c) (puts cs sheet (place + widthIn cell) (at + 1) c more) refusal.Short
-    (λ p a l b. puts ds sheet p a l b)
-
--- ---- a machine that goes along the row
-
-module _ {S : Type 0} (A : Type 0) (fieldOf : S → Field) (stepOf : S → ℕ → S) (sheet : List ℕ) where
-  -- a writing by the layout comes to what the row's came to, and goes on from there
-  pub data FollowsPut (here : Ended) (after : ℕ → S) : Went → Type 1 where
-    goesOn : {place at last : ℕ} {bits : List ℕ} → On fieldOf stepOf (after last) here (λ (next : Layout A). putL next (drop at sheet) place at bits)
-        → at ≤ length sheet → FollowsPut here after (to place at last bits)
-    halts : {why : Refusal} → here ≡ ended.stopped why → FollowsPut here after (stopped why)
-
-  -- one cell, at a state that walks what is left
-  cell-puts : (cell place at : ℕ) (bits : List ℕ) {s : S} {l : Layout A} {after : ℕ → S} (rest : Went) → at ≤ length sheet → Walks fieldOf stepOf s l
-      → In (fieldOf s) cell
-      → ((next : Layout A) → at + 1 ≤ length sheet → Walks fieldOf stepOf (stepOf s (getD sheet at 0)) next
-      → FollowsPut (putL next (drop (at + 1) sheet) (place + widthIn cell) (at + 1) (sets bits place (bitsOf (widthIn cell) (getD sheet at 0)))) after rest)
-      → FollowsPut (putL l (drop at sheet) place at bits) after
-      (pick (ltb at (length sheet)) (judgedW (judge (fieldIn cell) (getD sheet at 0)) rest) (stopped refusal.Short))
-  cell-puts cell place at bits {s} {l} {after} rest h walks e go-on = go (ltb at (length sheet)) (judge (fieldIn cell) (getD sheet at 0)) refl refl
-    where
-      go : (b : Bool) (v : Verdict) → ltb at (length sheet) ≡ b → judge (fieldIn cell) (getD sheet at 0) ≡ v
-          → FollowsPut (putL l (drop at sheet) place at bits) after (pick b (judgedW v rest) (stopped refusal.Short))
-      go false v p q =
-          let d : fieldOf s .width ≡ widthIn cell = width-is e in
-          let z : 0 < widthIn cell = cell-bits cell .0 in
-          let k = ltb-false at (length sheet) p in
-          halts (put-short sheet place at bits walks (omega arith) (omega arith))
-      go true (Fault why) p q =
-          let d : fieldOf s .width ≡ widthIn cell = width-is e in
-          let z : 0 < widthIn cell = cell-bits cell .0 in
-          let k = ltb-true at (length sheet) p in
-          halts (put-fault sheet place at bits (getD sheet at 0) why walks (omega arith) k refl (judge-is (getD sheet at 0) e ∙ q))
-      go true Taken p q =
-          let d : fieldOf s .width ≡ widthIn cell = width-is e in
-          let z : 0 < widthIn cell = cell-bits cell .0 in
-          let k = ltb-true at (length sheet) p in
-          let on = put-on sheet place at bits (getD sheet at 0) walks (omega arith) k refl (judge-is (getD sheet at 0) e ∙ q) in
-          let same : putL l (drop at sheet) place at bits
-          ≡ putL (on .left) (drop (at + 1) sheet) (place + widthIn cell) (at + 1) (sets bits place (bitsOf (widthIn cell) (getD sheet at 0)))
-          = on .same ∙ ap (λ (x : ℕ). putL (on .left) (drop (at + 1) sheet) (place + x) (at + 1) (sets bits place (bitsOf x (getD sheet at 0)))) d in
-          subst (λ x. FollowsPut x after rest) (sym same) (go-on (on .left) (omega arith) (on .walks))
-
-  pub along-puts : (cs : List ℕ) (place at last : ℕ) (bits : List ℕ) {s : S} {l : Layout A} {after : ℕ → S} → at ≤ length sheet → Walks fieldOf stepOf s l
-      → Along fieldOf stepOf s cs after → FollowsPut (putL l (drop at sheet) place at bits) after (puts cs sheet place at last bits)
-  unfolding puts
-  along-puts cs place at last bits {s} {l} {after} h walks (stays e) =
-      goesOn (record { left = l; walks = subst (λ x. Walks fieldOf stepOf x l) (e last) walks; same = refl }) h
-  along-puts cs place at last bits {s} {l} {after} h walks (decides {cell} e k) =
-      let c : ℕ = getD sheet at 0 in
-      cell-puts cell place at bits (to (place + widthIn cell) (at + 1) c (sets bits place (bitsOf (widthIn cell) c))) h walks e
-      (λ next i w. goesOn (record { left = next; walks = subst (λ x. Walks fieldOf stepOf x next) (k c) w; same = refl }) i)
-  along-puts cs place at last bits {s} {l} {after} h walks (passes {cell} {cs = ds} e k) =
-      let c : ℕ = getD sheet at 0 in
-      cell-puts cell place at bits (puts ds sheet (place + widthIn cell) (at + 1) c (sets bits place (bitsOf (widthIn cell) c))) h walks e
-      (λ next i w. along-puts ds (place + widthIn cell) (at + 1) c (sets bits place (bitsOf (widthIn cell) c)) i w (k c))
+pub writing-turns : {S A : Type 0} {fieldOf : S → Field} {stepOf : S → ℕ → S} (sheet : List ℕ) → Turns {A = A} fieldOf stepOf (writing sheet) (Writes sheet)
+writing-turns {A} {fieldOf} {stepOf} sheet cell pos at out s l here run walks e = go (getD sheet at 0) refl (ltb at (length sheet)) _ refl refl
+  where
+    go : (c : ℕ) → c ≡ getD sheet at 0 → (b : Bool) (v : Verdict) → ltb at (length sheet) ≡ b → judge (fieldIn cell) c ≡ v
+        → Turned {A = A} fieldOf stepOf (writing sheet) (Writes sheet) here (stepOf s c) (onward pos (widthIn cell)) (at + 1) (putIn out pos (widthIn cell) c) b v
+    go c n false v p q =
+        let d : fieldOf s .width ≡ widthIn cell = width-is e in
+        let z : 0 < widthIn cell = cell-bits cell .0 in
+        let k = ltb-false at (length sheet) p in
+        short (run .same ∙ put-short sheet (run .place) at (run .bits) walks (omega arith) (omega (arith, run .inside)))
+    go c n true (Fault why) p q =
+        let d : fieldOf s .width ≡ widthIn cell = width-is e in
+        let z : 0 < widthIn cell = cell-bits cell .0 in
+        let k = ltb-true at (length sheet) p in
+        fault (run .same ∙ put-fault sheet (run .place) at (run .bits) c why walks (omega arith) k n (judge-is c e ∙ q))
+    go c n true Taken p q =
+        let d : fieldOf s .width ≡ widthIn cell = width-is e in
+        let z : 0 < widthIn cell = cell-bits cell .0 in
+        let k = ltb-true at (length sheet) p in
+        let on = put-on sheet (run .place) at (run .bits) c walks (omega arith) k n (judge-is c e ∙ q) in
+        taken (on .walks)
+        (record {
+          place = run .place + widthIn cell;
+          bits = sets (run .bits) (run .place) (bitsOf (widthIn cell) c);
+          kept = kept-on (widthIn cell) c (run .kept);
+          inside = omega arith;
+          same = run .same ∙ on .same
+              ∙ ap (λ (x : ℕ). putL (on .left) (drop (at + 1) sheet) (run .place + x) (at + 1) (sets (run .bits) (run .place) (bitsOf x c))) d;
+        })

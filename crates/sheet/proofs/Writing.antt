@@ -21,7 +21,7 @@ use Rattle.layout.specs.Layout.{Layout, pick, judge, Written, written, unwritte
 use Rattle.layout.specs.Run.{finished, stopped, On}
 use Rattle.layout.specs.Put.{putL, endedW, put-writes, put-done, put-over, put-short, put-fault, put-on}
 use Rattle.layout.specs.Walks.{Walks}
-use Rattle.rows.specs.Puts.{onward, Counted, Kept, kept-first, kept-on}
+use Rattle.rows.specs.Puts.{onward, Counted, leaves-bits, Kept, kept-first, kept-on}
 use Rattle.message.specs.declared.State.{State}
 use Rattle.message.specs.declared.Start.{Start}
 use Rattle.message.specs.declared.Start.the-variants.{Known, Unknown}
@@ -42,7 +42,7 @@ use Rattle.sheet.proofs.Reading.{walks-word, started, not-started}
 pub record Putting (sheet out₀ : List ℕ) (l : Layout Message) (out : List ℕ) (s : State) (pos at : ℕ) : Type 0 where
   pub place : ℕ
   pub bits : List ℕ
-  pub kept : Kept place bits pos out
+  pub kept : Kept place bits pos (toBits out)
   pub on : On fieldOf stepOf s (putL l sheet 0 0 (toBits out₀)) (λ (next : Layout Message). putL next (drop at sheet) place at bits)
 
 -- at the loop's head: the rest of the sheet is written from here as the whole was to be from the start
@@ -61,7 +61,7 @@ turn-first sheet out s =
       on = λ l w. record {
         place = 0;
         bits = toBits out;
-        kept = kept-first out;
+        kept = kept-first (toBits out);
         on = record { left = l; walks = w; same = refl };
       };
     }
@@ -105,7 +105,7 @@ module _ {sheet out₀ : List ℕ} {s₀ : State} {out : List ℕ} {s : State} {
             ended-whole (writeL l sheet) (length sheet) at pos (o .place) (o .bits) out₀ out
             (sym (put-writes l sheet 0 0 (toBits out₀)) ∙ o .on .same
             ∙ put-done sheet (o .place) at (o .bits) (o .on .walks) (width-is ∙ z) (omega (arith, t .inside)))
-            (o .kept .count) (λ a b. o .kept .stored a (omega (arith, t .same)));
+            (o .kept .count) (λ a b. o .kept .stored a (omega (arith, t .same, length-toBits out)));
         small = t .small;
       }
 
@@ -141,7 +141,7 @@ module _ {sheet out₀ : List ℕ} {s₀ : State} {out : List ℕ} {s : State} {
               record {
                 place = o .place + f .width;
                 bits = sets (o .bits) (o .place) (bitsOf (f .width) code);
-                kept = kept-on (f .width) code pos' out' m kept put (moved .0) (o .kept);
+                kept = rw (moved .0, put ∙ leaves-bits out pos (f .width) code m) (kept-on (f .width) code (o .kept));
                 on = record {
                   left = r .left;
                   walks = subst (λ x. Walks fieldOf stepOf x (r .left)) (sym stepped) (r .walks);

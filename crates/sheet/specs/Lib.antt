@@ -1,5 +1,6 @@
 pub mod Sheet
 pub mod Passes
+pub mod Walked
 pub mod Determined
 pub mod Laws
 pub mod Theorems

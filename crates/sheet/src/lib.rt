@@ -7,11 +7,16 @@ ghost use Rattle.sizes.specs.Sizes.{longestPayload, sheetRoom};
 ghost use Rattle.bits.specs.Bits.{toBits};
 ghost use Rattle.sheet.specs.Sheet.{badLength, judged, readAnswer, sheetAfter, judgedSheet, writeAnswer, outAfter, numberOfRead, numberOfWritten};
 ghost use Rattle.sheet.specs.Passes.{ReadPass, ReadJudged, ReadKept, ReadWhole, WritePass, SheetJudged, SheetKept, WriteWhole};
+
+mod row;
+
 use answer::Refusal;
 use layout::Verdict;
 use message::Start;
 use message::State;
-use rows::Ran;
+use row::Ran;
+use row::read_row;
+use row::write_row;
 
 // What `read` answers: the count of bits read and of entries written, or the refusal.
 pub enum ReadAnswer {
@@ -53,7 +58,7 @@ fn read_pass(payload: &[u8], sheet: &mut [u64], start: State) -> Pass
     loop {
         let row = message::row::row_of(s);
         if row.group != 0 {
-            match rows::read_row(payload, sheet, row, pos, at) {
+            match read_row(payload, sheet, row, pos, at) {
                 Ran::Stopped(why) => {
                     return Pass::Fault(why);
                 }
@@ -209,7 +214,7 @@ fn write_pass(sheet: &[u64], out: &mut [u8], start: State) -> Pass
     loop {
         let row = message::row::row_of(s);
         if row.group != 0 {
-            match rows::write_row(sheet, out, row, pos, at) {
+            match write_row(sheet, out, row, pos, at) {
                 Ran::Stopped(why) => {
                     return Pass::Fault(why);
                 }

@@ -1,5 +1,5 @@
 -- The test is that of `onward`; a width has 32 bits.
-use Rattle.rows.proofs.Writing.{onward-over, onward-more}
+use Rattle.rows.proofs.Onward.{onward-over, onward-more}
 use borrow.Author.Needs.{needs}
 use Rattle.rows.proofs.counted.Statement.{statement}
 use Rattle.rows.proofs.counted.Tie as tie

@@ -1,7 +1,7 @@
 -- One law for each way out of the loop, and one for a turn (Reading.antt): the machine walks the layout, so each turn reads one field of it, or a row of them
 -- (ReadingRows.antt).
 use Rattle.sheet.proofs.Reading.{Turn, turn-first, turn-done, turn-short, turn-fault, turn-again}
-use Rattle.sheet.proofs.ReadingRows.{row-fault, row-less, row-again}
+use Rattle.sheet.proofs.ReadingRows.{row-placed, row-fault, row-less, row-again}
 use Prim.Native.Nat.{_-_}
 use native.Mathlib.Omega.{arith}
 use borrow.Author.Needs.{needs}
@@ -24,7 +24,7 @@ row-of-requires : tie.Need-row-of-requires Inv-loop μ-loop
 row-of-requires c κs = search needs
 
 read-row-requires : tie.Need-read-row-requires Inv-loop μ-loop
-read-row-requires c κs = search needs
+read-row-requires c κs = search (row-placed, needs)
 
 enum-known-why : tie.Need-enum-known-why Inv-loop μ-loop
 enum-known-why c = search needs

@@ -1,24 +1,24 @@
--- One law for each way out of the loop, and one for a turn (Writing.antt).
-use Rattle.rows.proofs.Writing.{Turn, turn-first, turn-done, turn-short, turn-fault, turn-again}
+-- One law for each way out of the loop, and one for a turn (Walking.antt).
+use Rattle.sheet.proofs.Walking.{Writing, writing-first, writing-done, writing-short, writing-fault, writing-again}
 use native.Mathlib.Omega.{arith}
 use borrow.Author.Needs.{needs}
-use Rattle.rows.proofs.write_cells.Statement.{statement}
-use Rattle.rows.proofs.write_cells.Tie as tie
+use Rattle.sheet.proofs.row.write_cells.Statement.{statement}
+use Rattle.sheet.proofs.row.write_cells.Tie as tie
 
 abbrev Inv-loop : tie.InvT-loop
-Inv-loop sheet out₀ word₀ pos₀ at₀ last₀ word₁ pos₁ at₁ last₁ out word pos at last = Turn sheet out₀ word₀ pos₀ at₀ last₀ out word pos at last
+Inv-loop sheet out₀ word₀ pos₀ at₀ last₀ word₁ pos₁ at₁ last₁ out word pos at last = Writing sheet out₀ word₀ pos₀ at₀ last₀ out word pos at last
 
 abbrev μ-loop : tie.MeasureT-loop
 μ-loop sheet out₀ word₀ pos₀ at₀ last₀ word₁ pos₁ at₁ last₁ out word pos at last = word
 
 loop-holds : tie.Need-loop-holds Inv-loop μ-loop
-loop-holds c = search (turn-first, needs)
+loop-holds c = search (writing-first, needs)
 
 same-length : tie.Need-same-length Inv-loop μ-loop
 same-length c = search needs
 
 returns : tie.Need-returns Inv-loop μ-loop
-returns c = search (turn-short, needs)
+returns c = search (writing-short, needs)
 
 field-in-requires : tie.Need-field-in-requires Inv-loop μ-loop
 field-in-requires c κs = search needs
@@ -39,7 +39,7 @@ same-length-2 : tie.Need-same-length-2 Inv-loop μ-loop
 same-length-2 c = search needs
 
 returns-2 : tie.Need-returns-2 Inv-loop μ-loop
-returns-2 c = search (turn-fault, needs)
+returns-2 c = search (writing-fault, needs)
 
 enum-told : tie.Need-enum-told Inv-loop μ-loop
 enum-told c = search needs
@@ -57,13 +57,13 @@ loop-less : tie.Need-loop-less Inv-loop μ-loop
 loop-less c = omega arith
 
 loop-again : tie.Need-loop-again Inv-loop μ-loop
-loop-again c = search (turn-again, needs)
+loop-again c = search (writing-again, needs)
 
 same-length-3 : tie.Need-same-length-3 Inv-loop μ-loop
 same-length-3 c = search needs
 
 returns-3 : tie.Need-returns-3 Inv-loop μ-loop
-returns-3 c = search (turn-done, needs)
+returns-3 c = search (writing-done, needs)
 
 pub write-cells-spec : {M : Type 1} → statement M
 write-cells-spec =

@@ -1,12 +1,12 @@
--- One law for each way out of the loop, and one for a turn (Reading.antt).
-use Rattle.rows.proofs.Reading.{Turn, turn-first, turn-done, turn-short, turn-fault, turn-again}
+-- One law for each way out of the loop, and one for a turn (Walking.antt).
+use Rattle.sheet.proofs.Walking.{Reading, reading-first, reading-done, reading-short, reading-fault, reading-again}
 use native.Mathlib.Omega.{arith}
 use borrow.Author.Needs.{needs}
-use Rattle.rows.proofs.read_cells.Statement.{statement}
-use Rattle.rows.proofs.read_cells.Tie as tie
+use Rattle.sheet.proofs.row.read_cells.Statement.{statement}
+use Rattle.sheet.proofs.row.read_cells.Tie as tie
 
 abbrev Inv-loop : tie.InvT-loop
-Inv-loop payload sheet₀ word₀ pos₀ at₀ last₀ total word₁ pos₁ at₁ last₁ sheet word pos at last = Turn payload sheet₀ word₀ pos₀ at₀ last₀ total sheet word pos at last
+Inv-loop payload sheet₀ word₀ pos₀ at₀ last₀ total word₁ pos₁ at₁ last₁ sheet word pos at last = Reading payload sheet₀ word₀ pos₀ at₀ last₀ total sheet word pos at last
 
 abbrev μ-loop : tie.MeasureT-loop
 μ-loop payload sheet₀ word₀ pos₀ at₀ last₀ total word₁ pos₁ at₁ last₁ sheet word pos at last = word
@@ -15,7 +15,7 @@ mul-total : tie.Need-mul-total Inv-loop μ-loop
 mul-total c = search needs
 
 loop-holds : tie.Need-loop-holds Inv-loop μ-loop
-loop-holds c = search (turn-first, needs)
+loop-holds c = search (reading-first, needs)
 
 field-in-requires : tie.Need-field-in-requires Inv-loop μ-loop
 field-in-requires c κs = search needs
@@ -30,7 +30,7 @@ same-length : tie.Need-same-length Inv-loop μ-loop
 same-length c = search needs
 
 returns : tie.Need-returns Inv-loop μ-loop
-returns c = search (turn-short, needs)
+returns c = search (reading-short, needs)
 
 get-requires : tie.Need-get-requires Inv-loop μ-loop
 get-requires c κs = search needs
@@ -45,7 +45,7 @@ same-length-2 : tie.Need-same-length-2 Inv-loop μ-loop
 same-length-2 c = search needs
 
 returns-2 : tie.Need-returns-2 Inv-loop μ-loop
-returns-2 c = search (turn-fault, needs)
+returns-2 c = search (reading-fault, needs)
 
 enum-told : tie.Need-enum-told Inv-loop μ-loop
 enum-told c = search needs
@@ -63,13 +63,13 @@ loop-less : tie.Need-loop-less Inv-loop μ-loop
 loop-less c = omega arith
 
 loop-again : tie.Need-loop-again Inv-loop μ-loop
-loop-again c = search (turn-again, needs)
+loop-again c = search (reading-again, needs)
 
 same-length-3 : tie.Need-same-length-3 Inv-loop μ-loop
 same-length-3 c = search needs
 
 returns-3 : tie.Need-returns-3 Inv-loop μ-loop
-returns-3 c = search (turn-done, needs)
+returns-3 c = search (reading-done, needs)
 
 pub read-cells-spec : {M : Type 1} → statement M
 read-cells-spec =

@@ -1,8 +1,8 @@
 -- A number that no field has counts one bit.
 use Rattle.rows.specs.Cells.{cell-none, cell-some}
 use borrow.Author.Needs.{needs}
-use Rattle.rows.proofs.field_in.Statement.{statement}
-use Rattle.rows.proofs.field_in.Tie as tie
+use Rattle.sheet.proofs.row.field_in.Statement.{statement}
+use Rattle.sheet.proofs.row.field_in.Tie as tie
 
 sf-requires : tie.Need-sf-requires
 sf-requires c κs = search needs

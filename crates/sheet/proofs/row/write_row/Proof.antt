@@ -1,12 +1,17 @@
--- The group and its repeats, a turn each, then the tail (Writing.antt).
-use Rattle.rows.proofs.Writing.{Rounds, rounds-first, rounds-inside, rounds-small, rounds-fault, rounds-done, rounds-again}
+-- The group and its repeats, a turn each, then the tail (Walking.antt).
+use Rattle.sheet.proofs.Walking.{Rounds, rounds-first, rounds-fault, rounds-done, rounds-again}
+use mathlib.Core.Path.{_≡_}
+use lib.ListN.{length}
+use Rattle.bits.specs.Bits.{toBits}
+use Rattle.rows.specs.Puts.{writing}
 use native.Mathlib.Omega.{arith}
 use borrow.Author.Needs.{needs}
-use Rattle.rows.proofs.write_row.Statement.{statement}
-use Rattle.rows.proofs.write_row.Tie as tie
+use Rattle.sheet.proofs.row.write_row.Statement.{statement}
+use Rattle.sheet.proofs.row.write_row.Tie as tie
 
 abbrev Inv-loop : tie.InvT-loop
-Inv-loop sheet out₀ pos₀ at₀ group tail more₀ pos₁ at₁ last₁ out more pos at last = Rounds sheet out₀ group tail more₀ pos₀ at₀ out more pos at last
+Inv-loop sheet out₀ pos₀ at₀ group tail more₀ pos₁ at₁ last₁ out more pos at last =
+    Rounds (writing sheet) group tail more₀ pos₀ at₀ (toBits out₀) more pos at last (toBits out) × (length out ≡ length out₀)
 
 abbrev μ-loop : tie.MeasureT-loop
 μ-loop sheet out₀ pos₀ at₀ group tail more₀ pos₁ at₁ last₁ out more pos at last = more
@@ -30,7 +35,7 @@ enum-known-p : tie.Need-enum-known-p Inv-loop μ-loop
 enum-known-p c = search needs
 
 write-cells-requires-2 : tie.Need-write-cells-requires-2 Inv-loop μ-loop
-write-cells-requires-2 c κs = search (rounds-inside, rounds-small, needs)
+write-cells-requires-2 c κs = search needs
 
 same-length-2 : tie.Need-same-length-2 Inv-loop μ-loop
 same-length-2 c = search needs

@@ -1,12 +1,18 @@
--- The group and its repeats, a turn each, then the tail (Reading.antt).
-use Rattle.rows.proofs.Reading.{Rounds, rounds-first, rounds-inside, rounds-ahead, rounds-fault, rounds-done, rounds-again}
+-- The group and its repeats, a turn each, then the tail (Walking.antt).
+use Rattle.sheet.proofs.Walking.{Rounds, rounds-first, rounds-fault, rounds-done, rounds-again, placed-on}
+use mathlib.Core.Path.{_≡_}
+use Rattle.sheet.specs.Walked.{Placed}
+use lib.ListN.{length}
+use Rattle.bits.specs.Bits.{toBits}
+use Rattle.rows.specs.Runs.{reading}
 use native.Mathlib.Omega.{arith}
 use borrow.Author.Needs.{needs}
-use Rattle.rows.proofs.read_row.Statement.{statement}
-use Rattle.rows.proofs.read_row.Tie as tie
+use Rattle.sheet.proofs.row.read_row.Statement.{statement}
+use Rattle.sheet.proofs.row.read_row.Tie as tie
 
 abbrev Inv-loop : tie.InvT-loop
-Inv-loop payload sheet₀ pos₀ at₀ group tail more₀ pos₁ at₁ last₁ sheet more pos at last = Rounds payload sheet₀ group tail more₀ pos₀ at₀ sheet more pos at last
+Inv-loop payload sheet₀ pos₀ at₀ group tail more₀ pos₁ at₁ last₁ sheet more pos at last =
+    Rounds (reading (toBits payload)) group tail more₀ pos₀ at₀ sheet₀ more pos at last sheet × (length sheet ≡ length sheet₀) × Placed payload pos at
 
 abbrev μ-loop : tie.MeasureT-loop
 μ-loop payload sheet₀ pos₀ at₀ group tail more₀ pos₁ at₁ last₁ sheet more pos at last = more
@@ -30,7 +36,7 @@ enum-known-p : tie.Need-enum-known-p Inv-loop μ-loop
 enum-known-p c = search needs
 
 read-cells-requires-2 : tie.Need-read-cells-requires-2 Inv-loop μ-loop
-read-cells-requires-2 c κs = search (rounds-inside, rounds-ahead, needs)
+read-cells-requires-2 c κs = search (placed-on, needs)
 
 same-length-2 : tie.Need-same-length-2 Inv-loop μ-loop
 same-length-2 c = search needs
@@ -45,7 +51,7 @@ loop-less : tie.Need-loop-less Inv-loop μ-loop
 loop-less c = omega arith
 
 loop-again : tie.Need-loop-again Inv-loop μ-loop
-loop-again c = search (rounds-again, needs)
+loop-again c = search (rounds-again, placed-on, needs)
 
 pub read-row-spec : {M : Type 1} → statement M
 read-row-spec =
