@@ -82,8 +82,8 @@ pub const TYPES: [&str; 12] = [
 ];
 
 /// Each view of each type: of OCB a satellite in use, one out of use, and a place past the last; of the others, as `TWELVE`
-/// lists them, an ID that a block has and one that none has.
-pub const VIEWS: [&str; 29] = [
+/// lists them, an ID that a block has and one that none has; of BPAC one over 3 besides.
+pub const VIEWS: [&str; 30] = [
     "view of 0-0: in use",
     "view of 0-0: out of use",
     "view of 0-0: past the last",
@@ -113,6 +113,7 @@ pub const VIEWS: [&str; 29] = [
     "view of 2-0: no area",
     "view of 3-0: an area",
     "view of 3-0: no area",
+    "view of 3-0: an ID over 3",
 ];
 
 /// Counts the type of a frame that is given to a desk.

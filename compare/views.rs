@@ -251,13 +251,11 @@ pub fn bpac(rng: &mut Rng, judge: &mut Judge) {
     }
     let areas = views::bpac_areas(&lending.sheet);
     let ids = ids_of(areas.clone(), |area| area.id.0);
-    let most = rng.pick(&[3, 3, 3, 255]);
+    let most = rng.pick(&[3, 3, 4, 255]);
     let id = some_id(rng, &ids, most);
     let said = || format!("3-0, BPAC area {id}, {}", lending.said());
     let input = Input { call: "bpac_area", said: &said };
-    // the call takes any byte, and no block can have an ID over 3; the second program refuses such an ID
-    let area =
-        if id <= 3 { views::bpac_area(&lending.sheet, BpacAreaId(id)) } else { areas.clone().map(|_| None) };
+    let area = views::bpac_area(&lending.sheet, BpacAreaId(id));
     // eight entries, the node mask in groups of 64, three entries a node that has a bit
     let before = areas.unwrap_or_default().into_iter().take_while(|area| area.id.0 != id);
     let entries = before.map(|a| 8 + a.nodes.len().div_ceil(64) + 3 * a.nodes.iter().flatten().count());
@@ -273,6 +271,10 @@ pub fn bpac(rng: &mut Rng, judge: &mut Judge) {
     });
     if let (true, Ok((numbers, _))) = (has_room, &told) {
         marks::area_seen(judge, (3, 0), numbers, &ids, id);
+    }
+    // a sheet that is accepted has an area
+    if has_room && id > 3 && !ids.is_empty() {
+        judge.mark("view of 3-0: an ID over 3");
     }
 }
 

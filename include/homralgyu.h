@@ -185,8 +185,8 @@ uint8_t homralgyu_gad_area(uint8_t id, const uint64_t *sheet, size_t sheet_len, 
  * Writes into view 1, the sheet's entry at which the block starts, SF039, and SF040 of the troposphere and of the ionosphere; or 0. */
 uint8_t homralgyu_hpac_area(uint8_t subtype, uint8_t id, const uint64_t *sheet, size_t sheet_len, uint64_t *view, size_t view_len);
 
-/* The same in a BPAC sheet, by a BPAC area ID.
- * Refusals in order: ROOM (view, 4; floats, 5), the first fault (SHORT or FIELD), LEFTOVER, LENGTH.
+/* The same in a BPAC sheet, by a BPAC area ID, 0 to 3.
+ * Refusals in order: ROOM (view, 4; floats, 5), the first fault (SHORT or FIELD), LEFTOVER, LENGTH, FIELD for an ID over 3.
  * Writes into view 1, the sheet's entry at which the block starts, and the counts of nodes, SF075 and SF076; and into floats the reference corner's
  * latitude and longitude and the spacings of latitude and longitude, in degrees, and the average VTEC in TECU; or 0 into view. */
 uint8_t homralgyu_bpac_area(uint8_t id, const uint64_t *sheet, size_t sheet_len, uint64_t *view, size_t view_len, double *floats,

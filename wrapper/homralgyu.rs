@@ -942,7 +942,7 @@ pub struct BpacArea {
     pub average: f64,
 }
 
-/// The first block with this BPAC area ID of a BPAC sheet.
+/// The first block with this BPAC area ID, 0 to 3, of a BPAC sheet.
 pub fn bpac_area(id: u8, sheet: &[u64]) -> Result<Option<BpacArea>, Refusal> {
     let (mut n, mut x) = ([0; 4], [0.0; 5]);
     answer(raw::bpac_area(id, sheet, &mut n, &mut x), ())?;

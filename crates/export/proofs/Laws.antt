@@ -1,4 +1,4 @@
--- Laws: numbers laid into a lent slice one by one; an answer when a slice has room, and when it has not.
+-- Laws: numbers, or floats, laid into a lent slice one by one; an answer when a slice has room, and when it has not.
 use mathlib.Core.Path.{_≡_, refl, sym, ap, ap₂, _∙_}
 use mathlib.Core.List.{List, [], _∷_, _++_}
 use mathlib.Core.Bool.{true, false}
@@ -7,31 +7,31 @@ use native.Mathlib.Nat.{le-antisymm, le-of-suc-le-suc, not-suc-le-zero}
 use native.Mathlib.Numerals.{add-one}
 use native.Mathlib.Omega.{arith}
 use lib.Dec.{ltb}
-use lib.ListN.{length, take, drop, getD, set, length-set, List·getD-eq-default}
+use lib.ListN.{length, take, drop, getD, set, length-set}
 use lib.Seq.{take-all}
 use borrow.Author.Tests.{lt-ltb, le-ltb}
 use Rattle.export.specs.Numbers.{Told, roomFor, laid, answered, lentAfter, atMost}
 
--- ---- numbers laid into a slice
+-- ---- numbers, or floats, laid into a slice
 
-store : (src dst : List ℕ) (i : ℕ) → i < length src → i < length dst → set (take i src ++ drop i dst) i (getD src i 0) ≡ take (suc i) src ++ drop (suc i) dst
-store [] dst i h k = absurd (not-suc-le-zero h)
-store (x ∷ xs) [] i h k = absurd (not-suc-le-zero k)
-store (x ∷ xs) (y ∷ ys) zero h k = refl
-store (x ∷ xs) (y ∷ ys) (suc i) h k = ap (λ (l : List ℕ). x ∷ l) (store xs ys i (le-of-suc-le-suc h) (le-of-suc-le-suc k))
+store : {A : Type 0} (src dst : List A) (d : A) (i : ℕ) → i < length src → i < length dst → set (take i src ++ drop i dst) i (getD src i d) ≡ take (suc i) src ++ drop (suc i) dst
+store [] dst d i h k = absurd (not-suc-le-zero h)
+store (x ∷ xs) [] d i h k = absurd (not-suc-le-zero k)
+store (x ∷ xs) (y ∷ ys) d zero h k = refl
+store (x ∷ xs) (y ∷ ys) d (suc i) h k = ap (λ l. x ∷ l) (store xs ys d i (le-of-suc-le-suc h) (le-of-suc-le-suc k))
 
-module _ (numbers out₀ out : List ℕ) (i : ℕ) (m : length numbers ≤ length out₀) (inv : out ≡ take i numbers ++ drop i out₀) where
-  pub put-more : i < length numbers → set out i (getD numbers i 0) ≡ take (i + 1) numbers ++ drop (i + 1) out₀
-  put-more h =
-      ap (λ (l : List ℕ). set l i (getD numbers i 0)) inv
-      ∙ store numbers out₀ i h (omega arith)
+module _ {A : Type 0} (numbers out₀ out : List A) (i : ℕ) (m : length numbers ≤ length out₀) (inv : out ≡ take i numbers ++ drop i out₀) where
+  pub put-more : (d : A) → i < length numbers → set out i (getD numbers i d) ≡ take (i + 1) numbers ++ drop (i + 1) out₀
+  put-more d h =
+      ap (λ l. set l i (getD numbers i d)) inv
+      ∙ store numbers out₀ d i h (omega arith)
       ∙ ap (λ (n : ℕ). take n numbers ++ drop n out₀) (sym (add-one i))
 
   pub put-all : length numbers ≤ i → i ≤ length numbers → out ≡ laid numbers out₀
   unfolding laid
-  put-all h k = inv ∙ ap (λ (n : ℕ). take n numbers ++ drop n out₀) (le-antisymm k h) ∙ ap (λ (l : List ℕ). l ++ drop (length numbers) out₀) (take-all (length numbers) numbers (omega arith))
+  put-all h k = inv ∙ ap (λ (n : ℕ). take n numbers ++ drop n out₀) (le-antisymm k h) ∙ ap (λ l. l ++ drop (length numbers) out₀) (take-all (length numbers) numbers (omega arith))
 
-pub length-put : (out out₀ : List ℕ) (i x : ℕ) → length out ≡ length out₀ → length (set out i x) ≡ length out₀
+pub length-put : {A : Type 0} (out out₀ : List A) (i : ℕ) (x : A) → length out ≡ length out₀ → length (set out i x) ≡ length out₀
 length-put out out₀ i x h = length-set out i x ∙ h
 
 -- ---- a slice that has room, and one that has not
@@ -89,24 +89,16 @@ module _ {S : Type 0} (told : S → Told) (a v : S) where
   pub numbers-in : (lent now : List ℕ) → a ≡ v → now ≡ laid (told v .numbers) lent → now ≡ laid (told a .numbers) lent
   numbers-in lent now e p = arm (λ x. laid (told x .numbers) lent) a v now e p
 
--- ---- numbers laid that are others, one by one
-
-pub laid-as : (xs ys lent now : List ℕ) → now ≡ laid xs lent → xs ≡ ys → now ≡ laid ys lent
-laid-as xs ys lent now p e = p ∙ ap (λ l. laid l lent) e
+-- ---- numbers that are others, one by one
 
 pub cons-as : (x y : ℕ) (xs ys : List ℕ) → x ≡ y → xs ≡ ys → x ∷ xs ≡ y ∷ ys
 cons-as x y xs ys e f = ap₂ (λ (x : ℕ) (xs : List ℕ). x ∷ xs) e f
 
 -- ---- nothing is laid
 
-pub laid-none : (lent : List ℕ) → lent ≡ laid [] lent
+pub laid-none : {A : Type 0} (lent : List A) → lent ≡ laid [] lent
 unfolding laid
 laid-none lent = refl
-
--- ---- a place that is not there
-
-pub none-there : (numbers : List ℕ) (place : ℕ) → length numbers ≤ place → 0 ≡ getD numbers place 0
-none-there numbers place h = sym (List·getD-eq-default numbers 0 h)
 
 -- ---- a number, or the highest that counts, which the code has as w
 

@@ -24,12 +24,12 @@ room = 9
 unfoldable pub roomFor : {A B : Type 0} → ℕ → List B → A → A → A
 roomFor size lent short rest = cond (ltb (length lent) size) short rest
 
--- numbers are written from the slice's start on; "parts of outputs beyond what is written stay as lent"
-unfoldable pub laid : List ℕ → List ℕ → List ℕ
+-- numbers, or floats, are written from the slice's start on; "parts of outputs beyond what is written stay as lent"
+unfoldable pub laid : {A : Type 0} → List A → List A → List A
 laid numbers lent = numbers ++ drop (length numbers) lent
 
 -- nothing is written where there are fewer places than numbers
-unfoldable pub stored : List ℕ → List ℕ → List ℕ
+unfoldable pub stored : {A : Type 0} → List A → List A → List A
 stored numbers lent = roomFor (length numbers) lent lent (laid numbers lent)
 
 -- the number of a call that is lent a slice for the further numbers, and that slice afterwards

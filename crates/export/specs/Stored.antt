@@ -14,24 +14,24 @@ use Rattle.export.specs.Frames.{headerRoom, headerOf}
 use Rattle.export.specs.Streams.{trayRoom, trayOf}
 use Rattle.export.specs.Books.{bookRoom, bookOf}
 
-module _ (numbers lent : List ℕ) where
+module _ {A : Type 0} (numbers lent : List A) where
   pub stored-none : length lent < length numbers → lent ≡ stored numbers lent
   unfolding stored roomFor
   stored-none h = ap (λ b. cond b lent (laid numbers lent)) (sym (lt-ltb (length lent) (length numbers) h))
 
-  pub stored-all : (now : List ℕ) → length numbers ≤ length lent → now ≡ laid numbers lent → now ≡ stored numbers lent
+  pub stored-all : (now : List A) → length numbers ≤ length lent → now ≡ laid numbers lent → now ≡ stored numbers lent
   unfolding stored roomFor
   stored-all now h e = e ∙ ap (λ b. cond b lent (laid numbers lent)) (sym (le-ltb (length lent) (length numbers) h))
 
-  pub stored-there : (now : List ℕ) → now ≡ stored numbers lent → length numbers ≤ length lent → now ≡ laid numbers lent
+  pub stored-there : (now : List A) → now ≡ stored numbers lent → length numbers ≤ length lent → now ≡ laid numbers lent
   unfolding stored roomFor
   stored-there now e h = e ∙ ap (λ b. cond b lent (laid numbers lent)) (le-ltb (length lent) (length numbers) h)
 
-pub stored-as : (xs ys lent now : List ℕ) → now ≡ stored xs lent → xs ≡ ys → now ≡ stored ys lent
+pub stored-as : {A : Type 0} (xs ys lent now : List A) → now ≡ stored xs lent → xs ≡ ys → now ≡ stored ys lent
 stored-as xs ys lent now p e = p ∙ ap (λ l. stored l lent) e
 
 -- the numbers that the code has, one by one, where there is room for those that are meant
-pub laid-there : (xs ys lent now : List ℕ) → now ≡ stored xs lent → xs ≡ ys → length ys ≤ length lent → now ≡ laid ys lent
+pub laid-there : {A : Type 0} (xs ys lent now : List A) → now ≡ stored xs lent → xs ≡ ys → length ys ≤ length lent → now ≡ laid ys lent
 laid-there xs ys lent now p e h = stored-there ys lent now (stored-as xs ys lent now p e) h
 
 -- a tray, a header and a book, where the slice has room

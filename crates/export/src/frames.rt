@@ -44,12 +44,13 @@ fn sealing_of(seal: Seal) -> Sealing
     }
 }
 
-fn header_of(frame: Frame) -> [u64; 15]
-    ensures { λ r. ⌜ r ≡ headerOf frame ⌝ }
+// A header into the places from the start on.
+pub fn put_header(frame: Frame, header: &mut [u64])
+    ensures { λ _. ⌜ now (header .exit) ≡ stored (headerOf frame) (now (header .entry)) ⌝ }
 {
     let seal = frame.seal;
     let sealing = sealing_of(seal);
-    [
+    let numbers = [
         count(frame.length),
         wide(frame.message_type),
         count(frame.payload_length),
@@ -65,14 +66,7 @@ fn header_of(frame: Frame) -> [u64; 15]
         wide(sealing.authentication),
         wide(sealing.authentication_length),
         count(frame.payload_at),
-    ]
-}
-
-// A header into the places from the start on.
-pub fn put_header(frame: Frame, header: &mut [u64])
-    ensures { λ _. ⌜ now (header .exit) ≡ stored (headerOf frame) (now (header .entry)) ⌝ }
-{
-    let numbers = header_of(frame);
+    ];
     put(&numbers, header);
 }
 

@@ -108,14 +108,15 @@ fn run_book(run: Run) -> Book
     }
 }
 
-fn desk_of(held: Desk) -> [u64; DESK]
-    ensures { λ r. ⌜ r ≡ deskOf held ⌝ }
+// The numbers of a desk into the places from the start on.
+pub fn put_desk(held: Desk, desk: &mut [u64])
+    ensures { λ _. ⌜ now (desk .exit) ≡ stored (deskOf held) (now (desk .entry)) ⌝ }
 {
     let book = held.book;
     let run = held.run;
     let open = run_book(run);
     let constellation = held.constellation;
-    [
+    let numbers = [
         wide(held.solution),
         wide(held.processor),
         wide(desk::subtype_of(constellation)),
@@ -125,13 +126,6 @@ fn desk_of(held: Desk) -> [u64; DESK]
         tag_of(run),
         aiou_of(open.aiou_plus_one),
         count(open.count),
-    ]
-}
-
-// The numbers of a desk into the places from the start on.
-pub fn put_desk(held: Desk, desk: &mut [u64])
-    ensures { λ _. ⌜ now (desk .exit) ≡ stored (deskOf held) (now (desk .entry)) ⌝ }
-{
-    let numbers = desk_of(held);
+    ];
     put(&numbers, desk);
 }

@@ -33,7 +33,7 @@ use Rattle.views.specs.declared.satellites.Satellite.the-variants.{OutOfUse, In
 use Rattle.views.specs.declared.satellites.SatelliteAnswer.{SatelliteAnswer}
 use Rattle.views.specs.declared.satellites.SatelliteAnswer.the-variants as satelliteAnswer
 use Rattle.export.specs.Numbers.{room, roomFor, laid, answered, lentAfter}
-use Rattle.exportviews.specs.Views.{Told, none, laidFloats, rooms, numberTold, viewAfter, floatsAfter}
+use Rattle.exportviews.specs.Views.{Told, none, rooms, numberTold, viewAfter, floatsAfter}
 use Rattle.exportviews.specs.Areas.{gadNumbersOf, gadFloatsOf, toldGad, hpacNumbersOf, toldHpac, bpacNumbersOf, bpacFloatsOf, toldBpac}
 use Rattle.exportviews.specs.Satellites.{hasOrbit, iodeOf, orbitOf, yawIs, yawOf, hasClock, clockContinuity, clockOf, clockError, hasBiases, biasesOf, blocksNumbers, blocksFloats, useNumbers, useFloats, toldSatellite}
 
@@ -62,14 +62,14 @@ satellite-quiet (satelliteAnswer.Refused why) h = (refl, refl)
 
 pub refusal-leaves : (m : ℕ) (view : List ℕ) (n : ℕ) (floats : List Float) (told : Told) → Quiet told
     → (numberTold m view n floats told ≡ 0 → ⊥) → (viewAfter m view n floats told ≡ view) × (floatsAfter m view n floats told ≡ floats)
-unfolding numberTold viewAfter floatsAfter rooms roomFor laid laidFloats
+unfolding numberTold viewAfter floatsAfter rooms roomFor laid
 refusal-leaves m view n floats told q h = go (ltb (length view) m) (ltb (length floats) n) h
   where
-    both : (told .numbers ≡ []) × (told .floats ≡ []) → (laid (told .numbers) view ≡ view) × (laidFloats (told .floats) floats ≡ floats)
+    both : (told .numbers ≡ []) × (told .floats ≡ []) → (laid (told .numbers) view ≡ view) × (laid (told .floats) floats ≡ floats)
     both (e, f) = (rw e refl, rw f refl)
 
     go : (a b : Bool) → (cond a room (cond b room (told .number)) ≡ 0 → ⊥)
-        → (cond a view (cond b view (laid (told .numbers) view)) ≡ view) × (cond a floats (cond b floats (laidFloats (told .floats) floats)) ≡ floats)
+        → (cond a view (cond b view (laid (told .numbers) view)) ≡ view) × (cond a floats (cond b floats (laid (told .floats) floats)) ≡ floats)
     go true b h = (refl, refl)
     go false true h = (refl, refl)
     go false false h = both (q h)

@@ -1,9 +1,8 @@
 -- Definitions to believe: how a call for C says in numbers, floats and lent slices what a view of crate views is.
-use mathlib.Core.List.{List, [], _∷_, _++_}
+use mathlib.Core.List.{List, [], _∷_}
 use Prim.Native.Nat.{ℕ}
 use lib.IntN.{pos}
 use lib.Ieee.{Float, binary64, ofInt}
-use lib.ListN.{length, drop}
 use Rattle.answer.specs.Number.{numberOf}
 use Rattle.answer.specs.declared.Refusal.{Refusal}
 use Rattle.export.specs.Numbers.{room, roomFor, laid}
@@ -26,10 +25,6 @@ absent = record { number = 0; numbers = 0 ∷ []; floats = [] }
 abbrev pub none : Float
 none = ofInt binary64 (pos 0)
 
--- floats are written from the slice's start on, as numbers are; "parts of outputs beyond what is written stay as lent"
-unfoldable pub laidFloats : List Float → List Float → List Float
-laidFloats floats lent = floats ++ drop (length floats) lent
-
 -- "lent buffer under its stated size", before anything else: the numbers' slice, then the floats'
 unfoldable pub rooms : {A : Type 0} (m : ℕ) (view : List ℕ) (n : ℕ) (floats : List Float) (short rest : A) → A
 rooms m view n floats short rest = roomFor m view short (roomFor n floats short rest)
@@ -42,4 +37,4 @@ unfoldable pub viewAfter : (m : ℕ) (view : List ℕ) (n : ℕ) (floats : List 
 viewAfter m view n floats told = rooms m view n floats view (laid (told .numbers) view)
 
 unfoldable pub floatsAfter : (m : ℕ) (view : List ℕ) (n : ℕ) (floats : List Float) → Told → List Float
-floatsAfter m view n floats told = rooms m view n floats floats (laidFloats (told .floats) floats)
+floatsAfter m view n floats told = rooms m view n floats floats (laid (told .floats) floats)

@@ -7,7 +7,7 @@ ghost use Rattle.views.specs.Gads.{gadAnswerOf};
 ghost use Rattle.views.specs.Hpacs.{hpacAnswerOf};
 ghost use Rattle.views.specs.Bpacs.{bpacAnswerOf};
 ghost use Rattle.export.specs.Numbers.{laid, answered, lentAfter};
-ghost use Rattle.exportviews.specs.Views.{laidFloats, numberTold, viewAfter, floatsAfter};
+ghost use Rattle.exportviews.specs.Views.{numberTold, viewAfter, floatsAfter};
 ghost use Rattle.exportviews.specs.Areas.{gadRoom, gadFloats, gadNumbersOf, gadFloatsOf, toldGad, hpacRoom, hpacNumbersOf, toldHpac, bpacRoom, bpacFloats, bpacNumbersOf, bpacFloatsOf, toldBpac};
 use crate::floats::put_floats;
 use area::AreaId;
@@ -45,7 +45,7 @@ fn put_none(view: &mut [u64])
 fn put_gad(area: GadArea, view: &mut [u64], floats: &mut [f64])
     requires { ⌜ (gadRoom ≤ length (now view)) × (gadFloats ≤ length (now floats)) ⌝ }
     ensures { λ _. ⌜ now (view .exit) ≡ laid (gadNumbersOf area) (now (view .entry)) ⌝ }
-    ensures { λ _. ⌜ now (floats .exit) ≡ laidFloats (gadFloatsOf area) (now (floats .entry)) ⌝ }
+    ensures { λ _. ⌜ now (floats .exit) ≡ laid (gadFloatsOf area) (now (floats .entry)) ⌝ }
 {
     let numbers = [1u64, area.rows, area.columns];
     let degrees = [
@@ -62,7 +62,7 @@ fn tell_gad(answer: GadAnswer, view: &mut [u64], floats: &mut [f64]) -> u8
     requires { ⌜ (gadRoom ≤ length (now view)) × (gadFloats ≤ length (now floats)) ⌝ }
     ensures { λ r. ⌜ r ≡ toldGad answer .number ⌝ }
     ensures { λ _. ⌜ now (view .exit) ≡ laid (toldGad answer .numbers) (now (view .entry)) ⌝ }
-    ensures { λ _. ⌜ now (floats .exit) ≡ laidFloats (toldGad answer .floats) (now (floats .entry)) ⌝ }
+    ensures { λ _. ⌜ now (floats .exit) ≡ laid (toldGad answer .floats) (now (floats .entry)) ⌝ }
 {
     match answer {
         GadAnswer::Is(area) => {
@@ -145,7 +145,7 @@ pub extern "C" fn homralgyu_hpac_area(subtype: u8, id: u8, sheet: &[u64], view: 
 fn put_bpac(area: BpacArea, view: &mut [u64], floats: &mut [f64])
     requires { ⌜ (bpacRoom ≤ length (now view)) × (bpacFloats ≤ length (now floats)) ⌝ }
     ensures { λ _. ⌜ now (view .exit) ≡ laid (bpacNumbersOf area) (now (view .entry)) ⌝ }
-    ensures { λ _. ⌜ now (floats .exit) ≡ laidFloats (bpacFloatsOf area) (now (floats .entry)) ⌝ }
+    ensures { λ _. ⌜ now (floats .exit) ≡ laid (bpacFloatsOf area) (now (floats .entry)) ⌝ }
 {
     let numbers = [1u64, count(area.start), area.rows, area.columns];
     let values = [
@@ -163,7 +163,7 @@ fn tell_bpac(answer: BpacAnswer, view: &mut [u64], floats: &mut [f64]) -> u8
     requires { ⌜ (bpacRoom ≤ length (now view)) × (bpacFloats ≤ length (now floats)) ⌝ }
     ensures { λ r. ⌜ r ≡ toldBpac answer .number ⌝ }
     ensures { λ _. ⌜ now (view .exit) ≡ laid (toldBpac answer .numbers) (now (view .entry)) ⌝ }
-    ensures { λ _. ⌜ now (floats .exit) ≡ laidFloats (toldBpac answer .floats) (now (floats .entry)) ⌝ }
+    ensures { λ _. ⌜ now (floats .exit) ≡ laid (toldBpac answer .floats) (now (floats .entry)) ⌝ }
 {
     match answer {
         BpacAnswer::Is(area) => {

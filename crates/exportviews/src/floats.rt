@@ -1,14 +1,14 @@
 // Floats into lent slices.
 ghost use mathlib.Core.Path.{_≡_};
-ghost use Prim.Native.Nat.{_≤_};
-ghost use lib.ListN.{length};
-ghost use Rattle.exportviews.specs.Views.{laidFloats};
+ghost use Rattle.export.specs.Numbers.{stored};
 
-// Floats take the places from the start on; what lies behind them stays. Internal: the calls of this crate have tested ROOM.
+// As `export::numbers::put`: floats take the places from the start on; what lies behind them stays. Where there are fewer places, nothing is stored.
 pub fn put_floats(floats: &[f64], out: &mut [f64])
-    requires { ⌜ length (now floats) ≤ length (now out) ⌝ }
-    ensures { λ _. ⌜ now (out .exit) ≡ laidFloats (now (floats .entry)) (now (out .entry)) ⌝ }
+    ensures { λ _. ⌜ now (out .exit) ≡ stored (now (floats .entry)) (now (out .entry)) ⌝ }
 {
+    if out.len() < floats.len() {
+        return;
+    }
     let mut i = 0;
     while i < floats.len() {
         out[i] = floats[i];

@@ -5,7 +5,7 @@ ghost use Prim.Native.Nat.{_≤_};
 ghost use lib.ListN.{length};
 ghost use Rattle.views.specs.Satellites.{satelliteAnswerOf};
 ghost use Rattle.export.specs.Numbers.{laid};
-ghost use Rattle.exportviews.specs.Views.{none, laidFloats, numberTold, viewAfter, floatsAfter};
+ghost use Rattle.exportviews.specs.Views.{none, numberTold, viewAfter, floatsAfter};
 ghost use Rattle.exportviews.specs.Satellites.{satelliteRoom, satelliteFloats, hasOrbit, iodeOf, orbitOf, yawIs, yawOf, hasClock, clockContinuity, clockOf, clockError, hasBiases, biasesOf, blocksNumbers, blocksFloats, useNumbers, useFloats, toldSatellite};
 use crate::floats::put_floats;
 use export::numbers::ROOM;
@@ -188,7 +188,7 @@ fn blocks_floats(blocks: Blocks) -> [f64; SATELLITE_FLOATS]
 fn put_blocks(number: u64, blocks: Blocks, view: &mut [u64], floats: &mut [f64])
     requires { ⌜ (satelliteRoom ≤ length (now view)) × (satelliteFloats ≤ length (now floats)) ⌝ }
     ensures { λ _. ⌜ now (view .exit) ≡ laid (blocksNumbers number blocks) (now (view .entry)) ⌝ }
-    ensures { λ _. ⌜ now (floats .exit) ≡ laidFloats (blocksFloats blocks) (now (floats .entry)) ⌝ }
+    ensures { λ _. ⌜ now (floats .exit) ≡ laid (blocksFloats blocks) (now (floats .entry)) ⌝ }
 {
     let numbers = blocks_numbers(number, blocks);
     let values = blocks_floats(blocks);
@@ -207,7 +207,7 @@ fn put_out_of_use(number: u64, view: &mut [u64])
 fn tell_use(number: u64, satellite: Satellite, view: &mut [u64], floats: &mut [f64])
     requires { ⌜ (satelliteRoom ≤ length (now view)) × (satelliteFloats ≤ length (now floats)) ⌝ }
     ensures { λ _. ⌜ now (view .exit) ≡ laid (useNumbers number satellite) (now (view .entry)) ⌝ }
-    ensures { λ _. ⌜ now (floats .exit) ≡ laidFloats (useFloats satellite) (now (floats .entry)) ⌝ }
+    ensures { λ _. ⌜ now (floats .exit) ≡ laid (useFloats satellite) (now (floats .entry)) ⌝ }
 {
     match satellite {
         Satellite::OutOfUse => put_out_of_use(number, view),
@@ -219,7 +219,7 @@ fn tell_satellite(answer: SatelliteAnswer, view: &mut [u64], floats: &mut [f64])
     requires { ⌜ (satelliteRoom ≤ length (now view)) × (satelliteFloats ≤ length (now floats)) ⌝ }
     ensures { λ r. ⌜ r ≡ toldSatellite answer .number ⌝ }
     ensures { λ _. ⌜ now (view .exit) ≡ laid (toldSatellite answer .numbers) (now (view .entry)) ⌝ }
-    ensures { λ _. ⌜ now (floats .exit) ≡ laidFloats (toldSatellite answer .floats) (now (floats .entry)) ⌝ }
+    ensures { λ _. ⌜ now (floats .exit) ≡ laid (toldSatellite answer .floats) (now (floats .entry)) ⌝ }
 {
     match answer {
         SatelliteAnswer::Is(number, satellite) => {

@@ -1,28 +1,28 @@
 -- The answers of bpacarea.rt: what the machine finds is the first block with the ID, and each answer of the code, worded as the code makes its tests.
 use mathlib.Core.Path.{_≡_, refl, ap, sym, _∙_}
 use mathlib.Core.List.{List}
-use Prim.Native.Nat.{ℕ}
+use Prim.Native.Nat.{ℕ, _≤_, _<_}
+use borrow.Author.Tests.{lt-ltb, le-ltb}
 use Rattle.answer.specs.declared.Refusal.{Refusal}
+use Rattle.answer.specs.declared.Refusal.the-variants as refusal
 use Rattle.bpac.specs.Bpac as bpac
 use Rattle.fields.specs.Fields.{sf}
-use Rattle.layout.specs.Layout.{done}
+use Rattle.layout.specs.declared.Field.{Field}
+use Rattle.layout.specs.Layout.{done, pick}
 use Rattle.layout.specs.Holds.{Holds}
 use Rattle.layout.specs.Walks.{Walks}
 use Rattle.message.specs.declared.State.{State}
 use Rattle.message.specs.Machine.{fieldOf, stepOf}
 use Rattle.message.specs.Messages.{bpacMessage, bpacLayout}
-use Rattle.views.specs.declared.bpacarea.BpacArea.{BpacArea}
 use Rattle.views.specs.declared.bpacarea.BpacAnswer.{BpacAnswer}
 use Rattle.views.specs.declared.bpacarea.BpacAnswer.the-variants.{Is, Absent, Refused}
-use Rattle.views.specs.declared.places.Found.{Found}
-use Rattle.views.specs.declared.places.Found.the-variants as finding
 use Rattle.views.specs.declared.places.Opened.{Opened}
 use Rattle.views.specs.declared.places.Opened.the-variants as opening
 use Rattle.views.specs.declared.places.Place.{Place}
 use Rattle.views.specs.Along.{headed, goes-finds, finds-first}
 use Rattle.views.specs.AlongBpac.{bpacSeen, bpacFound, over-area, over-head}
-use Rattle.views.specs.Bpacs.{bpacAreas, bpacEntries, bpacArea, firstBpac, bpacAnswerOf}
-use Rattle.views.specs.Places.{opened, codeAt, found}
+use Rattle.views.specs.Bpacs.{bpacAreas, bpacEntries, bpacArea, firstBpac, ifBpacId, bpacAnswerOf}
+use Rattle.views.specs.Places.{opened, found}
 use Rattle.views.specs.Taken.{openedAs, opens}
 
 bpac-finds : (id : ℕ) (sheet : List ℕ) (s : State) → Walks fieldOf stepOf s bpacLayout → Holds bpacLayout sheet 0
@@ -39,22 +39,23 @@ bpac-finds id sheet s w h =
 
 module _ (id : ℕ) (sheet : List ℕ) where
   abbrev look : Place → BpacAnswer
-  look p = bpacFound sheet (found 72 id sheet p)
+  look p = ifBpacId id (bpacFound sheet (found 72 id sheet p))
 
   bpac-answers : openedAs Refused look (opened 3 0 sheet) ≡ bpacAnswerOf id sheet
   unfolding bpacAnswerOf
-  bpac-answers = opens 3 0 sheet Refused look (firstBpac id (bpacAreas sheet)) (bpac-finds id sheet)
+  bpac-answers = opens 3 0 sheet Refused look (ifBpacId id (firstBpac id (bpacAreas sheet))) (λ s w h. ap (ifBpacId id) (bpac-finds id sheet s w h))
 
   module _ (o : Opened) (e : o ≡ opened 3 0 sheet) where
     pub bpac-refused : (why : Refusal) → o ≡ opening.Refused why → Refused why ≡ bpacAnswerOf id sheet
     bpac-refused why q = ap (openedAs Refused look) (sym q ∙ e) ∙ bpac-answers
 
-    pub bpac-said : (p : Place) → o ≡ opening.At p → (wide : ℕ) (r : BpacAnswer) → wide ≡ id → r ≡ bpacFound sheet (found 72 wide sheet p) → r ≡ bpacAnswerOf id sheet
-    bpac-said p q wide r i h = h ∙ ap (λ x. bpacFound sheet (found 72 x sheet p)) i ∙ ap (openedAs Refused look) (sym q ∙ e) ∙ bpac-answers
+    pub bpac-said : (p : Place) → o ≡ opening.At p → (wide : ℕ) (r : BpacAnswer) → wide ≡ id → r ≡ ifBpacId wide (bpacFound sheet (found 72 wide sheet p)) → r ≡ bpacAnswerOf id sheet
+    bpac-said p q wide r i h = h ∙ ap (λ x. ifBpacId x (bpacFound sheet (found 72 x sheet p))) i ∙ ap (openedAs Refused look) (sym q ∙ e) ∙ bpac-answers
 
-module _ (sheet : List ℕ) (f x : Found) (e : f ≡ x) where
-  pub bpac-absent : f ≡ finding.Nothing → Absent ≡ bpacFound sheet x
-  bpac-absent q = ap (bpacFound sheet) (sym q ∙ e)
+-- the ID, as the code has it, against SF072's codes
+module _ (id : ℕ) (field : Field) (is : field ≡ sf 72) (rest : BpacAnswer) where
+  pub bpac-over : field .most < id → Refused refusal.Field ≡ ifBpacId id rest
+  bpac-over h = ap (λ b. pick b (Refused refusal.Field) rest) (sym (lt-ltb (sf 72 .most) id (rw is at h)))
 
-  pub bpac-there : (p : Place) → f ≡ finding.At p → (a : BpacArea) → a ≡ bpacSeen (p .at) (codeAt sheet p) → Is a ≡ bpacFound sheet x
-  bpac-there p q a h = ap Is h ∙ ap (bpacFound sheet) (sym q ∙ e)
+  pub bpac-among : (r : BpacAnswer) → id ≤ field .most → r ≡ rest → r ≡ ifBpacId id rest
+  bpac-among r h e = e ∙ ap (λ b. pick b (Refused refusal.Field) rest) (sym (le-ltb (sf 72 .most) id (rw is at h)))

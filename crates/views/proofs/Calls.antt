@@ -19,6 +19,7 @@ use Rattle.sheet.specs.declared.WriteAnswer.the-variants as writer
 use Rattle.sheet.specs.Sheet.{judgedSheet}
 use Rattle.views.specs.declared.satellites.SatelliteAnswer.{SatelliteAnswer}
 use Rattle.views.specs.declared.satellites.SatelliteAnswer.the-variants as satellite
+use Rattle.views.specs.declared.places.Found.{Found}
 use Rattle.views.specs.declared.places.Opened.the-variants as opening
 use Rattle.views.specs.Places.{openedAt, opened}
 use Rattle.views.specs.Judged.{ifTaken, forConstellation}
@@ -41,6 +42,14 @@ module _ (kind subtype : ℕ) (sheet : List ℕ) (a : WriteAnswer) (e : a ≡ ju
 
     pub open-known : (t : State) → s ≡ start.Known t → opening.At (record { state = t; at = 0 }) ≡ opened kind subtype sheet
     open-known t u = ap openedAt (sym u) ∙ taken
+
+-- ---- `gad_from` and its like, which differ in what they make of a place: what was found is x, and here v
+
+pub found-as : {C : Type 0} (of : List ℕ → Found → C) (sheet : List ℕ) (f x v : Found) (r : C) → f ≡ x → f ≡ v → r ≡ of sheet v → r ≡ of sheet x
+found-as of sheet f x v r e q h = h ∙ ap (of sheet) (sym q ∙ e)
+
+pub same : {A C : Type 0} (f : A → C) (a b : A) → a ≡ b → f a ≡ f b
+same f a b e = ap f e
 
 -- ---- OCB
 

@@ -1,10 +1,8 @@
 -- One lemma for each answer of the functions of units.rt, over plain variables, worded as the code makes its tests.
 use mathlib.Core.Path.{_≡_, ap, sym, _∙_}
-use mathlib.Core.List.{List}
-use Prim.Native.Nat.{ℕ, _≤_}
+use Prim.Native.Nat.{ℕ}
 use lib.IntN.{pos}
 use lib.Ieee.{Float, binary64, ofInt}
-use lib.ListN.{length, getD, List·getD-eq-default}
 use Rattle.answer.specs.declared.Refusal.{Refusal}
 use Rattle.values.specs.Values.{valueOf, countOf, yawOf}
 use Rattle.values.specs.declared.Value.{Value}
@@ -65,6 +63,3 @@ module _ (code : ℕ) {a : YawAnswer} (e : a ≡ yawOf code) where
   pub yaw-refused : (why : Refusal) → a ≡ yawAnswer.Refused why → yaw.Invalid ≡ yawIn code
   unfolding yawIn
   yaw-refused why q = ap yawSaid (sym q ∙ e)
-
-pub entry-none : (sheet : List ℕ) (at : ℕ) → length sheet ≤ at → 0 ≡ getD sheet at 0
-entry-none sheet at h = sym (List·getD-eq-default sheet 0 h)

@@ -11,18 +11,15 @@ use Rattle.layout.specs.Walks.{Walks}
 use Rattle.message.specs.declared.State.{State}
 use Rattle.message.specs.Machine.{fieldOf, stepOf}
 use Rattle.message.specs.Messages.{gadMessage, gadLayout}
-use Rattle.views.specs.declared.gadarea.GadArea.{GadArea}
 use Rattle.views.specs.declared.gadarea.GadAnswer.{GadAnswer}
 use Rattle.views.specs.declared.gadarea.GadAnswer.the-variants.{Is, Absent, Refused}
-use Rattle.views.specs.declared.places.Found.{Found}
-use Rattle.views.specs.declared.places.Found.the-variants as finding
 use Rattle.views.specs.declared.places.Opened.{Opened}
 use Rattle.views.specs.declared.places.Opened.the-variants as opening
 use Rattle.views.specs.declared.places.Place.{Place}
 use Rattle.views.specs.Along.{headed, goes-finds, finds-first}
 use Rattle.views.specs.AlongGad.{gadSeen, gadFound, over-block, over-head}
 use Rattle.views.specs.Gads.{gadBlocks, gadArea, firstGad, gadAnswerOf}
-use Rattle.views.specs.Places.{opened, codeAt, found}
+use Rattle.views.specs.Places.{opened, found}
 use Rattle.views.specs.Taken.{openedAs, opens}
 
 gad-finds : (id : ℕ) (sheet : List ℕ) (s : State) → Walks fieldOf stepOf s gadLayout → Holds gadLayout sheet 0
@@ -51,10 +48,3 @@ module _ (id : ℕ) (sheet : List ℕ) where
 
     pub gad-said : (p : Place) → o ≡ opening.At p → (wide : ℕ) (r : GadAnswer) → wide ≡ id → r ≡ gadFound sheet (found 31 wide sheet p) → r ≡ gadAnswerOf id sheet
     gad-said p q wide r i h = h ∙ ap (λ x. gadFound sheet (found 31 x sheet p)) i ∙ ap (openedAs Refused look) (sym q ∙ e) ∙ gad-answers
-
-module _ (sheet : List ℕ) (f x : Found) (e : f ≡ x) where
-  pub gad-absent : f ≡ finding.Nothing → Absent ≡ gadFound sheet x
-  gad-absent q = ap (gadFound sheet) (sym q ∙ e)
-
-  pub gad-there : (p : Place) → f ≡ finding.At p → (a : GadArea) → a ≡ gadSeen (codeAt sheet p) → Is a ≡ gadFound sheet x
-  gad-there p q a h = ap Is h ∙ ap (gadFound sheet) (sym q ∙ e)

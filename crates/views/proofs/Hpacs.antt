@@ -14,11 +14,8 @@ use Rattle.layout.specs.Walks.{Walks}
 use Rattle.message.specs.declared.State.{State}
 use Rattle.message.specs.Machine.{fieldOf, stepOf}
 use Rattle.message.specs.Messages.{hpacMessage, hpacLayout, byConstellation, constellationOf}
-use Rattle.views.specs.declared.hpacarea.HpacArea.{HpacArea}
 use Rattle.views.specs.declared.hpacarea.HpacAnswer.{HpacAnswer}
 use Rattle.views.specs.declared.hpacarea.HpacAnswer.the-variants.{Is, Absent, Refused}
-use Rattle.views.specs.declared.places.Found.{Found}
-use Rattle.views.specs.declared.places.Found.the-variants as finding
 use Rattle.views.specs.declared.places.Opened.{Opened}
 use Rattle.views.specs.declared.places.Opened.the-variants as opening
 use Rattle.views.specs.declared.places.Place.{Place}
@@ -26,7 +23,7 @@ use Rattle.views.specs.Along.{headed, goes-finds, finds-first}
 use Rattle.views.specs.AlongHpac.{hpacSeen, hpacFound, over-area, over-head}
 use Rattle.views.specs.Hpacs.{hpacAreas, hpacEntries, hpacArea, firstHpac, hpacAnswerOf}
 use Rattle.views.specs.Judged.{forConstellation}
-use Rattle.views.specs.Places.{opened, codeAt, found}
+use Rattle.views.specs.Places.{opened, found}
 use Rattle.views.specs.Taken.{openedAs, Looks, opens}
 
 hpac-finds : (c : Constellation) (id : ℕ) (sheet : List ℕ) (s : State) → Walks fieldOf stepOf s (hpacLayout c) → Holds (hpacLayout c) sheet 0
@@ -62,10 +59,3 @@ module _ (subtype id : ℕ) (sheet : List ℕ) where
 
     pub hpac-said : (p : Place) → o ≡ opening.At p → (wide : ℕ) (r : HpacAnswer) → wide ≡ id → r ≡ hpacFound sheet (found 31 wide sheet p) → r ≡ hpacAnswerOf subtype id sheet
     hpac-said p q wide r i h = h ∙ ap (λ x. hpacFound sheet (found 31 x sheet p)) i ∙ ap (openedAs Refused look) (sym q ∙ e) ∙ hpac-answers
-
-module _ (sheet : List ℕ) (f x : Found) (e : f ≡ x) where
-  pub hpac-absent : f ≡ finding.Nothing → Absent ≡ hpacFound sheet x
-  hpac-absent q = ap (hpacFound sheet) (sym q ∙ e)
-
-  pub hpac-there : (p : Place) → f ≡ finding.At p → (a : HpacArea) → a ≡ hpacSeen (p .at) (codeAt sheet p) → Is a ≡ hpacFound sheet x
-  hpac-there p q a h = ap Is h ∙ ap (hpacFound sheet) (sym q ∙ e)

@@ -1,10 +1,13 @@
 -- Definitions to believe: an area of a BPAC sheet by its ID (document 000, tables 6.25 to 6.28). "A BPAC area ID and an area ID are counted apart."
 use mathlib.Core.List.{List}
 use Prim.Native.Nat.{ℕ, _+_, _*_}
+use lib.Dec.{ltb}
 use lib.ListN.{length}
 use Rattle.answer.specs.Number.{numberOf}
+use Rattle.answer.specs.declared.Refusal.the-variants as refusal
 use Rattle.bpac.specs.Bpac as bpac
-use Rattle.layout.specs.Layout.{done}
+use Rattle.fields.specs.Fields.{sf}
+use Rattle.layout.specs.Layout.{done, pick}
 use Rattle.layout.specs.Record.{recordOf}
 use Rattle.sheet.specs.Sheet.{judgedSheet}
 use Rattle.views.specs.declared.bpacarea.BpacArea.{BpacArea}
@@ -40,9 +43,16 @@ bpacArea start a =
 abbrev pub firstBpac : ℕ → List bpac.Area → BpacAnswer
 firstBpac id areas = first (λ (a : bpac.Area). a .id) bpacEntries (λ at a. bpacAnswer.Is (bpacArea at a)) bpacAnswer.Absent id 4 areas
 
--- what `bpac_area` answers
+-- SF072 has two bits: an ID over 3 is an argument outside its range, FIELD
+abbrev pub ifBpacId : (id : ℕ) → BpacAnswer → BpacAnswer
+ifBpacId id rest = pick (ltb (sf 72 .most) id) (bpacAnswer.Refused refusal.Field) rest
+
+-- what `bpac_area` answers: the sheet is judged first, then the ID
 unfoldable pub bpacAnswerOf : (id : ℕ) (sheet : List ℕ) → BpacAnswer
-bpacAnswerOf id sheet = ifTaken (judgedSheet 3 0 sheet) bpacAnswer.Refused (firstBpac id (bpacAreas sheet))
+bpacAnswerOf id sheet =
+    ifTaken (judgedSheet 3 0 sheet) bpacAnswer.Refused (
+    ifBpacId id (
+    firstBpac id (bpacAreas sheet)))
 
 abbrev pub numberOfBpac : BpacAnswer → ℕ
 numberOfBpac (bpacAnswer.Is area) = 0

@@ -81,3 +81,35 @@ cut-short = refl
 not-bpac : bpacAnswerOf 3 seven ≡ bpac.Refused refusal.Field
 unfolding bpacAnswerOf judgedSheet judgingSheet writeL judge bitsOf sf lineOf find table
 not-bpac = refl
+
+-- a BPAC of area 3, one node without a VTEC block
+abbrev three : List ℕ
+three = 5 ∷ 0 ∷ 1 ∷ 0 ∷ 3 ∷ 85 ∷ 180 ∷ 0 ∷ 0 ∷ 0 ∷ 1 ∷ 2047 ∷ 0 ∷ []
+
+area-three : bpacAnswerOf 3 three
+    ≡ bpac.Is (record {
+      start = 4;
+      latitude = inUnit 73 85;
+      longitude = inUnit 74 180;
+      rows = 1;
+      columns = 1;
+      «latitude_spacing» = inUnit 77 0;
+      «longitude_spacing» = inUnit 78 1;
+      average = inUnit 80 2047;
+    })
+unfolding bpacAnswerOf first judgedSheet judgingSheet writeL judge bitsOf recordFrom ones onesIn countIn countOf valueOf sf lineOf find table
+area-three = refl
+
+no-area-two : bpacAnswerOf 2 three ≡ bpac.Absent
+unfolding bpacAnswerOf first judgedSheet judgingSheet writeL judge bitsOf recordFrom ones onesIn sf lineOf find table
+no-area-two = refl
+
+-- SF072 has no 4
+area-four : bpacAnswerOf 4 three ≡ bpac.Refused refusal.Field
+unfolding bpacAnswerOf judgedSheet judgingSheet writeL judge bitsOf ones onesIn sf lineOf find table
+area-four = refl
+
+-- the sheet is judged before the ID: it ends an entry early
+cut-before-four : bpacAnswerOf 4 (5 ∷ 0 ∷ 1 ∷ 0 ∷ 3 ∷ 85 ∷ 180 ∷ 0 ∷ 0 ∷ 0 ∷ 1 ∷ 2047 ∷ []) ≡ bpac.Refused refusal.Short
+unfolding bpacAnswerOf judgedSheet judgingSheet writeL judge ones onesIn sf lineOf find table
+cut-before-four = refl

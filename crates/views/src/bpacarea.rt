@@ -1,7 +1,7 @@
 // Areas of BPAC by their ID, SF072: "A BPAC area ID and an area ID are counted apart". The first block with the ID is the one that is found.
 ghost use mathlib.Core.Path.{_≡_};
 ghost use Rattle.views.specs.AlongBpac.{bpacSeen, bpacFound};
-ghost use Rattle.views.specs.Bpacs.{bpacAnswerOf, numberOfBpac};
+ghost use Rattle.views.specs.Bpacs.{ifBpacId, bpacAnswerOf, numberOfBpac};
 ghost use Rattle.views.specs.Places.{codeAt, found};
 use crate::places::Found;
 use crate::places::Opened;
@@ -27,7 +27,7 @@ pub struct BpacArea {
     pub average: f64,
 }
 
-// What `bpac_area` answers: the area, that no block has the ID, or the writer's refusal of the sheet.
+// What `bpac_area` answers: the area, that no block has the ID, or a refusal: the writer's of the sheet, or FIELD for an ID over 3.
 pub enum BpacAnswer {
     Is(BpacArea),
     Absent,
@@ -50,10 +50,14 @@ fn bpac_block(place: Place, sheet: &[u64]) -> BpacArea
     }
 }
 
-// The first block with the ID.
+// The first block with the ID; one that SF072 cannot have is FIELD.
 fn bpac_from(start: Place, id: u64, sheet: &[u64]) -> BpacAnswer
-    ensures { λ r. ⌜ r ≡ bpacFound (now (sheet .entry)) (found 72 id (now (sheet .entry)) start) ⌝ }
+    ensures { λ r. ⌜ r ≡ ifBpacId id (bpacFound (now (sheet .entry)) (found 72 id (now (sheet .entry)) start)) ⌝ }
 {
+    let field = fields::sf(72);
+    if field.most < id {
+        return BpacAnswer::Refused(Refusal::Field);
+    }
     match find(start, sheet, 72, id) {
         Found::Nothing => BpacAnswer::Absent,
         Found::At(place) => BpacAnswer::Is(bpac_block(place, sheet)),

@@ -1,5 +1,5 @@
 -- Past the end a list gives 0.
-use Rattle.export.proofs.Laws.{none-there}
+use lib.ListN.{List·getD-eq-default}
 use borrow.Author.Needs.{needs}
 use Rattle.export.proofs.numbers.at.Statement.{statement}
 use Rattle.export.proofs.numbers.at.Tie as tie
@@ -14,7 +14,7 @@ returns : tie.Need-returns
 returns c = search needs
 
 returns-2 : tie.Need-returns-2
-returns-2 c = search (none-there, needs)
+returns-2 c = let h = c .if1 .left in rw List·getD-eq-default
 
 pub at-spec : {M : Type 1} → statement M
 at-spec = tie.close (tie.spec mul-result shared-slice-read-result returns returns-2)

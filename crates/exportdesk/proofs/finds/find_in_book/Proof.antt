@@ -10,7 +10,7 @@ use Rattle.exportdesk.proofs.finds.find_in_book.Statement.{statement}
 use Rattle.exportdesk.proofs.finds.find_in_book.Tie as tie
 
 returns : tie.Need-returns
-returns c = (search (is-told (length {A = ℕ}) [], no-book-found, needs), search (is-left laid [], no-book-found, laid-none, needs))
+returns c = (search (is-told (length {A = ℕ}) [], no-book-found, needs), search (is-left (laid {A = ℕ}) [], no-book-found, laid-none, needs))
 
 book-in-requires : tie.Need-book-in-requires
 book-in-requires c κs = search needs
@@ -25,7 +25,7 @@ same-length : tie.Need-same-length
 same-length c = search needs
 
 returns-2 : tie.Need-returns-2
-returns-2 c = (search (is-told (length {A = ℕ}), book-found, needs), search (is-left laid, book-found, needs))
+returns-2 c = (search (is-told (length {A = ℕ}), book-found, needs), search (is-left (laid {A = ℕ}), book-found, needs))
 
 pub find-in-book-spec : {M : Type 1} → statement M
 find-in-book-spec =

@@ -10,7 +10,7 @@ use Rattle.exportdesk.proofs.finds.find_in_desk.Statement.{statement}
 use Rattle.exportdesk.proofs.finds.find_in_desk.Tie as tie
 
 returns : tie.Need-returns
-returns c = (search (is-told (length {A = ℕ}) [], no-desk-found, needs), search (is-left laid [], no-desk-found, laid-none, needs))
+returns c = (search (is-told (length {A = ℕ}) [], no-desk-found, needs), search (is-left (laid {A = ℕ}) [], no-desk-found, laid-none, needs))
 
 desk-in-requires : tie.Need-desk-in-requires
 desk-in-requires c κs = search needs
@@ -25,7 +25,7 @@ same-length : tie.Need-same-length
 same-length c = search needs
 
 returns-2 : tie.Need-returns-2
-returns-2 c = (search (is-told (length {A = ℕ}), desk-found, needs), search (is-left laid, desk-found, needs))
+returns-2 c = (search (is-told (length {A = ℕ}), desk-found, needs), search (is-left (laid {A = ℕ}), desk-found, needs))
 
 pub find-in-desk-spec : {M : Type 1} → statement M
 find-in-desk-spec =

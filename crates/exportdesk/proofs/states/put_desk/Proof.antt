@@ -1,11 +1,41 @@
--- The nine numbers of a desk.
-use Rattle.export.specs.Stored.{stored-as}
+-- Each place holds what its field says.
+use Rattle.exportdesk.specs.States.{deskOf}
 use borrow.Author.Needs.{needs}
 use Rattle.exportdesk.proofs.states.put_desk.Statement.{statement}
 use Rattle.exportdesk.proofs.states.put_desk.Tie as tie
 
-desk-of-requires : tie.Need-desk-of-requires
-desk-of-requires c κs = search needs
+run-book-requires : tie.Need-run-book-requires
+run-book-requires c κs = search needs
+
+wide-requires : tie.Need-wide-requires
+wide-requires c κs = search needs
+
+wide-requires-2 : tie.Need-wide-requires-2
+wide-requires-2 c κs = search needs
+
+subtype-of-requires : tie.Need-subtype-of-requires
+subtype-of-requires c κs = search needs
+
+wide-requires-3 : tie.Need-wide-requires-3
+wide-requires-3 c κs = search needs
+
+aiou-of-requires : tie.Need-aiou-of-requires
+aiou-of-requires c κs = search needs
+
+count-requires : tie.Need-count-requires
+count-requires c κs = search needs
+
+is-open-requires : tie.Need-is-open-requires
+is-open-requires c κs = search needs
+
+tag-of-requires : tie.Need-tag-of-requires
+tag-of-requires c κs = search needs
+
+aiou-of-requires-2 : tie.Need-aiou-of-requires-2
+aiou-of-requires-2 c κs = search needs
+
+count-requires-2 : tie.Need-count-requires-2
+count-requires-2 c κs = search needs
 
 slice-aggregate-put : tie.Need-slice-aggregate-put
 slice-aggregate-put c = search needs
@@ -17,8 +47,25 @@ same-length : tie.Need-same-length
 same-length c = search needs
 
 returns : tie.Need-returns
-returns c = search (stored-as, needs)
+unfolding deskOf
+returns c = cc
 
 pub put-desk-spec : {M : Type 1} → statement M
 put-desk-spec =
-    tie.close (tie.spec desk-of-requires slice-aggregate-put put-requires same-length returns)
+    tie.close
+    (tie.spec
+    run-book-requires
+    wide-requires
+    wide-requires-2
+    subtype-of-requires
+    wide-requires-3
+    aiou-of-requires
+    count-requires
+    is-open-requires
+    tag-of-requires
+    aiou-of-requires-2
+    count-requires-2
+    slice-aggregate-put
+    put-requires
+    same-length
+    returns)

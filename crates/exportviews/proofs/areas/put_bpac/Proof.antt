@@ -1,7 +1,6 @@
 -- The numbers and the floats are the area's.
 use Rattle.exportviews.specs.Areas.{bpacNumbersOf, bpacFloatsOf}
 use Rattle.export.specs.Stored.{laid-there}
-use Rattle.exportviews.proofs.Laws.{floats-as}
 use borrow.Author.Needs.{needs}
 use Rattle.exportviews.proofs.areas.put_bpac.Statement.{statement}
 use Rattle.exportviews.proofs.areas.put_bpac.Tie as tie
@@ -29,7 +28,7 @@ same-length-2 c = search needs
 
 returns : tie.Need-returns
 unfolding bpacNumbersOf bpacFloatsOf
-returns c = (search (laid-there, needs), search (floats-as, needs))
+returns c = (search (laid-there, needs), search (laid-there, needs))
 
 pub put-bpac-spec : {M : Type 1} → statement M
 put-bpac-spec =

@@ -1,7 +1,6 @@
 -- The numbers and the floats are the area's.
 use Rattle.exportviews.specs.Areas.{gadNumbersOf, gadFloatsOf}
 use Rattle.export.specs.Stored.{laid-there}
-use Rattle.exportviews.proofs.Laws.{floats-as}
 use borrow.Author.Needs.{needs}
 use Rattle.exportviews.proofs.areas.put_gad.Statement.{statement}
 use Rattle.exportviews.proofs.areas.put_gad.Tie as tie
@@ -26,7 +25,7 @@ same-length-2 c = search needs
 
 returns : tie.Need-returns
 unfolding gadNumbersOf gadFloatsOf
-returns c = (search (laid-there, needs), search (floats-as, needs))
+returns c = (search (laid-there, needs), search (laid-there, needs))
 
 pub put-gad-spec : {M : Type 1} → statement M
 put-gad-spec =

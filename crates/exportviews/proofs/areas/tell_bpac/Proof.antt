@@ -1,7 +1,7 @@
 -- A case for each answer.
 use Rattle.exportviews.specs.Areas.{toldBpac}
 use Rattle.export.proofs.Laws.{laid-none}
-use Rattle.exportviews.proofs.Laws.{number-of, numbers-of, floats-of, laid-no-float}
+use Rattle.exportviews.proofs.Laws.{number-of, numbers-of, floats-of}
 use borrow.Author.Needs.{needs}
 use Rattle.exportviews.proofs.areas.tell_bpac.Statement.{statement}
 use Rattle.exportviews.proofs.areas.tell_bpac.Tie as tie
@@ -39,11 +39,11 @@ same-length-3 c = search needs
 
 returns-2 : tie.Need-returns-2
 unfolding toldBpac
-returns-2 c = (search (number-of toldBpac, needs), (search (numbers-of toldBpac, needs), search (floats-of toldBpac, laid-no-float, needs)))
+returns-2 c = (search (number-of toldBpac, needs), (search (numbers-of toldBpac, needs), search (floats-of toldBpac, laid-none, needs)))
 
 returns-3 : tie.Need-returns-3
 unfolding toldBpac
-returns-3 c = (search (number-of toldBpac, needs), (search (numbers-of toldBpac, laid-none, needs), search (floats-of toldBpac, laid-no-float, needs)))
+returns-3 c = (search (number-of toldBpac, needs), (search (numbers-of toldBpac, laid-none, needs), search (floats-of toldBpac, laid-none, needs)))
 
 pub tell-bpac-spec : {M : Type 1} → statement M
 tell-bpac-spec =

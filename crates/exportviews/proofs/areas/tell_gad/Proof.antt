@@ -1,7 +1,7 @@
 -- A case for each answer.
 use Rattle.exportviews.specs.Areas.{toldGad}
 use Rattle.export.proofs.Laws.{laid-none}
-use Rattle.exportviews.proofs.Laws.{number-of, numbers-of, floats-of, laid-no-float}
+use Rattle.exportviews.proofs.Laws.{number-of, numbers-of, floats-of}
 use borrow.Author.Needs.{needs}
 use Rattle.exportviews.proofs.areas.tell_gad.Statement.{statement}
 use Rattle.exportviews.proofs.areas.tell_gad.Tie as tie
@@ -39,11 +39,11 @@ same-length-3 c = search needs
 
 returns-2 : tie.Need-returns-2
 unfolding toldGad
-returns-2 c = (search (number-of toldGad, needs), (search (numbers-of toldGad, needs), search (floats-of toldGad, laid-no-float, needs)))
+returns-2 c = (search (number-of toldGad, needs), (search (numbers-of toldGad, needs), search (floats-of toldGad, laid-none, needs)))
 
 returns-3 : tie.Need-returns-3
 unfolding toldGad
-returns-3 c = (search (number-of toldGad, needs), (search (numbers-of toldGad, laid-none, needs), search (floats-of toldGad, laid-no-float, needs)))
+returns-3 c = (search (number-of toldGad, needs), (search (numbers-of toldGad, laid-none, needs), search (floats-of toldGad, laid-none, needs)))
 
 pub tell-gad-spec : {M : Type 1} → statement M
 tell-gad-spec =

@@ -1,7 +1,6 @@
 -- The numbers and the floats are the blocks'.
-use Rattle.exportviews.specs.Satellites.{blocksNumbers}
+use Rattle.exportviews.specs.Satellites.{blocksNumbers, blocksFloats}
 use Rattle.export.specs.Stored.{laid-there}
-use Rattle.exportviews.proofs.Laws.{floats-as}
 use borrow.Author.Needs.{needs}
 use Rattle.exportviews.proofs.satellites.put_blocks.Statement.{statement}
 use Rattle.exportviews.proofs.satellites.put_blocks.Tie as tie
@@ -31,8 +30,8 @@ same-length-2 : tie.Need-same-length-2
 same-length-2 c = search needs
 
 returns : tie.Need-returns
-unfolding blocksNumbers
-returns c = (search (laid-there, needs), search (floats-as, needs))
+unfolding blocksNumbers blocksFloats
+returns c = (search (laid-there, needs), search (laid-there, needs))
 
 pub put-blocks-spec : {M : Type 1} → statement M
 put-blocks-spec =

@@ -1,7 +1,7 @@
 -- A case for each answer.
 use Rattle.exportviews.specs.Satellites.{toldSatellite}
 use Rattle.export.proofs.Laws.{laid-none}
-use Rattle.exportviews.proofs.Laws.{number-of, numbers-of, floats-of, laid-no-float}
+use Rattle.exportviews.proofs.Laws.{number-of, numbers-of, floats-of}
 use borrow.Author.Needs.{needs}
 use Rattle.exportviews.proofs.satellites.tell_satellite.Statement.{statement}
 use Rattle.exportviews.proofs.satellites.tell_satellite.Tie as tie
@@ -30,7 +30,7 @@ returns c = (search (number-of toldSatellite, needs), (search (numbers-of toldSa
 
 returns-2 : tie.Need-returns-2
 unfolding toldSatellite
-returns-2 c = (search (number-of toldSatellite, needs), (search (numbers-of toldSatellite, laid-none, needs), search (floats-of toldSatellite, laid-no-float, needs)))
+returns-2 c = (search (number-of toldSatellite, needs), (search (numbers-of toldSatellite, laid-none, needs), search (floats-of toldSatellite, laid-none, needs)))
 
 pub tell-satellite-spec : {M : Type 1} → statement M
 tell-satellite-spec =

@@ -1,6 +1,7 @@
 -- Out of use, or in use.
 use Rattle.exportviews.specs.Satellites.{useNumbers, useFloats}
-use Rattle.exportviews.proofs.Laws.{use-numbers, use-floats, laid-no-float}
+use Rattle.export.proofs.Laws.{laid-none}
+use Rattle.exportviews.proofs.Laws.{use-numbers, use-floats}
 use borrow.Author.Needs.{needs}
 use Rattle.exportviews.proofs.satellites.tell_use.Statement.{statement}
 use Rattle.exportviews.proofs.satellites.tell_use.Tie as tie
@@ -22,7 +23,7 @@ same-length c = search needs
 
 returns : tie.Need-returns
 unfolding useNumbers useFloats
-returns c = (search (use-numbers, needs), search (use-floats, laid-no-float, needs))
+returns c = (search (use-numbers, needs), search (use-floats, laid-none, needs))
 
 same-length-2 : tie.Need-same-length-2
 same-length-2 c = search needs

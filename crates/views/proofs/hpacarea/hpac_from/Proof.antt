@@ -1,5 +1,7 @@
 -- `hpac_from`: the place that is found, or none.
-use Rattle.views.proofs.Hpacs.{hpac-absent, hpac-there}
+use Rattle.views.specs.declared.hpacarea.HpacAnswer.the-variants.{Is}
+use Rattle.views.specs.AlongHpac.{hpacFound}
+use Rattle.views.proofs.Calls.{found-as, same}
 use borrow.Author.Needs.{needs}
 use Rattle.views.proofs.hpacarea.hpac_from.Statement.{statement}
 use Rattle.views.proofs.hpacarea.hpac_from.Tie as tie
@@ -17,10 +19,10 @@ hpac-block-requires : tie.Need-hpac-block-requires
 hpac-block-requires c κs = search needs
 
 returns : tie.Need-returns
-returns c = search (hpac-absent, needs)
+returns c = search (found-as hpacFound, needs)
 
 returns-2 : tie.Need-returns-2
-returns-2 c = search (hpac-there, needs)
+returns-2 c = search (found-as hpacFound, same Is, needs)
 
 pub hpac-from-spec : {M : Type 1} → statement M
 hpac-from-spec =
