@@ -1,12 +1,13 @@
--- With `raw` the program writes the run log of the uncut stream: the bytes that go out, portion after portion and at the end, are those that document 01 lays down for all
--- bytes that came, by the desk that the command line asked for, however the reads cut them. Proved.
+-- With `raw` the program writes the run log of the uncut stream: the bytes that go out, portion after portion and at the end, are those that document 01 lays down for the
+-- portions that were told, joined, by the desk that the command line asked for, however they are cut. Proved.
 use mathlib.Core.Path.{_≡_, refl, sym, ap, ap₂, _∙_, subst}
 use mathlib.Core.Bool.{Bool, true}
 use mathlib.Core.List.{List, [], _∷_, _++_, flatten}
 use Prim.Native.Nat.{ℕ, _≤_}
 use native.Mathlib.Omega.{arith}
 use lib.ListN.{length, replicate, length-replicate}
-use Rattle.text.specs.Text.{waiting, sayAll}
+use Rattle.text.specs.Text.{waiting, sayAll, wholeOut, Short}
+use Rattle.text.specs.Output.{whole-out}
 use Rattle.sizes.specs.Sizes.{longestFrame, bookBytes, logRoom}
 use Rattle.stream.specs.Scan.{scan}
 use Rattle.stream.specs.Driver.{Clear, waits}
@@ -28,8 +29,8 @@ use Rattle.runlog.specs.declared.Done.the-variants as done
 use Rattle.runlog.specs.Command.{jobOf}
 use Rattle.runlog.specs.Telling.{logsOf}
 use Rattle.runlog.specs.Running.{Reads, toldIn, AllTold, atStart, Ran, Does}
-use Rattle.runlog.specs.Outgoing.{outWith, outIn, outOf}
-use Rattle.runlog.specs.Joined.{Short, all-joined, logs-join, told-short, short-parts}
+use Rattle.runlog.specs.Outgoing.{outIn, outOf}
+use Rattle.runlog.specs.Joined.{logs-join, told-short, logs-parts}
 
 portion-then : {s s₁ s₂ : State} {p : List ℕ} {ps : List (List ℕ)} {ts us : List uncut.Told} → Feeds waits s (p ∷ []) ts s₁ → Feeds waits s₁ ps us s₂
     → Feeds waits s (p ∷ ps) (ts ++ us) s₂
@@ -44,17 +45,17 @@ portions-feed (Reads.a-portion at told rest) = portion-then (told .feeds) (porti
 
 -- what goes out while something is told, and behind it, is its run log
 told-joined : (o o₁ : List ℕ) (at : ℕ) (ts : List uncut.Told) → waiting o₁ at ≡ sayAll (waiting o 0) (logsOf ts) → logRoom ≤ length o → Short logRoom (logsOf ts)
-    → (outWith o ts o₁ at ≡ runLog ts) × (length o₁ ≡ length o)
+    → (wholeOut o (logsOf ts) o₁ at ≡ runLog ts) × (length o₁ ≡ length o)
 told-joined o o₁ at ts e h s =
-    let r = all-joined (logsOf ts) logRoom o 0 h s in
-    (ap (λ w. outWith o ts (w .out) (w .at)) e ∙ r .0 ∙ logs-join ts, ap (λ w. length (w .out)) e ∙ r .1)
+    let r = whole-out o o₁ at logRoom (logsOf ts) e h s in
+    (r .0 ∙ logs-join ts, r .1)
 
 portions-joined : {raw : Bool} {s s₁ : State} {o o₁ : List ℕ} {ps : List (List ℕ)} → raw ≡ true → (r : Reads raw s o ps s₁ o₁) → logRoom ≤ length o → Short logRoom (logsOf (toldIn r))
     → (outIn r ≡ runLog (toldIn r)) × (length o₁ ≡ length o)
 unfolding toldIn outIn runLog
 portions-joined q Reads.no-more h s = (refl, refl)
 portions-joined q (Reads.a-portion {o = o} {o₁ = p} at told rest) h s =
-    let d = short-parts logRoom (told .told) (toldIn rest) s in
+    let d = logs-parts (told .told) (toldIn rest) s in
     let j = told-joined o p at (told .told) (told .says q) h (d .0) in
     let l = j .1 in
     let r = portions-joined q rest (omega arith) (d .1) in
@@ -81,7 +82,7 @@ module _ {raw : Bool} {books : Held} {bytes out bytes₂ live₂ run₂ out₂ :
   out-uncut q h =
       let ts = toldIn (a .reads) in
       let us = a .closes .ends .told in
-      let s = short-parts logRoom ts us (subst (λ ts. Short logRoom (logsOf ts)) (sym told-uncut) (told-short (scan (flatten (a .portions))) books sound)) in
+      let s = logs-parts ts us (subst (λ ts. Short logRoom (logsOf ts)) (sym told-uncut) (told-short (scan (flatten (a .portions))) books sound)) in
       let r = portions-joined q (a .reads) h (s .0) in
       let l = r .1 in
       let j = told-joined (a .out₁) out₂ (a .closes .at′) us (a .closes .ends .says q) (omega arith) (s .1) in
