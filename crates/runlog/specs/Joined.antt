@@ -1,16 +1,15 @@
 -- Laws: what goes out while texts are said, and behind them, is those texts joined, if each has room in the buffer; and the entries of each event have room where there is
 -- room for a frame's log. Proved.
-use mathlib.Core.Path.{_≡_, refl, sym, ap, ap₂, _∙_, subst}
+use mathlib.Core.Path.{_≡_, refl, sym, ap, _∙_, subst}
 use mathlib.Core.Bool.{Bool, true, false, cond}
 use mathlib.Core.List.{List, [], _∷_, _++_, append-assoc, append-nil, flatten}
 use Prim.Native.Nat.{ℕ, _+_, _≤_}
 use native.Mathlib.Omega.{arith}
 use lib.Dec.{leb}
 use lib.ListN.{length, take, replicate, length-replicate}
-use borrow.Author.Tests.{leb-true, le-leb}
-use Rattle.text.specs.Text.{fits, endAfter, outAfter, placeFor, waitingAfter, saidAfter, Waiting, waiting, sayAll}
+use borrow.Author.Tests.{leb-true}
+use Rattle.text.specs.Text.{fits, endAfter, outAfter, placeFor, waitingAfter, saidAfter, waiting, sayAll}
 use Rattle.text.specs.Parts.{end-is, out-length, front-is}
-use Rattle.frame.specs.declared.Frame.{Frame}
 use Rattle.sizes.specs.Sizes.{logRoom}
 use Rattle.stream.specs.Scan.{Event, frame, noise}
 use Rattle.desk.specs.Take as desk
