@@ -1,5 +1,5 @@
 -- The reads of `runlog`, in plain values: each that brings something is a portion, which is told, and the portions so far are told from the start on.
-use mathlib.Core.Path.{_≡_, refl, sym, ap, _∙_, subst}
+use mathlib.Core.Path.{_≡_, refl, sym, ap, _∙_}
 use mathlib.Core.Bool.{Bool, true, false, not, _&&_}
 use mathlib.Core.Logic.{_⊎_, inl, inr}
 use mathlib.Core.List.{List, [], _∷_, _++_}
@@ -24,7 +24,7 @@ use Rattle.runlog.specs.declared.Done.the-variants as done
 use Rattle.runlog.specs.Command.{jobOf}
 use Rattle.runlog.specs.Events.{Prepared}
 use Rattle.runlog.specs.Telling.{stateOf, some, Told, Ended}
-use Rattle.runlog.specs.Running.{Reads, Came, Closed, AllTold, atStart, Ran, Does}
+use Rattle.runlog.specs.Running.{Reads, Came, Closed, AllTold, Ran, Does}
 use Rattle.runlog.proofs.Turns.{Turning, next-turn}
 
 -- ---- a read
