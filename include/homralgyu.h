@@ -10,8 +10,9 @@
  * Everything else is tested: there is no other way to call these functions wrongly.
  *
  * A call writes inside the slices that it may write to and nowhere else. A slice under its stated size is ROOM, unless the call says
- * otherwise; a longer one is fine, its surplus is neither read nor written. A refusal (a number other than 0) changes nothing. On success, places behind what is written stay as
- * lent. No call keeps a pointer, takes memory or reads anything but its arguments (the language has no way to).
+ * otherwise; a longer one is fine, its surplus is neither read nor written. A refusal (a number other than 0) changes nothing. On
+ * success, places behind what is written stay as lent. No call keeps a pointer, takes memory or reads anything but its arguments (the
+ * language has no heap and keeps no pointer, and no crate below these calls the C library).
  *
  * That each call does what is said of it below is proved, for all arguments (specs/ of crates/export, crates/exportviews, crates/exportdesk and
  * crates/exportprepare).

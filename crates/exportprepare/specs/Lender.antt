@@ -43,7 +43,8 @@ LendsRoom lends = (x : Point) → HasRoom (sameAgain x) → HasRoom (lends x)
 abbrev pub Cutter : Type 0
 Cutter = Point → (rest : List ℕ) → ℕ
 
--- while bytes are left, a call that said hungry is followed by one that is handed some; the call behind an event may be handed none
+-- while bytes are left, a call that said hungry is followed by one that is handed some; the call behind an event may be handed none. Before the first call the number that is
+-- lent first among the told ones counts as if a call had said it.
 abbrev pub GivesMore : Cutter → Type 0
 GivesMore cuts = (x : Point) (rest : List ℕ) → eventIn (x .left) ≡ 0 → 1 ≤ length rest → 1 ≤ cuts x rest
 

@@ -213,7 +213,7 @@ module _ {lent : Lent} (s : Starts lent) where
         rooms = record { log-room = f .log-room; told-room = f .there .told-room; header-room = f .there .header-room };
       }
 
--- What a lender and a cutter may look at is all that was heard before.
+-- What a lender and a cutter may look at before finish, and at the end, is all that was heard before.
 pub lender-knows : {c : Caller} {lends : Lender} {lent : Lent} {portions : List (List ℕ)} (w : WholeBy c lends lent portions)
     → (w .between .heard ≡ w .before) × (w .end .heard ≡ w .before ++ w .after)
 lender-knows w = let f = feeds-before (w .feeds) in (f, closes-before (w .closes) ∙ ap (λ hs. hs ++ w .after) f)

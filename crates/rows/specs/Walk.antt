@@ -18,8 +18,8 @@ use Rattle.rows.specs.Rows.{widthIn, fieldIn, cellsIn}
 use Rattle.rows.specs.Cells.{cells-none, cells-more}
 use Rattle.rows.specs.Along.{In, Along, stays, decides, passes}
 
--- The position, the place in the sheet and the last code where a walk ends, or its first fault; and the lent list as it is then: what came before is stored in it,
--- and nothing else.
+-- The position, the place in the sheet and the last code where a walk ends, or its first fault; and the lent list as it is then: what came before is stored in it
+-- where it has a place for it, and nothing else.
 pub data Went : Type 0 where
   to : (pos at last : ℕ) (lent : List ℕ) → Went
   stopped : (why : Refusal) (lent : List ℕ) → Went

@@ -56,7 +56,7 @@ wantedBy count first second third fourth =
     numbered (byteOf third) (λ constellation.
     loggedIn (formOf count fourth) solution processor constellation)))
 
--- the desk that is wanted, in the form of its log; if there is none, the usage is said
+-- the desk that is wanted, in the form of its log; if there is none, the usage is to be said
 abbrev pub jobBy : NewDesk → (raw : Bool) → Job
 jobBy (Made desk) raw = Run desk raw
 jobBy (Refused why) raw = Usage

@@ -68,7 +68,7 @@ pub record Ran (desk : Desk) (raw : Bool) (stop : Stop) : Type 0 where
   pub out₂ : List ℕ
   pub all-told : AllTold raw (atStart desk) out bytes₂ live₂ run₂ out₂ stop
 
--- The desk that is wanted runs; if there is none, the usage is said.
+-- The desk that is wanted runs; if there is none, the usage is to be said.
 pub data Does : Job → Done → Type 0 where
   runs : {desk : Desk} {raw : Bool} {stop : Stop} → Ran desk raw stop → Does (job.Run desk raw) (done.Ran stop)
   says-usage : Does job.Usage done.Usage

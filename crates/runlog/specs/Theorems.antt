@@ -1,4 +1,4 @@
--- With `raw` the program writes the run log of the uncut stream: the bytes that go out, portion after portion and at the end, are those that document 01 lays down for the
+-- With `raw` the program's bytes are the run log of the uncut stream: those that go out (Outgoing.antt), portion after portion and at the end, are those that document 01 lays down for the
 -- portions that were told, joined, by the desk that the command line asked for, however they are cut. Proved.
 use mathlib.Core.Path.{_≡_, refl, sym, ap, ap₂, _∙_, subst}
 use mathlib.Core.Bool.{Bool, true}

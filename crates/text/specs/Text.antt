@@ -1,4 +1,4 @@
--- Definitions to believe: a text put behind the first bytes of a lent buffer, a text said behind the bytes that wait in it, and a number in decimal digits.
+-- Definitions to believe: a text put behind the first bytes of a lent buffer, a text said behind the bytes that wait in it, which bytes go out then, and a number in decimal digits.
 use mathlib.Core.Bool.{Bool, cond}
 use mathlib.Core.List.{List, [], _∷_, _++_}
 use Prim.Native.Nat.{ℕ, zero, suc, _+_, _/_, _%_, _≤_}
@@ -50,9 +50,9 @@ unfoldable pub sayAll : Waiting → List (List ℕ) → Waiting
 sayAll w [] = w
 sayAll w (text ∷ texts) = sayAll (waiting (saidAfter (w .out) (w .at) text) (waitingAfter (w .out) (w .at) text)) texts
 
--- the bytes that go out while they are said: those that wait, before a text that has no room behind them
+-- the bytes that go out while they are said: those that wait, if so many are there, before a text that has no room behind them
 abbrev pub goesOut : Waiting → (text : List ℕ) → List ℕ
-goesOut w text = cond (fits (w .out) (w .at) text) [] (take (w .at) (w .out))
+goesOut w text = cond (fits (w .out) (w .at) text) [] (cond (leb (w .at) (length (w .out))) (take (w .at) (w .out)) [])
 
 unfoldable pub goneOut : Waiting → List (List ℕ) → List ℕ
 goneOut w [] = []
