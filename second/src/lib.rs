@@ -16,6 +16,7 @@ pub mod bits;
 pub mod book;
 pub mod checks;
 pub mod desk;
+pub mod entries;
 pub mod frame;
 pub mod generate;
 pub mod groups;
