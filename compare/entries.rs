@@ -214,6 +214,7 @@ fn further(rng: &mut Rng, judge: &mut Judge, bytes: &[u8], entry: &Entry, used: 
             satellite(rng, judge, bytes, k, SATELLITE_ROOM);
         }
     } else {
+        // the first, the last and one further
         let ends = |count: u64| [0, count - 1, count];
         for (k, node) in ends(satellites.max(1)).into_iter().flat_map(|k| ends(nodes).map(|node| (k, node))) {
             residual(rng, judge, bytes, Some(k), node, [RESIDUAL_ROOM, 1]);
@@ -223,6 +224,7 @@ fn further(rng: &mut Rng, judge: &mut Judge, bytes: &[u8], entry: &Entry, used: 
             residual(rng, judge, bytes, None, ends(nodes)[at], [RESIDUAL_ROOM, 1]);
         }
     }
+    marks::outside(judge, entry);
     let (k, node) = corner(rng, entry);
     at_index(rng, judge, bytes, k, node);
     wrapped(rng, judge, bytes, entry, used);

@@ -120,7 +120,7 @@ pub const VIEWS: [&str; 30] = [
 ];
 
 /// What was met of entries that were read, and refused.
-pub const ENTRIES: [&str; 35] = [
+pub const ENTRIES: [&str; 39] = [
     "entry: 1, opened with a book",
     "entry: 1, opened without a book",
     "entry: 2, placed with both",
@@ -145,12 +145,16 @@ pub const ENTRIES: [&str; 35] = [
     "entry: SF063 of 3",
     "entry: SHORT, a number of over 100 groups that does not end",
     "entry: a desk's log to its end",
+    "entry: a node past the last",
+    "entry: a node where T is 0",
     "entry: a residual in TECU",
     "entry: a residual in metres",
+    "entry: a satellite past the last",
     "entry: a satellite's residual invalid",
     "entry: a troposphere residual invalid",
     "entry: all satellites of 1 to 64",
     "entry: all satellites of 193 to 256",
+    "entry: an index where no area is placed",
     "entry: bytes behind it",
     "entry: cut between two numbers",
     "entry: cut inside a number",
@@ -374,6 +378,20 @@ pub fn residual_read(judge: &mut Judge, of_satellite: bool, residual: &Residual)
         Residual::Metres(_) => "entry: a residual in metres",
         Residual::Tecu(_) => "entry: a residual in TECU",
     });
+}
+
+/// Counts what an index outside was to an entry.
+pub fn outside(judge: &mut Judge, entry: &entries::Entry) {
+    match entry {
+        entries::Entry::Placed(placed) => {
+            judge.mark("entry: a satellite past the last");
+            judge.mark(match placed.troposphere {
+                Some(_) => "entry: a node past the last",
+                None => "entry: a node where T is 0",
+            });
+        }
+        _ => judge.mark("entry: an index where no area is placed"),
+    }
 }
 
 /// Counts at which number an entry was too short.
