@@ -144,7 +144,7 @@ pub fn take(
     judge.lent(&input, "the log", &our_log, &log);
     judge.lent(&input, "the bytes written", &our_written, &written);
     judge.lent(&input, "the frame", &our_frame, frame);
-    if let (Ok(taken), true) = (result, rng.one_in(6)) {
+    if let (Ok(taken), true) = (result, rng.one_in(2)) {
         entries::log(rng, judge, &our_log.now()[..taken.logged]);
     }
 }

@@ -37,7 +37,12 @@ fn told(entry: &Entry, used: usize) -> Vec<u64> {
 }
 
 /// The entry that the bytes begin with, with so many places lent for it.
-fn read_into(rng: &mut Rng, judge: &mut Judge, bytes: &[u8], places: usize) -> Result<(Entry, usize), Refusal> {
+fn read_into(
+    rng: &mut Rng,
+    judge: &mut Judge,
+    bytes: &[u8],
+    places: usize,
+) -> Result<(Entry, usize), Refusal> {
     let mut entry = lent_entries(rng, places);
     let said = || format!("bytes {}, {places} places", hex(bytes));
     let input = Input { call: "entry_read", said: &said };
@@ -368,7 +373,12 @@ fn other_areas(rng: &mut Rng, number: u64) -> Vec<u64> {
 // ---- what is tried
 
 /// Both read so, and it must be this.
-fn must_be(judge: &Judge, bytes: &[u8], is: &Result<(Entry, usize), Refusal>, must: Result<(&Entry, usize), Refusal>) {
+fn must_be(
+    judge: &Judge,
+    bytes: &[u8],
+    is: &Result<(Entry, usize), Refusal>,
+    must: Result<(&Entry, usize), Refusal>,
+) {
     let said = || format!("bytes {}", hex(bytes));
     let input = Input { call: "entry_read", said: &said };
     let is = is.as_ref().map(|(entry, used)| (entry, *used)).map_err(|why| *why);
@@ -405,7 +415,8 @@ fn cut(rng: &mut Rng, judge: &mut Judge, bytes: &[u8], end: usize, role: Role) {
 
 /// One number in another form, with the numbers behind it, without them, and without its own end.
 fn change(rng: &mut Rng, judge: &mut Judge, all: &[Place], at: usize, form: &[u8]) {
-    let write = |places: &[Place]| -> Vec<u8> { places.iter().flat_map(|place| groups(place.number)).collect() };
+    let write =
+        |places: &[Place]| -> Vec<u8> { places.iter().flat_map(|place| groups(place.number)).collect() };
     let before = write(&all[..at]);
     let ended = [&before[..], form].concat();
     let place = all[at];
@@ -501,7 +512,8 @@ fn longest(rng: &mut Rng) -> Entry {
         let mut full = |size, top| Grid { size, residuals: (0..64).map(|_| rng.between(128, top)).collect() };
         placed.troposphere = Some(full(1, 255));
         for (satellite, number) in placed.satellites.iter_mut().zip(BANDS[1].clone()) {
-            *satellite = Satellite { number, grid: if number % 2 == 0 { full(2, 1023) } else { full(3, 16383) } };
+            *satellite =
+                Satellite { number, grid: if number % 2 == 0 { full(2, 1023) } else { full(3, 16383) } };
         }
     }
     entry

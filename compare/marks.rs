@@ -357,7 +357,8 @@ pub fn entry_read(judge: &mut Judge, entry: &entries::Entry, used: usize) {
     }
     for satellite in satellites {
         let size = satellite.grid.size as usize;
-        judge.mark(["entry: SF063 of 0", "entry: SF063 of 1", "entry: SF063 of 2", "entry: SF063 of 3"][size]);
+        judge
+            .mark(["entry: SF063 of 0", "entry: SF063 of 1", "entry: SF063 of 2", "entry: SF063 of 3"][size]);
     }
     match satellites.first() {
         Some(first) if satellites.len() == 64 && first.number == 1 => {

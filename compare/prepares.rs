@@ -121,7 +121,7 @@ fn step(
     judge.lent(&input, "the log", &our_log, &log);
     judge.lent(&input, "what was told", &our_told, &told);
     judge.lent(&input, "the header", &our_header, &header);
-    if let (Ok(Prepared { event: Event::Frame { logged, .. }, .. }), true) = (&result, rng.one_in(6)) {
+    if let (Ok(Prepared { event: Event::Frame { logged, .. }, .. }), true) = (&result, rng.one_in(2)) {
         entries::log(rng, judge, &our_log.now()[..*logged]);
     }
     result.ok()
