@@ -500,7 +500,7 @@ fn entries_come_back_and_every_beginning_of_one_is_short() {
 fn broken_entries_reach_every_refusal_and_what_is_accepted_is_one_string_of_bytes() {
     let mut rng = made_from(14);
     let mut reached = BTreeMap::new();
-    for _ in 0..20000 {
+    for _ in 0..8000 {
         let log = broken_entry(&mut rng);
         let result = entries::read(&log);
         *reached.entry(number(&result)).or_insert(0) += 1;
@@ -528,7 +528,7 @@ fn broken_entries_reach_every_refusal_and_what_is_accepted_is_one_string_of_byte
         }
     }
     assert_eq!(reached.keys().copied().collect::<Vec<_>>(), [0, 1, 18]);
-    assert!(reached.values().all(|&count| count > 500), "{reached:?}");
+    assert!(reached.values().all(|&count| count > 200), "{reached:?}");
 }
 
 /// The numbers of a log, entry by entry: what kind it is and, for an area left out, why.
