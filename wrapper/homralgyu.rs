@@ -695,12 +695,7 @@ pub mod raw {
 
     // the run log, read
     extern "C" {
-        fn homralgyu_entry_read(
-            bytes: *const u8,
-            bytes_len: usize,
-            entry: *mut u64,
-            entry_len: usize,
-        ) -> u8;
+        fn homralgyu_entry_read(bytes: *const u8, bytes_len: usize, entry: *mut u64, entry_len: usize) -> u8;
         fn homralgyu_entry_troposphere(
             bytes: *const u8,
             bytes_len: usize,
@@ -749,13 +744,7 @@ pub mod raw {
 
     pub fn entry_satellite(bytes: &[u8], k: u64, satellite: &mut [u64]) -> u8 {
         unsafe {
-            homralgyu_entry_satellite(
-                bytes.as_ptr(),
-                bytes.len(),
-                k,
-                satellite.as_mut_ptr(),
-                satellite.len(),
-            )
+            homralgyu_entry_satellite(bytes.as_ptr(), bytes.len(), k, satellite.as_mut_ptr(), satellite.len())
         }
     }
 
