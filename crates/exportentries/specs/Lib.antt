@@ -1,2 +1,3 @@
 pub mod Entries
-pub mod Small
+pub mod Ranges
+pub mod Theorems

@@ -9,7 +9,7 @@ ghost use Rattle.export.specs.Numbers.{laid, answered, lentAfter};
 ghost use Rattle.export.specs.Meanings.{unitRoom, valueRoom};
 ghost use Rattle.exportviews.specs.Views.{numberTold, viewAfter, floatsAfter};
 ghost use Rattle.exportentries.specs.Entries.{entryRoom, satelliteRoom, aiouPlusOne, countIn, sizeIn, numbersOfOpened, numbersOfPlaced, numbersOfLeftOut, numbersOfEntry, toldEntry, numbersOfResidual, floatsOfResidual, toldResidual, toldSatellite};
-ghost use Rattle.exportentries.specs.Small.{AiouSmall, EntrySmall, AnswerSmall};
+ghost use Rattle.exportentries.specs.Ranges.{AiouIn, EntryIn, AnswerIn};
 use entries::Aiou;
 use entries::Entry;
 use entries::EntryRead;
@@ -37,7 +37,7 @@ const SATELLITE: usize = 2;
 
 // Internal: an AIOU that was read.
 fn aiou_plus_one(aiou: Aiou) -> u64
-    requires { ⌜ AiouSmall aiou ⌝ }
+    requires { ⌜ AiouIn aiou ⌝ }
     ensures { λ r. ⌜ r ≡ aiouPlusOne aiou ⌝ }
 {
     match aiou {
@@ -65,7 +65,7 @@ fn size_in(troposphere: Troposphere) -> u64
 }
 
 fn put_opened(run: Opened, used: usize, entry: &mut [u64])
-    requires { ⌜ AiouSmall (run .aiou) × (entryRoom ≤ length (now entry)) ⌝ }
+    requires { ⌜ AiouIn (run .aiou) × (entryRoom ≤ length (now entry)) ⌝ }
     ensures { λ _. ⌜ now (entry .exit) ≡ laid (numbersOfOpened run used) (now (entry .entry)) ⌝ }
 {
     let aiou = run.aiou;
@@ -102,7 +102,7 @@ fn put_left_out(area: LeftOut, used: usize, entry: &mut [u64])
 
 // Internal: an entry that was read, and room for it.
 fn put_entry(told: Entry, used: usize, entry: &mut [u64])
-    requires { ⌜ EntrySmall told × (entryRoom ≤ length (now entry)) ⌝ }
+    requires { ⌜ EntryIn told × (entryRoom ≤ length (now entry)) ⌝ }
     ensures { λ _. ⌜ now (entry .exit) ≡ laid (numbersOfEntry told used) (now (entry .entry)) ⌝ }
 {
     match told {
@@ -113,7 +113,7 @@ fn put_entry(told: Entry, used: usize, entry: &mut [u64])
 }
 
 fn tell_entry(answer: EntryRead, entry: &mut [u64]) -> u8
-    requires { ⌜ AnswerSmall answer × (entryRoom ≤ length (now entry)) ⌝ }
+    requires { ⌜ AnswerIn answer × (entryRoom ≤ length (now entry)) ⌝ }
     ensures { λ r. ⌜ r ≡ toldEntry answer .number ⌝ }
     ensures { λ _. ⌜ now (entry .exit) ≡ laid (toldEntry answer .numbers) (now (entry .entry)) ⌝ }
 {
