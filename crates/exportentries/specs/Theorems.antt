@@ -106,3 +106,9 @@ residual-whole c d (residual.Metres x) residual.Invalid e f = let z : _≡_ {A =
 residual-whole c d (residual.Metres x) (residual.Tecu y) e f = let z : _≡_ {A = ℕ} 1 3 = at e 0 in absurd (omega arith)
 residual-whole c d (residual.Tecu x) residual.Invalid e f = let z : _≡_ {A = ℕ} 3 0 = at e 0 in absurd (omega arith)
 residual-whole c d (residual.Tecu x) (residual.Metres y) e f = let z : _≡_ {A = ℕ} 3 1 = at e 0 in absurd (omega arith)
+
+-- ---- and two satellites
+
+pub satellite-whole : (i j m n : ℕ) → toldSatellite (satelliteRead.Is i m) .numbers ≡ toldSatellite (satelliteRead.Is j n) .numbers → (i ≡ j) × (m ≡ n)
+unfolding toldSatellite
+satellite-whole i j m n e = (at e 0, at e 1)
