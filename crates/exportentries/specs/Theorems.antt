@@ -1,10 +1,9 @@
 -- Theorems on entries of the run log as numbers and floats: a refusal writes nothing; and nothing of an answer is lost, since two entries, residuals or satellites that are told alike are the
 -- same. Proved; assumes nothing.
-use mathlib.Core.Path.{_≡_, refl, ap, ap₂, sym, _∙_, subst}
-use mathlib.Core.List.{List, []}
-use Prim.Native.Nat.{ℕ, _+_, _≤_}
+use mathlib.Core.Path.{_≡_, refl, ap, subst}
+use mathlib.Core.List.{List}
+use Prim.Native.Nat.{ℕ}
 use native.Mathlib.Omega.{arith}
-use lib.Ieee.{Float}
 use Rattle.bits.specs.Bits.{Bytes}
 use Rattle.area.specs.declared.AreaId.{AreaId}
 use Rattle.values.specs.declared.Residual.{Residual}
@@ -28,7 +27,7 @@ use Rattle.entries.specs.declared.SatelliteRead.{SatelliteRead}
 use Rattle.entries.specs.declared.SatelliteRead.the-variants as satelliteRead
 use Rattle.exportviews.specs.Theorems.{Quiet, QuietNumbers, at, float-at}
 use Rattle.exportentries.specs.Entries.{aiouPlusOne, countIn, sizeIn, numbersOfOpened, numbersOfPlaced, numbersOfLeftOut, numbersOfEntry, toldEntry, numbersOfResidual, floatsOfResidual, toldResidual, toldSatellite}
-use Rattle.exportentries.specs.Ranges.{AiouIn, TroposphereIn, EntryIn, AnswerIn, read-in}
+use Rattle.exportentries.specs.Ranges.{TroposphereIn, EntryIn, AnswerIn, read-in}
 
 -- ---- "A refusal .. alters no lent byte or entry": nothing is told beside a number other than 0, so `lent-leaves` and `refusal-leaves` of crate exportviews say it of these calls
 
@@ -107,3 +106,9 @@ residual-whole c d (residual.Metres x) residual.Invalid e f = let z : _≡_ {A =
 residual-whole c d (residual.Metres x) (residual.Tecu y) e f = let z : _≡_ {A = ℕ} 1 3 = at e 0 in absurd (omega arith)
 residual-whole c d (residual.Tecu x) residual.Invalid e f = let z : _≡_ {A = ℕ} 3 0 = at e 0 in absurd (omega arith)
 residual-whole c d (residual.Tecu x) (residual.Metres y) e f = let z : _≡_ {A = ℕ} 3 1 = at e 0 in absurd (omega arith)
+
+-- ---- and two satellites
+
+pub satellite-whole : (i j m n : ℕ) → toldSatellite (satelliteRead.Is i m) .numbers ≡ toldSatellite (satelliteRead.Is j n) .numbers → (i ≡ j) × (m ≡ n)
+unfolding toldSatellite
+satellite-whole i j m n e = (at e 0, at e 1)
