@@ -14,8 +14,8 @@
  * success, places behind what is written stay as lent. No call keeps a pointer, takes memory or reads anything but its arguments (the
  * language has no heap and keeps no pointer, and no crate below these calls the C library).
  *
- * That each call does what is said of it below is proved, for all arguments (specs/ of crates/export, crates/exportviews, crates/exportdesk and
- * crates/exportprepare).
+ * That each call does what is said of it below is proved, for all arguments (specs/ of crates/export, crates/exportviews, crates/exportdesk,
+ * crates/exportprepare and crates/exportentries).
  */
 #ifndef HOMRALGYU_H
 #define HOMRALGYU_H
@@ -267,6 +267,44 @@ uint8_t homralgyu_prepare_call(uint8_t *bytes, size_t bytes_len, uint64_t *tray,
 uint8_t homralgyu_prepare_finish(uint8_t *bytes, size_t bytes_len, uint64_t *tray, size_t tray_len, uint64_t *desk, size_t desk_len,
                                  uint8_t *live, size_t live_len, uint8_t *run, size_t run_len, uint8_t *log, size_t log_len,
                                  uint64_t *told, size_t told_len, uint64_t *header, size_t header_len);
+
+/* The run log, read: an entry is up to seven numbers. */
+enum homralgyu_entry {
+    HOMRALGYU_ENTRY_KIND,          /* 1 run opened, 2 area placed, 3 area left out */
+    HOMRALGYU_ENTRY_USED,          /* bytes that the entry takes */
+    HOMRALGYU_ENTRY_TAG,           /* of a run: its tag, */
+    HOMRALGYU_ENTRY_AIOU_PLUS_ONE, /* AIOU + 1, 0 without a book, */
+    HOMRALGYU_ENTRY_COUNT,         /* the count of areas in its book; nothing more is written */
+    HOMRALGYU_ENTRY_ID = 2,        /* of an area: its ID, */
+    HOMRALGYU_ENTRY_REASON,        /* if it is left out why, 1 to 4, and nothing more is written; */
+    HOMRALGYU_ENTRY_BITS = 3,      /* if it is placed the 47 bits as a number, */
+    HOMRALGYU_ENTRY_T,             /* T, how many troposphere residuals it has, */
+    HOMRALGYU_ENTRY_T_SIZE,        /* their SF051 code, 0 if T is 0, */
+    HOMRALGYU_ENTRY_S,             /* S, how many satellites it has */
+    HOMRALGYU_ENTRY                /* the room that an entry wants: 7 */
+};
+
+/* Reads the entry that the bytes begin with; bytes behind it are not looked at.
+ * Refusals in order: ROOM (entry, 7), then at the first faulty number in reading order SHORT or FORM.
+ * Writes the entry: five, seven or four numbers, by its kind. */
+uint8_t homralgyu_entry_read(const uint8_t *bytes, size_t bytes_len, uint64_t *entry, size_t entry_len);
+
+/* The troposphere residual of that entry at a node, from 0 on.
+ * Refusals in order: ROOM (what, 2; value, 1), SHORT or FORM as above, FIELD if the entry has no such residual.
+ * Writes into what the unit (0 invalid, 1 metres) and the residual's code; and the value in metres, if it is not invalid. */
+uint8_t homralgyu_entry_troposphere(const uint8_t *bytes, size_t bytes_len, uint64_t node, uint64_t *what, size_t what_len,
+                                    double *value, size_t value_len);
+
+/* Satellite k of that entry, from 0 on.
+ * Refusals in order: ROOM (satellite, 2), SHORT or FORM as above, FIELD if the entry has no such satellite.
+ * Writes into satellite its number and its SF063 code. */
+uint8_t homralgyu_entry_satellite(const uint8_t *bytes, size_t bytes_len, uint64_t k, uint64_t *satellite, size_t satellite_len);
+
+/* The residual of satellite k at a node, both from 0 on.
+ * Refusals in order: ROOM (what, 2; value, 1), SHORT or FORM as above, FIELD if the entry has no such residual.
+ * Writes into what the unit (0 invalid, 3 TECU) and the residual's code; and the value in TECU, if it is not invalid. */
+uint8_t homralgyu_entry_residual(const uint8_t *bytes, size_t bytes_len, uint64_t k, uint64_t node, uint64_t *what, size_t what_len,
+                                 double *value, size_t value_len);
 
 #ifdef __cplusplus
 }

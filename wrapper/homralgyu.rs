@@ -692,6 +692,76 @@ pub mod raw {
             )
         }
     }
+
+    // the run log, read
+    extern "C" {
+        fn homralgyu_entry_read(bytes: *const u8, bytes_len: usize, entry: *mut u64, entry_len: usize) -> u8;
+        fn homralgyu_entry_troposphere(
+            bytes: *const u8,
+            bytes_len: usize,
+            node: u64,
+            what: *mut u64,
+            what_len: usize,
+            value: *mut f64,
+            value_len: usize,
+        ) -> u8;
+        fn homralgyu_entry_satellite(
+            bytes: *const u8,
+            bytes_len: usize,
+            k: u64,
+            satellite: *mut u64,
+            satellite_len: usize,
+        ) -> u8;
+        fn homralgyu_entry_residual(
+            bytes: *const u8,
+            bytes_len: usize,
+            k: u64,
+            node: u64,
+            what: *mut u64,
+            what_len: usize,
+            value: *mut f64,
+            value_len: usize,
+        ) -> u8;
+    }
+
+    pub fn entry_read(bytes: &[u8], entry: &mut [u64]) -> u8 {
+        unsafe { homralgyu_entry_read(bytes.as_ptr(), bytes.len(), entry.as_mut_ptr(), entry.len()) }
+    }
+
+    pub fn entry_troposphere(bytes: &[u8], node: u64, what: &mut [u64], value: &mut [f64]) -> u8 {
+        unsafe {
+            homralgyu_entry_troposphere(
+                bytes.as_ptr(),
+                bytes.len(),
+                node,
+                what.as_mut_ptr(),
+                what.len(),
+                value.as_mut_ptr(),
+                value.len(),
+            )
+        }
+    }
+
+    pub fn entry_satellite(bytes: &[u8], k: u64, satellite: &mut [u64]) -> u8 {
+        unsafe {
+            homralgyu_entry_satellite(bytes.as_ptr(), bytes.len(), k, satellite.as_mut_ptr(), satellite.len())
+        }
+    }
+
+    pub fn entry_residual(bytes: &[u8], k: u64, node: u64, what: &mut [u64], value: &mut [f64]) -> u8 {
+        unsafe {
+            homralgyu_entry_residual(
+                bytes.as_ptr(),
+                bytes.len(),
+                k,
+                node,
+                what.as_mut_ptr(),
+                what.len(),
+                value.as_mut_ptr(),
+                value.len(),
+            )
+        }
+    }
 }
 
 /// A refusal by its number in document 01, 1 to 18.
@@ -799,14 +869,18 @@ pub enum Value {
 pub fn value(sf: u16, code: u64) -> Result<Value, Refusal> {
     let (mut what, mut value) = ([0; 2], [0.0]);
     answer(raw::value(sf, code, &mut what, &mut value), ())?;
-    Ok(match what[0] {
+    Ok(value_of(&what, &value))
+}
+
+fn value_of(what: &[u64; 2], value: &[f64; 1]) -> Value {
+    match what[0] {
         1 => Value::Metres(value[0]),
         2 => Value::Degrees(value[0]),
         3 => Value::Tecu(value[0]),
         4 => Value::Coefficient(value[0]),
         5 => Value::Count(what[1]),
         _ => Value::Invalid,
-    })
+    }
 }
 
 /// The orbit corrections in metres: radial, along-track, cross-track.
@@ -1205,4 +1279,62 @@ fn prepared(told: &[u64; 5], header: &[u64; 15]) -> Prepared {
         2 => Prepared::Noise(told[2]),
         _ => Prepared::Done,
     }
+}
+
+// ---- the run log, read
+
+/// T, the count of troposphere residuals, with their size code SF051.
+#[derive(Clone, Copy, PartialEq, Eq, Debug)]
+pub struct Troposphere {
+    pub count: u64,
+    pub size: u64,
+}
+
+/// An entry of the run log.
+#[derive(Clone, Copy, PartialEq, Eq, Debug)]
+pub enum Entry {
+    /// a run was opened, with so many areas in its book
+    Opened { tag: u64, aiou: Option<u8>, count: u64 },
+    /// an area was placed: its 47 bits, its troposphere residuals if there are any, and so many satellites
+    Placed { id: u8, bits: u64, troposphere: Option<Troposphere>, satellites: u64 },
+    /// an area was left out, for this reason
+    LeftOut { id: u8, reason: u64 },
+}
+
+/// The entry that the bytes begin with, and how many of them it takes.
+pub fn read_entry(bytes: &[u8]) -> Result<(Entry, usize), Refusal> {
+    let mut n = [0; 7];
+    answer(raw::entry_read(bytes, &mut n), ())?;
+    let entry = match n[0] {
+        1 => Entry::Opened { tag: n[2], aiou: (n[3] != 0).then(|| (n[3] - 1) as u8), count: n[4] },
+        2 => Entry::Placed {
+            id: n[2] as u8,
+            bits: n[3],
+            troposphere: (n[4] != 0).then_some(Troposphere { count: n[4], size: n[5] }),
+            satellites: n[6],
+        },
+        _ => Entry::LeftOut { id: n[2] as u8, reason: n[3] },
+    };
+    Ok((entry, n[1] as usize))
+}
+
+/// The troposphere residual of the entry that the bytes begin with, at a node from 0 on: its code, and invalid or its metres.
+pub fn entry_troposphere(bytes: &[u8], node: u64) -> Result<(u64, Value), Refusal> {
+    let (mut what, mut value) = ([0; 2], [0.0]);
+    answer(raw::entry_troposphere(bytes, node, &mut what, &mut value), ())?;
+    Ok((what[1], value_of(&what, &value)))
+}
+
+/// The satellite at a place from 0 on of the entry that the bytes begin with: its number and its SF063 code.
+pub fn entry_satellite(bytes: &[u8], k: u64) -> Result<(u64, u64), Refusal> {
+    let mut n = [0; 2];
+    answer(raw::entry_satellite(bytes, k, &mut n), ())?;
+    Ok((n[0], n[1]))
+}
+
+/// The residual of that satellite at a node from 0 on: its code, and invalid or its TECU.
+pub fn entry_residual(bytes: &[u8], k: u64, node: u64) -> Result<(u64, Value), Refusal> {
+    let (mut what, mut value) = ([0; 2], [0.0]);
+    answer(raw::entry_residual(bytes, k, node, &mut what, &mut value), ())?;
+    Ok((what[1], value_of(&what, &value)))
 }

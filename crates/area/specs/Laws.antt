@@ -3,12 +3,13 @@ use mathlib.Core.Path.{_≡_, refl, ap, ap₂, _∙_}
 use mathlib.Core.Bool.{Bool, true, false, _&&_, false≢true}
 use mathlib.Core.List.{List, [], _∷_, _++_}
 use Prim.Native.Nat.{ℕ, _+_, _-_, _*_, _/_, _%_, _^_, _≤_, _<_}
+use native.Mathlib.Nat.{mul-le-mul}
 use native.Mathlib.Omega.{arith}
 use lib.ListN.{length, take}
 use borrow.Author.Tests.{ltb-true}
 use Rattle.bits.specs.Bits.{Bytes}
 use Rattle.bits.specs.Laws.{bytes-none, bytes-cons}
-use Rattle.area.specs.Area.{isArea, bytesOf, numberIn}
+use Rattle.area.specs.Area.{rows, columns, nodes, isArea, bytesOf, numberIn}
 
 pub bytes-area : (a : ℕ) → Bytes (bytesOf a)
 bytes-area a =
@@ -86,3 +87,10 @@ both-right false b e = absurd (false≢true e)
 pub area-lt : (a : ℕ) → isArea a ≡ true → a < 2 ^ 47
 unfolding isArea
 area-lt a e = ltb-true a (2 ^ 47) (both-left _ _ e)
+
+-- an area has one node or more, and at most 64
+pub nodes-some : (a : ℕ) → 1 ≤ nodes a
+nodes-some a = mul-le-mul {n₁ = 1} {m₁ = 1} {n₂ = rows a} {m₂ = columns a} (omega arith) (omega arith)
+
+pub nodes-few : (a : ℕ) → nodes a ≤ 64
+nodes-few a = mul-le-mul {n₁ = rows a} {m₁ = columns a} {n₂ = 8} {m₂ = 8} (omega arith) (omega arith)

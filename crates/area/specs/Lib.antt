@@ -1,4 +1,5 @@
 pub mod Area
 pub mod Laws
+pub mod Plain
 pub mod Examples
 pub mod Determined

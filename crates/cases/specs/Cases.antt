@@ -28,7 +28,7 @@ use Rattle.frame.specs.Check.{frameOf, badMessageCrc, badFrameCrc, checked, pay
 use Rattle.frame.specs.Write.{bytesOf, start, description, body, checkOver, plain}
 use Rattle.groups.specs.Groups.{groups, groupsOf, groupsOfAll}
 use Rattle.layout.specs.Layout.{judge, readL, writeL}
-use Rattle.log.specs.Log.{reasonFor, logOf}
+use Rattle.log.specs.Log.{reasonFor, entriesOf, logOf}
 use Rattle.sheet.specs.declared.WriteAnswer.{WriteAnswer}
 use Rattle.sheet.specs.declared.WriteAnswer.the-variants.{Written}
 use Rattle.sheet.specs.Sheet.{judging, judgingSheet, judgedSheet}
@@ -145,5 +145,5 @@ measured =
     []
 
 pub measured-hold : map (λ (c : Case). said (c .asked)) measured ≡ map (λ (c : Case). c .answer) measured
-unfolding measured decimal valueOf sf lineOf find table quotient div ofInt round judgedSheet judgingSheet writeL judge bitsOf numbered maskSize maskSizes areaOff groupsOf groups groupsOfAll newDesk frameTaken loggedBy verdict noRoom byHeader deskSound sound headSound areasSound plain body start description checkOver bytesOf checked badFrameCrc badMessageCrc frameOf payloadIn authenticated authentication frameCrc messageCrc crc crcBits shift lowFirst reversed4 toBits number field judging readL logOf reasonFor outcome before areasIn takeAll takeBlock lookup insert
+unfolding measured decimal valueOf sf lineOf find table quotient div ofInt round judgedSheet judgingSheet writeL judge bitsOf numbered maskSize maskSizes areaOff groupsOf groups groupsOfAll newDesk frameTaken loggedBy verdict noRoom byHeader deskSound sound headSound areasSound plain body start description checkOver bytesOf checked badFrameCrc badMessageCrc frameOf payloadIn authenticated authentication frameCrc messageCrc crc crcBits shift lowFirst reversed4 toBits number field judging readL logOf entriesOf reasonFor outcome before areasIn takeAll takeBlock lookup insert
 measured-hold = refl

@@ -3,7 +3,7 @@
 -- room, and no frame is refused by UNKNOWN_TYPE. Proved; assumes nothing.
 use mathlib.Core.Path.{_≡_, refl, ap, ap₂, sym, _∙_, subst}
 use mathlib.Core.Bool.{Bool, true, false, cond, _&&_, true≢false}
-use mathlib.Core.List.{List, [], _∷_, _++_}
+use mathlib.Core.List.{List, [], _∷_, _++_, map}
 use Prim.Native.Nat.{ℕ, _*_, _≤_}
 use native.Mathlib.Omega.{arith}
 use lib.Dec.{ltb}
@@ -15,7 +15,9 @@ use Rattle.sizes.specs.Sizes.{tags, bookBytes, logRoom}
 use Rattle.book.specs.Book.{noBook, headSound, areasSound, sound, isHeld, placeOf, found}
 use Rattle.book.specs.Laws.{sound-room}
 use Rattle.book.specs.declared.Book.{Book}
-use Rattle.log.specs.Log.{joined, opened, areaId, bitsFor, reasonFor, reasonOf, troposphereSaid, ionosphereSaid, entryOf, logOf}
+use Rattle.log.specs.Log.{opened, areaId, bitsFor, reasonFor, reasonOf, troposphereIn, satellitesIn, entryOf, entriesOf as logEntries, logOf}
+use Rattle.entries.specs.Entry as entry
+use Rattle.entries.specs.Entry.{joined, numbersOf}
 use Rattle.answer.specs.declared.Refusal.{Refusal}
 use Rattle.answer.specs.declared.Refusal.the-variants.{Field, UnknownType}
 use Rattle.message.specs.Messages.{constellationFor}
@@ -78,13 +80,17 @@ entry-same : (book : Book) (s t : List ℕ) → ((id : AreaId) → found book s 
 unfolding reasonFor
 entry-same book s t h aiou x = rw (h (areaId (x .id)))
 
+entries-same : (book : Book) (s t : List ℕ) → ((id : AreaId) → found book s id ≡ found book t id) → (message : Hpac) → logEntries book s message ≡ logEntries book t message
+unfolding logEntries
+entries-same book s t h message = go (message .areas)
+  where
+    go : (xs : List Area) → map (entryOf book s (message .aiou)) xs ≡ map (entryOf book t (message .aiou)) xs
+    go [] = refl
+    go (x ∷ xs) = ap₂ (λ a b. a ∷ b) (entry-same book s t h (message .aiou) x) (go xs)
+
 log-same : (book : Book) (s t : List ℕ) → ((id : AreaId) → found book s id ≡ found book t id) → (message : Hpac) → logOf book s message ≡ logOf book t message
 unfolding logOf
-log-same book s t h message = go (message .areas)
-  where
-    go : (xs : List Area) → joined (entryOf book s (message .aiou)) xs ≡ joined (entryOf book t (message .aiou)) xs
-    go [] = refl
-    go (x ∷ xs) = ap₂ (λ a b. a ++ b) (entry-same book s t h (message .aiou) x) (go xs)
+log-same book s t h message = ap (joined numbersOf) (entries-same book s t h message)
 
 pub stays-kept : (course : Course) (given : Given) → KeptOn course → KeptOn (onward course given)
 stays-kept course given k = go (verdictOn held given) (fits-on held given)
@@ -142,8 +148,7 @@ which-definition start k before given = told (along start before) given (always-
 -- In it an area is placed, entry 2, with the 47 bits that its ID has in that book.
 pub placed-with : (opening : Snapshot) (aiou : ℕ) (x : Area) → reasonOf (opening .book) (opening .bytes) aiou x ≡ 0
     → entryOf (opening .book) (opening .bytes) aiou x
-    ≡ 2 ∷ x .id ∷ bitsFor (opening .book) (opening .bytes) (x .id)
-    ∷ (troposphereSaid (bitsFor (opening .book) (opening .bytes) (x .id)) x ++ ionosphereSaid x)
+    ≡ entry.placed (x .id) (bitsFor (opening .book) (opening .bytes) (x .id)) (troposphereIn x) (satellitesIn x)
 placed-with opening aiou x e = rw e
 
 -- ---- an area book that is changed between two messages never mixes in one run

@@ -2,11 +2,11 @@
 use mathlib.Core.Path.{_≡_, refl, ap, ap₂, sym, _∙_, subst}
 use mathlib.Core.Bool.{Bool, true, false, not}
 use mathlib.Core.List.{List, [], _∷_, _++_, append-assoc, append-nil}
-use Prim.Native.Nat.{ℕ, suc, _+_, _-_, _*_, _^_, _≤_, _<_}
+use Prim.Native.Nat.{ℕ, suc, _+_, _-_, _*_, _≤_, _<_}
 use native.Mathlib.Omega.{arith}
 use lib.Dec.{leb, ltb, eqb}
-use lib.ListN.{length, take, drop, length-append, length-drop, drop-of-length-le}
-use lib.Seq.{take-all, drop-drop, drop-cons}
+use lib.ListN.{length, drop, length-append, length-drop, drop-of-length-le}
+use lib.Seq.{drop-drop, drop-cons}
 use borrow.Author.Tests.{lt-ltb, le-ltb, lt-leb, le-leb, eq-eqb, ne-eqb}
 use Rattle.answer.specs.Stop.{stop}
 use Rattle.answer.specs.declared.Refusal.{Refusal}
@@ -17,37 +17,19 @@ use Rattle.book.specs.Book.{bookOf, bytesOfAll, headSound}
 use Rattle.book.specs.Laws.{length-bytes, head-parts}
 use Rattle.book.proofs.Taking.{put-image}
 use Rattle.book.specs.declared.Book.{Book}
-use Rattle.groups.specs.Groups.{readGroups}
-use Rattle.groups.specs.declared.Read.{Read}
-use Rattle.groups.specs.declared.Read.the-variants as reading
+use Rattle.groups.specs.Groups.{nextOf}
+use Rattle.groups.specs.Rows.{next-le}
+use Rattle.groups.specs.declared.Next.{Next}
+use Rattle.groups.specs.declared.Next.the-variants as next
 use Rattle.kept.specs.Kept.{Said, said, refused, number, whole, not-kept, answerOf, leftBy, readKept, fits, withArea, readAreas, readCount, readAiou, readHead}
 use Rattle.kept.specs.ReadLaws.{head-sound}
-use Rattle.kept.specs.Walk.{nextBy, nextOf, HeadIs, Areas, EndIs, storedBy, isSaid, step-on, step-off, step-form, step-past, read-le, next-le}
-use Rattle.kept.specs.declared.Next.{Next}
-use Rattle.kept.specs.declared.Next.the-variants as next
+use Rattle.kept.specs.Walk.{HeadIs, Areas, EndIs, storedBy, isSaid, step-on, step-off, step-form, step-past}
 use Rattle.kept.specs.declared.Head.{Head}
 use Rattle.kept.specs.declared.Head.the-variants as head
 use Rattle.kept.specs.declared.Ended.{Ended}
 use Rattle.kept.specs.declared.Ended.the-variants as ended
 use Rattle.kept.specs.declared.ReadKept.{ReadKept}
 use Rattle.kept.specs.declared.ReadKept.the-variants as answering
-
--- ---- one number
-
-module _ (s : List ℕ) (at : ℕ) (h : at ≤ length s) (v : Read) (e : v ≡ readGroups (take (length s - at) (drop at s))) where
-  read-part : v ≡ readGroups (drop at s)
-  read-part = e ∙ ap readGroups (take-all (length s - at) (drop at s) (omega (arith, length-drop at s)))
-
-  pub behind-fits : (x n : ℕ) → v ≡ reading.Number x n → length s < 2 ^ 64 → at + n < 2 ^ 64
-  behind-fits x n q k = omega (arith, read-le (drop at s) x n (sym read-part ∙ q), length-drop at s)
-
-  pub behind-number : (x n : ℕ) → v ≡ reading.Number x n → next.Number x (at + n) ≡ nextOf s at
-  unfolding nextOf
-  behind-number x n q = ap (λ r. nextBy r at) (sym q ∙ read-part)
-
-  pub behind-refused : (r : Refusal) → v ≡ reading.Refused r → next.Refused r ≡ nextOf s at
-  unfolding nextOf
-  behind-refused r q = ap (λ r. nextBy r at) (sym q ∙ read-part)
 
 -- ---- the head
 

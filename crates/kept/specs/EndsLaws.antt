@@ -1,28 +1,28 @@
 -- Laws: bytes that read, that are SHORT, that are LEFTOVER; and that there is nothing else but FORM. Proved; assumes nothing.
 use mathlib.Core.Path.{_≡_, refl, ap, ap₂, sym, _∙_, subst}
 use mathlib.Core.Logic.{_⊎_, inl, inr}
-use mathlib.Core.Bool.{Bool, true, false, cond, not, _&&_}
+use mathlib.Core.Bool.{Bool, true, false, cond, not}
 use mathlib.Core.List.{List, [], _∷_, _++_, append-assoc, append-nil}
-use Prim.Native.Nat.{ℕ, zero, suc, _+_, _*_, _^_, _≤_, _<_}
-use native.Mathlib.Nat.{zero-mul}
+use Prim.Native.Nat.{ℕ, zero, suc, _+_, _*_, _^_, _≤_}
 use native.Mathlib.Omega.{arith}
 use lib.Dec.{leb, ltb, eqb}
 use lib.ListN.{length, drop, replicate, length-replicate}
-use lib.Seq.{drop-append-seam}
-use borrow.Author.Tests.{le-leb, ltb-false, lt-ltb, not-false, eq-eqb, eqb-true, ne-eqb}
+use borrow.Author.Tests.{le-leb, ltb-false, not-false, eqb-true, ne-eqb}
 use Rattle.answer.specs.Stop.{stop}
 use Rattle.answer.specs.declared.Refusal.{Refusal}
 use Rattle.answer.specs.declared.Refusal.the-variants.{Short, Form, Leftover}
 use Rattle.bits.specs.Bits.{Bytes}
 use Rattle.bits.specs.Laws.{bytes-none, bytes-cons, bytes-append, bytes-drop}
-use Rattle.area.specs.Area.{sf031, sf032, sf033, sf034, latitudeSpacing, inRange, areaOff, isArea}
+use Rattle.area.specs.Area.{sf031}
 use Rattle.area.specs.Laws.{bytes-area}
+use Rattle.area.specs.Plain.{plain, plain-id, plain-area}
 use Rattle.sizes.specs.Sizes.{bookBytes}
 use Rattle.book.specs.Book.{bookOf, noBook, areasIn, bytesOfAll, headSound, areasSound, sound}
 use Rattle.book.specs.Laws.{Ascending, Areas, head-parts, sound-head, sound-areas, sound-ascending, sound-each, length-areas}
 use Rattle.book.specs.declared.Book.{Book}
 use Rattle.groups.specs.Groups.{groupsOf, groupsOfAll, size, value, overlong, readGroups}
-use Rattle.groups.specs.Laws.{length-pos, size-groups, value-groups, written-read}
+use Rattle.groups.specs.Laws.{written-read}
+use Rattle.groups.specs.Rows.{unended-short, short-unended, all-more}
 use Rattle.groups.specs.declared.Read.{Read}
 use Rattle.groups.specs.declared.Read.the-variants as reading
 use Rattle.kept.specs.Kept.{form, keptOf, Said, said, refused, behind, number, fits, withArea, readAreas, readCount, readAiou, readHead, Outcome, kept, not-kept, whole, behindHead}
@@ -31,22 +31,6 @@ use Rattle.kept.specs.ReadLaws.{head-sound, areas-row, Row, row-none, ro
 use Rattle.kept.specs.Ends.{SoundBook, keptBook, IsBook, GoesOn, Begins, Finished, EndsEarly}
 
 -- ---- SHORT
-
--- a number that does not end is SHORT, and no other
-pub unended-short : (s : List ℕ) → size s ≡ 0 → readGroups s ≡ reading.Refused Short
-unfolding readGroups
-unended-short s e = rw (eq-eqb (size s) 0 e)
-
-short-unended : (s : List ℕ) → readGroups s ≡ reading.Refused Short → size s ≡ 0
-unfolding readGroups
-short-unended s = go (eqb (size s) 0) refl (overlong s) (leb (2 ^ 64) (value s))
-  where
-    go : (a : Bool) → eqb (size s) 0 ≡ a → (o b : Bool)
-        → cond a (reading.Refused Short) (cond o (reading.Refused Form) (cond b (reading.Refused Form) (reading.Number (value s) (size s)))) ≡ reading.Refused Short → size s ≡ 0
-    go true p o b q = eqb-true (size s) 0 p
-    go false p true b q = let w : _≡_ {A = ℕ} 0 1 = cc in absurd (omega arith)
-    go false p false true q = let w : _≡_ {A = ℕ} 0 1 = cc in absurd (omega arith)
-    go false p false false q = let w : _≡_ {A = ℕ} 0 1 = cc in absurd (omega arith)
 
 -- reading is SHORT at a number that does not end, or behind one that was read
 data ShortAt {A : Type 0} (s : List ℕ) (k : ℕ → List ℕ → Said A) : Type 0 where
@@ -71,34 +55,11 @@ pub inside : (a : ℕ) (o : Said (List ℕ)) (r : Refusal) → withArea a o ≡ 
 inside a (said l rest) r q = let w : _≡_ {A = ℕ} 0 1 = cc in absurd (omega arith)
 inside a (refused w) r q = q
 
--- ---- areas that can follow: of each ID one with all other fields 0
-
-unfoldable pub plain : ℕ → ℕ
-plain id = id * 2 ^ 39
+-- ---- areas that can follow
 
 unfoldable pub following : ℕ → ℕ → List ℕ
 following zero least = []
 following (suc n) least = plain least ∷ following n (suc least)
-
-plain-id : (id : ℕ) → id < 256 → sf031 (plain id) ≡ id
-unfolding plain
-plain-id id h = omega arith
-
-plain-on : (id : ℕ) → areaOff (plain id) ≡ false
-unfolding plain areaOff
-plain-on id =
-    let z₀ : sf032 (id * 2 ^ 39) ≡ 0 = omega arith in
-    let z₁ : sf034 (id * 2 ^ 39) ≡ 0 = omega arith in
-    ap₂ ltb z₀ (ap (λ x. x * latitudeSpacing (id * 2 ^ 39)) z₁ ∙ zero-mul (latitudeSpacing (id * 2 ^ 39)))
-
-plain-area : (id : ℕ) → id < 256 → isArea (plain id) ≡ true
-unfolding isArea plain
-plain-area id h =
-    let z₀ : ltb (id * 2 ^ 39) (2 ^ 47) ≡ true = lt-ltb (id * 2 ^ 39) (2 ^ 47) (omega arith) in
-    let z₁ : sf032 (id * 2 ^ 39) ≡ 0 = omega arith in
-    let z₂ : sf033 (id * 2 ^ 39) ≡ 0 = omega arith in
-    let z₃ : inRange (id * 2 ^ 39) ≡ true = ap₂ (λ x y. leb x 1800 && leb y 3600) z₁ z₂ in
-    ap₂ (λ x y. x && y) z₀ (ap₂ (λ x y. x && not y) z₃ (plain-on id))
 
 pub following-row : (n least : ℕ) → least + n ≤ 256 → Row n least (following n least)
 unfolding following
@@ -168,34 +129,9 @@ at-count (suc aiou) h = begins-by (form ∷ suc aiou ∷ []) (bookOf (suc aiou) 
 
 -- ---- which numbers of some bytes are finished
 
--- a number that does not end is none that does
-ends : (x : ℕ) (l u t : List ℕ) → size t ≡ 0 → t ≡ groupsOf x ++ l ++ u → ⊥
-ends x l u t z e =
-    let p : size t ≡ length (groupsOf x) = ap size (e ∙ append-assoc (groupsOf x) l u) ∙ size-groups (l ++ u) x in
-    omega (arith, length-pos x)
-
--- which numbers are finished, and what is left, the bytes decide
-pub once : (m n t u : List ℕ) → size t ≡ 0 → size u ≡ 0 → groupsOfAll m ++ t ≡ groupsOfAll n ++ u → (m ≡ n) × (t ≡ u)
-unfolding groupsOfAll
-once [] [] t u z y e = (refl, e)
-once [] (b ∷ n) t u z y e = absurd (ends b (groupsOfAll n) u t z e)
-once (a ∷ m) [] t u z y e = absurd (ends a (groupsOfAll m) t u y (sym e))
-once (a ∷ m) (b ∷ n) t u z y e =
-    let v : List ℕ = groupsOfAll m ++ t in
-    let w : List ℕ = groupsOfAll n ++ u in
-    let p : groupsOf a ++ v ≡ groupsOf b ++ w = sym (append-assoc (groupsOf a) (groupsOfAll m) t) ∙ e ∙ append-assoc (groupsOf b) (groupsOfAll n) u in
-    let q : a ≡ b = sym (value-groups v a) ∙ ap value p ∙ value-groups w b in
-    let r : v ≡ w = sym (drop-append-seam (groupsOf a) v) ∙ ap (drop (length (groupsOf a))) (p ∙ ap (λ b. groupsOf b ++ w) (sym q)) ∙ drop-append-seam (groupsOf a) w in
-    let i = once m n t u z y r in
-    (ap₂ (λ x l. x ∷ l) q (i .0), i .1)
-
 finished-none : (s : List ℕ) → size s ≡ 0 → Finished s [] s
 unfolding groupsOfAll
 finished-none s e = record { is = refl; unended = e }
-
-pub all-more : (s t : List ℕ) (x : ℕ) (numbers rest : List ℕ) → s ≡ groupsOf x ++ t → t ≡ groupsOfAll numbers ++ rest → s ≡ groupsOfAll (x ∷ numbers) ++ rest
-unfolding groupsOfAll
-all-more s t x numbers rest e f = e ∙ ap (λ t. groupsOf x ++ t) f ∙ sym (append-assoc (groupsOf x) (groupsOfAll numbers) rest)
 
 finished-more : (s t : List ℕ) (x : ℕ) (numbers rest : List ℕ) → s ≡ groupsOf x ++ t → Finished t numbers rest → Finished s (x ∷ numbers) rest
 finished-more s t x numbers rest e f = record { is = all-more s t x numbers rest e (f .is); unended = f .unended }

@@ -13,18 +13,20 @@ use Rattle.answer.specs.declared.Refusal.the-variants.{Form}
 use Rattle.bits.specs.Bits.{Bytes}
 use Rattle.bits.specs.Laws.{bytes-drop}
 use Rattle.area.specs.Area.{sf031}
+use Rattle.area.specs.Plain.{plain}
 use Rattle.book.specs.Book.{bookOf, noBook, areasIn, headSound}
 use Rattle.book.specs.Laws.{Ascending, Areas, head-parts}
 use Rattle.book.specs.declared.Book.{Book}
 use Rattle.groups.specs.Groups.{groupsOf, groupsOfAll, readGroups}
 use Rattle.groups.specs.Laws.{written-read}
+use Rattle.groups.specs.Rows.{all-more}
 use Rattle.groups.specs.declared.Read.{Read}
 use Rattle.groups.specs.declared.Read.the-variants as reading
 use Rattle.kept.specs.Kept.{form, Said, said, refused, behind, number, fits, withArea, readAreas, readCount, readAiou, readHead, not-kept, whole, behindHead}
 use Rattle.kept.specs.Ends.{numbersOf, Begins, CanFollow, Breaks, BreaksForm}
 use Rattle.kept.specs.RoundTrip.{ids-left, fits-if, area-read, head-written}
 use Rattle.kept.specs.ReadLaws.{head-sound, fits-parts, Row, row-more, IsKept}
-use Rattle.kept.specs.EndsLaws.{inside, plain, following, following-row, numbersWith, Made, soundBook, made, begins-by, none-kept, at-count, all-more, behind-head, whole-refused, past-form, past-aiou, past-count, sound-kept, begun-refused}
+use Rattle.kept.specs.EndsLaws.{inside, following, following-row, numbersWith, Made, soundBook, made, begins-by, none-kept, at-count, behind-head, whole-refused, past-form, past-aiou, past-count, sound-kept, begun-refused}
 
 -- ---- rows
 

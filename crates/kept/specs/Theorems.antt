@@ -19,11 +19,12 @@ use Rattle.sizes.specs.Sizes.{bookBytes, keptRoom}
 use Rattle.book.specs.Book.{areasIn, bytesOfAll, sound}
 use Rattle.book.specs.Laws.{Sound, sound-lists, sound-room, length-areas, length-bytes}
 use Rattle.book.specs.declared.Book.{Book}
+use Rattle.groups.specs.Rows.{once}
 use Rattle.kept.specs.Kept.{keptOf, keptBytes, noRoom, written, outAfter, Outcome, kept, not-kept, readHead, behindHead, readKept, answerOf, leftBy}
 use Rattle.kept.specs.Ends.{IsBook, GoesOn, Finished, EndsEarly, BreaksForm}
 use Rattle.kept.specs.RoundTrip.{sound-reads, read-writes}
 use Rattle.kept.specs.ReadLaws.{IsKept, no-room, with-room, had-room, is-kept, kept-sound, kept-areas, left-length}
-use Rattle.kept.specs.EndsLaws.{once, short-early, early-short, book-reads, over-leftover, Fault, Ending, ending}
+use Rattle.kept.specs.EndsLaws.{short-early, early-short, book-reads, over-leftover, Fault, Ending, ending}
 use Rattle.kept.specs.FormLaws.{form-breaks, breaks-form}
 use Rattle.kept.specs.declared.Written.the-variants as writing
 use Rattle.kept.specs.declared.ReadKept.the-variants as answering

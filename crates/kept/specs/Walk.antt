@@ -11,13 +11,12 @@ use Rattle.answer.specs.declared.Refusal.the-variants.{Form}
 use mathlib.Core.Bool.{Bool, true, false}
 use Rattle.book.specs.Book.{bytesOfAll}
 use Rattle.book.specs.declared.Book.{Book}
-use Rattle.groups.specs.Groups.{groupsOfAll, readGroups}
-use Rattle.groups.specs.Laws.{is-read, size-le}
+use Rattle.groups.specs.Groups.{groupsOfAll, readGroups, nextBy, nextOf}
 use Rattle.groups.specs.declared.Read.{Read}
 use Rattle.groups.specs.declared.Read.the-variants as reading
+use Rattle.groups.specs.declared.Next.{Next}
+use Rattle.groups.specs.declared.Next.the-variants as next
 use Rattle.kept.specs.Kept.{form, Said, said, refused, behind, number}
-use Rattle.kept.specs.declared.Next.{Next}
-use Rattle.kept.specs.declared.Next.the-variants as next
 use Rattle.kept.specs.declared.Head.{Head}
 use Rattle.kept.specs.declared.Head.the-variants as head
 use Rattle.kept.specs.declared.Ended.{Ended}
@@ -26,14 +25,6 @@ use Rattle.kept.specs.declared.Ended.the-variants as ended
 -- what is written before the areas
 abbrev pub headBytes : Book → List ℕ
 headBytes book = groupsOfAll (form ∷ book .«aiou_plus_one» ∷ book .count ∷ [])
-
--- the number behind `at` bytes, and where it ends
-abbrev pub nextBy : Read → ℕ → Next
-nextBy (reading.Number x n) at = next.Number x (at + n)
-nextBy (reading.Refused r) at = next.Refused r
-
-unfoldable pub nextOf : List ℕ → ℕ → Next
-nextOf s at = nextBy (readGroups (drop at s)) at
 
 -- the head was read up to a place, or refused
 abbrev pub HeadIs : List ℕ → Said Book → Head → Type 0
@@ -89,16 +80,3 @@ module _ {A : Type 0} (s : List ℕ) (at : ℕ) (v : Next) (e : v ≡ nextOf s a
 
   pub step-past : test x ≡ false → number (drop at s) (λ y t. stop (test y) (refused Form) (k y t)) ≡ k x (drop end s)
   step-past w = tested false w
-
-pub read-le : (s : List ℕ) (x n : ℕ) → readGroups s ≡ reading.Number x n → n ≤ length s
-read-le s x n e = subst (λ n. n ≤ length s) (is-read s x n e .is-size) (size-le s)
-
-pub next-le : (s : List ℕ) (at : ℕ) (v : Next) → at ≤ length s → v ≡ nextOf s at → (x end : ℕ) → v ≡ next.Number x end → end ≤ length s
-unfolding nextOf
-next-le s at v h e x end q = go (readGroups (drop at s)) refl (sym e ∙ q)
-  where
-    go : (r : Read) → readGroups (drop at s) ≡ r → nextBy r at ≡ next.Number x end → end ≤ length s
-    go (reading.Number y n) p z =
-        let b : at + n ≡ end = cc in
-        omega (arith, read-le (drop at s) y n p, length-drop at s)
-    go (reading.Refused r) p z = let w : _≡_ {A = ℕ} 0 1 = cc in absurd (omega arith)

@@ -14,8 +14,8 @@ abbrev μ-loop : tie.MeasureT-loop
 loop-holds : tie.Need-loop-holds Inv-loop μ-loop
 loop-holds c = search (walk-start, needs)
 
-number-behind-requires : tie.Need-number-behind-requires Inv-loop μ-loop
-number-behind-requires c κs = search needs
+get-behind-requires : tie.Need-get-behind-requires Inv-loop μ-loop
+get-behind-requires c κs = search needs
 
 enum-known-refusal : tie.Need-enum-known-refusal Inv-loop μ-loop
 enum-known-refusal c = search needs
@@ -66,7 +66,7 @@ judge-areas-spec =
     Inv-loop
     μ-loop
     loop-holds
-    number-behind-requires
+    get-behind-requires
     enum-known-refusal
     returns
     enum-known-area

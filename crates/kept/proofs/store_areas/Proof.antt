@@ -14,8 +14,8 @@ abbrev μ-loop : tie.MeasureT-loop
 loop-holds : tie.Need-loop-holds Inv-loop μ-loop
 loop-holds c = search (store-start, needs)
 
-number-behind-requires : tie.Need-number-behind-requires Inv-loop μ-loop
-number-behind-requires c κs = search needs
+get-behind-requires : tie.Need-get-behind-requires Inv-loop μ-loop
+get-behind-requires c κs = search needs
 
 enum-told : tie.Need-enum-told Inv-loop μ-loop
 enum-told c = search needs
@@ -57,7 +57,7 @@ store-areas-spec =
     Inv-loop
     μ-loop
     loop-holds
-    number-behind-requires
+    get-behind-requires
     enum-told
     same-length
     returns
