@@ -1,6 +1,7 @@
 //! Desks: frames taken one after the other, areas looked up, kept books taken in.
 
 use crate::books;
+use crate::entries;
 use crate::judge::{hex, Input, Judge};
 use crate::lent;
 use crate::marks;
@@ -143,6 +144,9 @@ pub fn take(
     judge.lent(&input, "the log", &our_log, &log);
     judge.lent(&input, "the bytes written", &our_written, &written);
     judge.lent(&input, "the frame", &our_frame, frame);
+    if let (Ok(taken), true) = (result, rng.one_in(2)) {
+        entries::log(rng, judge, &our_log.now()[..taken.logged]);
+    }
 }
 
 /// A kept book for the desk: that of its own live book, another, or a broken one.

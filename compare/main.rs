@@ -4,6 +4,7 @@
 
 mod books;
 mod desks;
+mod entries;
 mod frames;
 mod judge;
 mod lent;
@@ -22,7 +23,7 @@ use second::generate::Rng;
 type Case = fn(&mut Rng, &mut Judge);
 
 /// What is tried, and its share of the turns.
-const CASES: [(u64, Case); 22] = [
+const CASES: [(u64, Case); 25] = [
     (18, frames::check),
     (8, frames::write),
     (20, payloads::read),
@@ -45,10 +46,13 @@ const CASES: [(u64, Case); 22] = [
     (1, desks::full),
     (12, prepares::odd),
     (10, prepares::whole),
+    (2, entries::small),
+    (1, entries::large),
+    (6, entries::odd),
 ];
 
 /// The answer numbers that each call can give.
-const CAN: [(&str, &[usize]); 26] = [
+const CAN: [(&str, &[usize]); 30] = [
     ("frame_check", &[0, 1, 2, 3, 4, 5, 9]),
     ("frame_write", &[0, 4, 8, 9]),
     ("payload_judge", &[0, 1, 4, 6, 7, 8, 9]),
@@ -75,6 +79,10 @@ const CAN: [(&str, &[usize]); 26] = [
     ("prepare_call", &[0, 9, 17]),
     ("prepare_finish", &[0, 9, 17]),
     ("prepare, of a frame", &[0, 1, 7, 8, 10, 11, 12, 13, 14, 15]),
+    ("entry_read", &[0, 1, 9, 18]),
+    ("entry_troposphere", &[0, 1, 8, 9, 18]),
+    ("entry_satellite", &[0, 1, 8, 9, 18]),
+    ("entry_residual", &[0, 1, 8, 9, 18]),
 ];
 
 /// One turn from its own seed: a case by chance, now and then a stream with much noise.
@@ -110,7 +118,7 @@ fn main() {
         judge.calls
     );
     judge.tell();
-    let missed = judge.missed(&CAN, &[&marks::MARKS[..], &marks::TYPES[..], &marks::VIEWS[..]].concat());
+    let missed = judge.missed(&CAN, &marks::all());
     if count >= 100_000 && !missed.is_empty() {
         println!("compare: never met: {}", missed.join(", "));
         std::process::exit(1);

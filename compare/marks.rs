@@ -1,16 +1,19 @@
-//! What was met of desks, their logs, the events of a stream and the views of a sheet, counted by name.
+//! What was met of desks, their logs and what they read as, the events of a stream and the views of a sheet, counted by name.
 
+use crate::entries::Role;
 use crate::judge::Judge;
 use crate::logs::{entries, Entry};
 use crate::tables::Table;
 use second::answer::Refusal;
 use second::book;
 use second::desk::{Desk, HALF_DAY};
+use second::entries;
 use second::frame;
 use second::generate::TWELVE;
+use second::groups;
 use second::prepare::Event;
 use second::stream::MOST_NOISE;
-use second::values::Yaw;
+use second::values::{Residual, Yaw};
 use second::views::{Satellite, SatelliteView};
 
 /// What a run of many inputs has to meet besides.
@@ -115,6 +118,90 @@ pub const VIEWS: [&str; 30] = [
     "view of 3-0: no area",
     "view of 3-0: an ID over 3",
 ];
+
+/// What was met of entries that were read, and refused.
+pub const ENTRIES: [&str; 39] = [
+    "entry: 1, opened with a book",
+    "entry: 1, opened without a book",
+    "entry: 2, placed with both",
+    "entry: 2, placed with satellites",
+    "entry: 2, placed with troposphere residuals",
+    "entry: 2, placed without a grid",
+    "entry: 3, left out by 1",
+    "entry: 3, left out by 2",
+    "entry: 3, left out by 3",
+    "entry: 3, left out by 4",
+    "entry: 64 nodes",
+    "entry: FORM, a number beyond 64 bits",
+    "entry: FORM, a number not in shortest form",
+    "entry: FORM, a number of over 100 groups",
+    "entry: FORM, a number out of range",
+    "entry: FORM, a satellite that leaves too few behind it",
+    "entry: SF051 of 0",
+    "entry: SF051 of 1",
+    "entry: SF063 of 0",
+    "entry: SF063 of 1",
+    "entry: SF063 of 2",
+    "entry: SF063 of 3",
+    "entry: SHORT, a number of over 100 groups that does not end",
+    "entry: a desk's log to its end",
+    "entry: a node past the last",
+    "entry: a node where T is 0",
+    "entry: a residual in TECU",
+    "entry: a residual in metres",
+    "entry: a satellite past the last",
+    "entry: a satellite's residual invalid",
+    "entry: a troposphere residual invalid",
+    "entry: all satellites of 1 to 64",
+    "entry: all satellites of 193 to 256",
+    "entry: an index where no area is placed",
+    "entry: bytes behind it",
+    "entry: cut between two numbers",
+    "entry: cut inside a number",
+    "entry: no byte",
+    "entry: over 8,500 bytes",
+];
+
+/// The numbers of entries, as `Role` lists them, at which one was too short.
+pub const SHORT_AT: [&str; 14] = [
+    "entry: SHORT at the kind",
+    "entry: SHORT at the tag",
+    "entry: SHORT at AIOU + 1",
+    "entry: SHORT at the count of areas",
+    "entry: SHORT at the ID",
+    "entry: SHORT at the 47 bits",
+    "entry: SHORT at T",
+    "entry: SHORT at SF051",
+    "entry: SHORT at a troposphere residual",
+    "entry: SHORT at S",
+    "entry: SHORT at a satellite's number",
+    "entry: SHORT at SF063",
+    "entry: SHORT at a satellite's residual",
+    "entry: SHORT at the reason",
+];
+
+/// And those after which no entry could follow.
+pub const FORM_AT: [&str; 14] = [
+    "entry: FORM at the kind",
+    "entry: FORM at the tag",
+    "entry: FORM at AIOU + 1",
+    "entry: FORM at the count of areas",
+    "entry: FORM at the ID",
+    "entry: FORM at the 47 bits",
+    "entry: FORM at T",
+    "entry: FORM at SF051",
+    "entry: FORM at a troposphere residual",
+    "entry: FORM at S",
+    "entry: FORM at a satellite's number",
+    "entry: FORM at SF063",
+    "entry: FORM at a satellite's residual",
+    "entry: FORM at the reason",
+];
+
+/// All that has to be met.
+pub fn all() -> Vec<&'static str> {
+    [&MARKS[..], &TYPES, &VIEWS, &ENTRIES, &SHORT_AT, &FORM_AT].concat()
+}
 
 /// Counts the type of a frame that is given to a desk.
 pub fn frame_given(judge: &mut Judge, frame: &[u8]) {
@@ -238,4 +325,96 @@ pub fn event(judge: &mut Judge, event: &Event) {
         Event::Noise { .. } => "event: noise",
         Event::Done => "event: done",
     });
+}
+
+/// Counts what an entry that was read was.
+pub fn entry_read(judge: &mut Judge, entry: &entries::Entry, used: usize) {
+    use entries::Entry;
+    if used > 8500 {
+        judge.mark("entry: over 8,500 bytes");
+    }
+    let placed = match entry {
+        Entry::Opened { aiou: None, .. } => return judge.mark("entry: 1, opened without a book"),
+        Entry::Opened { .. } => return judge.mark("entry: 1, opened with a book"),
+        Entry::LeftOut { reason: 1, .. } => return judge.mark("entry: 3, left out by 1"),
+        Entry::LeftOut { reason: 2, .. } => return judge.mark("entry: 3, left out by 2"),
+        Entry::LeftOut { reason: 3, .. } => return judge.mark("entry: 3, left out by 3"),
+        Entry::LeftOut { .. } => return judge.mark("entry: 3, left out by 4"),
+        Entry::Placed(placed) => placed,
+    };
+    let satellites = &placed.satellites;
+    judge.mark(match (&placed.troposphere, satellites.is_empty()) {
+        (None, true) => "entry: 2, placed without a grid",
+        (Some(_), true) => "entry: 2, placed with troposphere residuals",
+        (None, false) => "entry: 2, placed with satellites",
+        (Some(_), false) => "entry: 2, placed with both",
+    });
+    if let Some(grid) = &placed.troposphere {
+        judge.mark(["entry: SF051 of 0", "entry: SF051 of 1"][grid.size as usize]);
+        if grid.residuals.len() == 64 {
+            judge.mark("entry: 64 nodes");
+        }
+    }
+    for satellite in satellites {
+        let size = satellite.grid.size as usize;
+        judge
+            .mark(["entry: SF063 of 0", "entry: SF063 of 1", "entry: SF063 of 2", "entry: SF063 of 3"][size]);
+    }
+    match satellites.first() {
+        Some(first) if satellites.len() == 64 && first.number == 1 => {
+            judge.mark("entry: all satellites of 1 to 64")
+        }
+        Some(first) if satellites.len() == 64 && first.number == 193 => {
+            judge.mark("entry: all satellites of 193 to 256")
+        }
+        _ => {}
+    }
+}
+
+/// Counts what a residual of an entry was.
+pub fn residual_read(judge: &mut Judge, of_satellite: bool, residual: &Residual) {
+    judge.mark(match residual {
+        Residual::Invalid if of_satellite => "entry: a satellite's residual invalid",
+        Residual::Invalid => "entry: a troposphere residual invalid",
+        Residual::Metres(_) => "entry: a residual in metres",
+        Residual::Tecu(_) => "entry: a residual in TECU",
+    });
+}
+
+/// Counts what an index outside was to an entry.
+pub fn outside(judge: &mut Judge, entry: &entries::Entry) {
+    match entry {
+        entries::Entry::Placed(placed) => {
+            judge.mark("entry: a satellite past the last");
+            judge.mark(match placed.troposphere {
+                Some(_) => "entry: a node past the last",
+                None => "entry: a node where T is 0",
+            });
+        }
+        _ => judge.mark("entry: an index where no area is placed"),
+    }
+}
+
+/// Counts at which number an entry was too short.
+pub fn short_at(judge: &mut Judge, role: Role) {
+    judge.mark(SHORT_AT[role as usize]);
+}
+
+/// Counts after which number, in which form, no entry could follow; of a satellite's number it is known how large it may be.
+pub fn form_at(judge: &mut Judge, role: Role, form: &[u8], most: u64) {
+    judge.mark(FORM_AT[role as usize]);
+    if form.len() > 100 {
+        judge.mark("entry: FORM, a number of over 100 groups");
+    }
+    match groups::read(form) {
+        Ok((number, _)) => {
+            judge.mark("entry: FORM, a number out of range");
+            let last = if most <= 64 { 64 } else { 256 };
+            if role == Role::Satellite && most < number && number <= last {
+                judge.mark("entry: FORM, a satellite that leaves too few behind it");
+            }
+        }
+        Err(_) if form.last() == Some(&0) => judge.mark("entry: FORM, a number not in shortest form"),
+        Err(_) => judge.mark("entry: FORM, a number beyond 64 bits"),
+    }
 }

@@ -1,6 +1,7 @@
 //! Stream and desk together: portion by portion, with trays and desks of every kind.
 
 use crate::desks::same_table;
+use crate::entries;
 use crate::frames::header_of;
 use crate::judge::{hex, Input, Judge};
 use crate::lent;
@@ -120,6 +121,9 @@ fn step(
     judge.lent(&input, "the log", &our_log, &log);
     judge.lent(&input, "what was told", &our_told, &told);
     judge.lent(&input, "the header", &our_header, &header);
+    if let (Ok(Prepared { event: Event::Frame { logged, .. }, .. }), true) = (&result, rng.one_in(2)) {
+        entries::log(rng, judge, &our_log.now()[..*logged]);
+    }
     result.ok()
 }
 

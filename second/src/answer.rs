@@ -37,7 +37,7 @@ pub enum Refusal {
     Leftover = 16,
     /// state or book that is not sound
     State = 17,
-    /// kept book breaks its form
+    /// kept book, or an entry of the run log, breaks its form
     Form = 18,
 }
 

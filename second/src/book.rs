@@ -4,7 +4,6 @@
 //! GAD block and a zero bit, 192 bytes."
 
 use crate::answer::{stop, Refusal};
-use crate::bits::{BitReader, BitWriter};
 use crate::payload::{gad_area, Entries, Field, GadArea, Message};
 use crate::sheet::close;
 use crate::views::AreaId;
@@ -41,10 +40,14 @@ pub fn area_number(area: &GadArea) -> u64 {
 
 /// The area of 47 bits; none if a field is out of its range or there are more than 47 bits.
 pub fn area_of(number: u64) -> Option<GadArea> {
-    struct Bits<'a>(BitReader<'a>);
-    impl Entries for Bits<'_> {
+    /// The bits not read yet, and how many they are.
+    struct Bits(u64, u32);
+    impl Entries for Bits {
         fn next(&mut self, field: Field) -> Result<u64, Refusal> {
-            field.judge(self.0.take(field.width).ok_or(Refusal::Short)?)
+            self.1 = self.1.checked_sub(field.width).ok_or(Refusal::Short)?;
+            let code = self.0 >> self.1;
+            self.0 -= code << self.1;
+            field.judge(code)
         }
         fn count(&self) -> usize {
             0
@@ -53,10 +56,7 @@ pub fn area_of(number: u64) -> Option<GadArea> {
     if number >> 47 != 0 {
         return None;
     }
-    let mut bits = BitWriter::new();
-    bits.put(number, 47);
-    let bytes = bits.bytes();
-    gad_area(&mut Bits(BitReader::new(&bytes))).ok()
+    gad_area(&mut Bits(number, 47)).ok()
 }
 
 /// The six bytes of an area: its 47 bits and a zero bit.

@@ -8,6 +8,7 @@ use crate::answer::Refusal;
 use crate::bits::BitWriter;
 use crate::book::{area_number, put, Book, BOOK_BYTES, MOST_AREAS};
 use crate::desk::{Desk, Run, HALF_DAY};
+use crate::entries::{self, Entry, Placed, Satellite, BANDS, LAST_REASON, MOST_COUNT, MOST_SATELLITES};
 use crate::frame::{assemble, Plain, Seal, AUTHENTICATION_BYTES, LONGEST_FRAME, LONGEST_PAYLOAD, PREAMBLE};
 use crate::groups::groups;
 use crate::payload::{message, Entries, Field, GadArea, Takes};
@@ -974,6 +975,150 @@ pub fn broken_kept(rng: &mut Rng) -> Vec<u8> {
             return damage(rng, &whole);
         }
         _ => {}
+    }
+    form.concat()
+}
+
+// ---------------------------------------------------------------- entries of the run log
+
+/// An entry that is read, of any kind; mostly an area placed.
+pub fn entry(rng: &mut Rng) -> Entry {
+    match rng.below(8) {
+        0 => opened(rng),
+        1 => left_out(rng),
+        2..=4 => {
+            // few numbers
+            let (rows, columns, satellites) = (rng.between(1, 2), rng.between(1, 3), rng.below(4));
+            placed(rng, rows, columns, satellites)
+        }
+        5 => {
+            // many satellites, one node
+            let most = rng.pick(&[MOST_SATELLITES, MOST_SATELLITES - 1]);
+            let satellites = rng.between(1, most);
+            let satellites = rng.pick(&[most, satellites]);
+            placed(rng, 1, 1, satellites)
+        }
+        _ => {
+            let (rows, columns, satellites) = (rng.between(1, 8), rng.between(1, 8), rng.below(9));
+            placed(rng, rows, columns, satellites)
+        }
+    }
+}
+
+/// A run opened.
+pub fn opened(rng: &mut Rng) -> Entry {
+    let (some, tag) = (rng.between(1, MOST_COUNT), rng.below(HALF_DAY));
+    let tag = rng.pick(&[0, 127, 128, 16383, 16384, HALF_DAY - 1, tag, tag]);
+    if rng.one_in(4) {
+        return Entry::Opened { tag, aiou: None, count: 0 };
+    }
+    Entry::Opened { tag, aiou: Some(rng.below(16)), count: rng.pick(&[1, MOST_COUNT, some, some]) }
+}
+
+/// An area left out.
+pub fn left_out(rng: &mut Rng) -> Entry {
+    Entry::LeftOut { id: some_id(rng), reason: rng.between(1, LAST_REASON) }
+}
+
+fn some_id(rng: &mut Rng) -> u64 {
+    let id = rng.below(256);
+    rng.pick(&[0, 127, 128, 255, id, id, id, id])
+}
+
+/// An area placed with so many rows and columns of nodes and so many satellites, with or without a
+/// troposphere grid.
+pub fn placed(rng: &mut Rng, rows: u64, columns: u64, satellites: u64) -> Entry {
+    let id = some_id(rng);
+    let mut of = area(rng, id);
+    (of.latitude_count, of.longitude_count) = (rows - 1, columns - 1);
+    of.latitude = of.latitude.max(of.latitude_count * (of.latitude_spacing + 1));
+    let nodes = rows * columns;
+    let troposphere = (!rng.one_in(3)).then(|| grid(rng, &[6, 8], nodes));
+    let numbers = satellite_numbers(rng, satellites);
+    let satellites =
+        numbers.into_iter().map(|number| Satellite { number, grid: grid(rng, &[4, 7, 10, 14], nodes) });
+    let satellites = satellites.collect();
+    Entry::Placed(Placed { id, bits: area_number(&of), troposphere, satellites })
+}
+
+/// A size code by these widths, and residuals as the log has them.
+fn grid(rng: &mut Rng, widths: &[u32], nodes: u64) -> entries::Grid {
+    let size = rng.below(widths.len() as u64);
+    let top = (1u64 << widths[size as usize]) - 1;
+    let residuals = (0..nodes)
+        .map(|_| {
+            let some = rng.below(top + 1);
+            rng.pick(&[0, 1, top, (top + 1) / 2, some, some, some, some])
+        })
+        .collect();
+    entries::Grid { size, residuals }
+}
+
+/// So many satellite numbers of one band, ascending: the first ones, the last ones, or any.
+fn satellite_numbers(rng: &mut Rng, count: u64) -> Vec<u64> {
+    let mut numbers: Vec<u64> = BANDS[rng.below(2) as usize].clone().collect();
+    let way = rng.below(4);
+    while numbers.len() as u64 > count {
+        let last = numbers.len() as u64 - 1;
+        let any = rng.below(last + 1);
+        numbers.remove([last, 0, any, any][way as usize] as usize);
+    }
+    numbers
+}
+
+/// Bytes that, mostly, don't begin with an entry: a number replaced, not in shortest form, of many
+/// groups; cut, flipped, random.
+pub fn broken_entry(rng: &mut Rng) -> Vec<u8> {
+    let whole = entry(rng);
+    let mut numbers = entries::numbers(&whole);
+    let count = numbers.len() as u64;
+    let (near, any) = (rng.below(count.min(8)), rng.below(count));
+    let at = rng.pick(&[near, near, any]) as usize;
+    let old = numbers[at];
+    let beside = rng.pick(&[old.wrapping_sub(1), old + 1]);
+    let limits = [0, 2, 3, 4, 16, 33, 64, 65, 128, 192, 193, 255, 256, 257, 16384, 43200, 1 << 47, u64::MAX];
+    let limit = rng.pick(&limits);
+    let mut form: Vec<Vec<u8>> = numbers.iter().map(|&number| groups(number)).collect();
+    match rng.below(7) {
+        0 | 1 => {
+            numbers[at] = rng.pick(&[beside, limit]);
+            form[at] = groups(numbers[at]);
+            if rng.one_in(2) {
+                form.truncate(at + 1);
+            }
+        }
+        2 => {
+            // not in shortest form
+            if let Some(last) = form[at].last_mut() {
+                *last |= 0x80;
+            }
+            for _ in 0..rng.pick(&[0, 0, 1, 20]) {
+                form[at].push(0x80);
+            }
+            form[at].push(0);
+        }
+        3 => {
+            // a number of many groups, ended or not
+            let count = rng.pick(&[1, 7, 9, 10, 11, 300]);
+            form[at] = vec![rng.pick(&[0x80, 0xFF]); count];
+            if rng.one_in(2) {
+                form[at].push(rng.pick(&[0, 1, 2, 0x7F]));
+            } else {
+                form.truncate(at + 1);
+            }
+        }
+        4 => {
+            let whole: Vec<u8> = form.concat();
+            return whole[..rng.below(whole.len() as u64) as usize].to_vec();
+        }
+        5 => {
+            let whole: Vec<u8> = form.concat();
+            return damage(rng, &whole);
+        }
+        _ => {
+            let (kind, count) = (rng.below(5) as u8, rng.below(30) as usize);
+            return [&[kind][..], &rng.bytes(count)].concat();
+        }
     }
     form.concat()
 }

@@ -1,4 +1,5 @@
-//! The second program: document 01 written once more, from the documents alone.
+//! The second program: document 01, and request 3 of document 02, written once more, from the documents
+//! alone.
 //!
 //! It was written without the desk's own code at hand, so that a mistake in one need not be
 //! repeated in the other. It is meant to be read beside document 01: one file a topic, the
@@ -16,6 +17,7 @@ pub mod bits;
 pub mod book;
 pub mod checks;
 pub mod desk;
+pub mod entries;
 pub mod frame;
 pub mod generate;
 pub mod groups;

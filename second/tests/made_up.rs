@@ -4,11 +4,13 @@
 use second::answer::{number, Refusal};
 use second::book::{self, Book};
 use second::desk::{self, Of};
+use second::entries::{self, Coded, Entry, BANDS};
 use second::frame::{self, check, Plain};
 use second::generate::*;
 use second::payload::{self, Message, Takes, CONSTELLATIONS};
 use second::prepare::{self, Lent};
 use second::stream::{self, Event};
+use second::values::Residual;
 use second::views::AreaId;
 use second::{groups, kept, sheet, values, views};
 use std::collections::{BTreeMap, BTreeSet};
@@ -430,8 +432,107 @@ fn kept_books_come_back_and_broken_ones_reach_every_refusal() {
     assert_eq!(reached, BTreeSet::from([0, 1, 9, 16, 18]));
 }
 
+/// What the calls say of an entry, index by index, is what stands in it; one index further is FIELD.
+fn index_by_index(log: &[u8], entry: &Entry) {
+    let no_grid = entries::Grid { size: 0, residuals: vec![] };
+    let (grid, satellites) = match entry {
+        Entry::Placed(placed) => (placed.troposphere.as_ref().unwrap_or(&no_grid), &placed.satellites[..]),
+        _ => (&no_grid, &[][..]),
+    };
+    let logged = |coded: Coded| if coded.residual == Residual::Invalid { 0 } else { coded.code + 1 };
+    for (node, &expected) in grid.residuals.iter().enumerate() {
+        let coded = entries::troposphere(log, node as u64).unwrap();
+        assert_eq!(logged(coded), expected);
+        assert_eq!(values::residual([52, 53][grid.size as usize], coded.code), Ok(coded.residual));
+    }
+    for (k, satellite) in satellites.iter().enumerate() {
+        let k = k as u64;
+        assert_eq!(entries::satellite(log, k), Ok((satellite.number, satellite.grid.size)));
+        let sf = [64, 65, 66, 67][satellite.grid.size as usize];
+        for (node, &expected) in satellite.grid.residuals.iter().enumerate() {
+            let coded = entries::residual(log, k, node as u64).unwrap();
+            assert_eq!(logged(coded), expected);
+            assert_eq!(values::residual(sf, coded.code), Ok(coded.residual));
+        }
+        let nodes = satellite.grid.residuals.len() as u64;
+        assert_eq!(entries::residual(log, k, nodes), Err(Refusal::Field));
+    }
+    assert_eq!(entries::troposphere(log, grid.residuals.len() as u64), Err(Refusal::Field));
+    assert_eq!(entries::satellite(log, satellites.len() as u64), Err(Refusal::Field));
+    assert_eq!(entries::residual(log, satellites.len() as u64, 0), Err(Refusal::Field));
+}
+
+#[test]
+fn entries_come_back_and_every_beginning_of_one_is_short() {
+    let mut rng = made_from(13);
+    let mut kinds = BTreeSet::new();
+    let mut satellites = BTreeSet::new();
+    for round in 0..600 {
+        let entry = entry(&mut rng);
+        assert!(entries::sound(&entry));
+        let mut log = entries::bytes(&entry);
+        let used = log.len();
+        kinds.insert(match &entry {
+            Entry::Opened { aiou, .. } => (1, aiou.is_some(), false),
+            Entry::Placed(placed) => (2, placed.troposphere.is_some(), placed.satellites.is_empty()),
+            Entry::LeftOut { .. } => (3, false, false),
+        });
+        if let Entry::Placed(placed) = &entry {
+            satellites.extend(placed.satellites.iter().map(|satellite| satellite.number));
+        }
+        for end in (0..used).filter(|end| used < 100 || end % 37 == round % 37) {
+            assert_eq!(entries::read(&log[..end]), Err(Refusal::Short));
+        }
+        if used < 100 {
+            index_by_index(&log, &entry);
+        }
+        let behind = rng.below(20) as usize;
+        log.extend(rng.bytes(behind));
+        assert_eq!(entries::read(&log), Ok((entry, used)));
+    }
+    let placed = [(2, false, false), (2, false, true), (2, true, false), (2, true, true)];
+    let others = [(1, false, false), (1, true, false), (3, false, false)];
+    assert_eq!(kinds, others.into_iter().chain(placed).collect());
+    assert_eq!(satellites, BANDS.into_iter().flatten().collect());
+}
+
+#[test]
+fn broken_entries_reach_every_refusal_and_what_is_accepted_is_one_string_of_bytes() {
+    let mut rng = made_from(14);
+    let mut reached = BTreeMap::new();
+    for _ in 0..8000 {
+        let log = broken_entry(&mut rng);
+        let result = entries::read(&log);
+        *reached.entry(number(&result)).or_insert(0) += 1;
+        match result {
+            Ok((entry, used)) => {
+                assert!(entries::sound(&entry));
+                assert_eq!(entries::bytes(&entry), log[..used]);
+            }
+            Err(refusal) => {
+                // SHORT may end well or not; FORM stays FORM whatever comes behind, and some byte
+                // began it: before that byte the bytes are SHORT
+                for index in [0, 1, u64::MAX] {
+                    assert_eq!(entries::troposphere(&log, index), Err(refusal));
+                    assert_eq!(entries::satellite(&log, index), Err(refusal));
+                    assert_eq!(entries::residual(&log, index, 0), Err(refusal));
+                }
+                if refusal == Refusal::Form {
+                    let first =
+                        (0..=log.len()).find(|&end| entries::read(&log[..end]).is_err_and(|r| r == refusal));
+                    assert!(log[first.unwrap() - 1] < 0x80);
+                    let longer = [&log[..], &[0, 0x80, 1]].concat();
+                    assert_eq!(entries::read(&longer), Err(Refusal::Form));
+                }
+            }
+        }
+    }
+    assert_eq!(reached.keys().copied().collect::<Vec<_>>(), [0, 1, 18]);
+    assert!(reached.values().all(|&count| count > 200), "{reached:?}");
+}
+
 /// The numbers of a log, entry by entry: what kind it is and, for an area left out, why.
-fn entries(log: &[u8]) -> Vec<(u64, u64)> {
+fn told(log: &[u8]) -> Vec<(u64, u64)> {
     let mut rest = log;
     let mut all = Vec::new();
     let next = |rest: &mut &[u8]| {
@@ -503,7 +604,13 @@ fn scenes_reach_every_answer_and_entry_and_the_joined_call_agrees() {
                     desk = taken.desk;
                     assert!(desk::sound(&desk, &live, &run));
                     assert_eq!(log[taken.logged..], as_lent[taken.logged..]);
-                    logged.extend(entries(&log[..taken.logged]));
+                    logged.extend(told(&log[..taken.logged]));
+                    let mut at = 0;
+                    while at < taken.logged {
+                        let (entry, used) = entries::read(&log[at..taken.logged]).unwrap();
+                        assert_eq!(entries::bytes(&entry), log[at..at + used]);
+                        at += used;
+                    }
                     longest = longest.max(taken.logged);
                     let held = 6 * desk.live.count as usize;
                     assert_eq!(live[held..], before_live[held..]);

@@ -1,8 +1,8 @@
--- Laws, of every verdict: its log has room, and a refusal is one by which a desk can answer. Proved; assumes nothing.
+-- Laws, of every verdict: its log has room, a refusal is one by which a desk can answer, its areas are bytes, and its message was read. Proved; assumes nothing.
 use mathlib.Core.Path.{_≡_, refl, ap, ap₂, sym, subst, _∙_}
 use mathlib.Core.Bool.{Bool, true, false, cond, not, _&&_, true≢false}
 use mathlib.Core.List.{List, [], _∷_, _++_}
-use Prim.Native.Nat.{ℕ, _+_, _≤_}
+use Prim.Native.Nat.{ℕ, _+_, _*_, _≤_}
 use native.Mathlib.Omega.{arith}
 use lib.Dec.{ltb, eqb, lit≤}
 use lib.ListN.{length, getD, drop, length-append, length-drop}
@@ -13,10 +13,12 @@ use Rattle.answer.specs.Stop.{stop}
 use Rattle.answer.specs.declared.Refusal.{Refusal}
 use Rattle.answer.specs.declared.Refusal.the-variants.{Preamble, FrameCrc, Length, MessageCrc}
 use Rattle.answer.specs.declared.Refusal.the-variants as refusal
-use Rattle.bits.specs.Bits.{toBits}
+use Rattle.bits.specs.Bits.{Bytes, toBits}
+use Rattle.bits.specs.Laws.{bytes-none, bytes-append, bytes-drop}
 use Rattle.layout.specs.Layout.{done, readL}
 use Rattle.layout.specs.Layout as layout
 use Rattle.codes.specs.Tables.{rowOf}
+use Rattle.codes.specs.declared.Constellation.{Constellation}
 use Rattle.groups.specs.Groups.{groupsOfAll}
 use Rattle.groups.specs.Laws.{groups-all-append}
 use Rattle.hpac.specs.Hpac.{Hpac, hpac}
@@ -28,7 +30,8 @@ use Rattle.frame.specs.declared.Frame.{Frame}
 use Rattle.frame.specs.declared.Checked.{Checked}
 use Rattle.frame.specs.declared.Checked.the-variants as check
 use Rattle.area.specs.Area.{sf031, areaOff}
-use Rattle.book.specs.Book.{sound}
+use Rattle.area.specs.Laws.{bytes-area}
+use Rattle.book.specs.Book.{bytesOfAll, sound}
 use Rattle.book.specs.Take as gads
 use Rattle.book.specs.Payload.{gad-only}
 use Rattle.book.specs.declared.Book.{Book}
@@ -125,18 +128,38 @@ verdictAnswers (defines book bytes) = true
 verdictAnswers (continues book message) = true
 verdictAnswers (opens tag message) = true
 
+-- a message that was read from a payload
+pub record WasRead (constellation : Constellation) (message : Hpac) : Type 0 where
+  pub payload : List ℕ
+  pub codes : List ℕ
+  pub used : ℕ
+  pub reads : readL (hpac constellation done) (toBits payload) ≡ layout.accepted message codes used
+
+-- what a verdict brings: a live book in bytes, if the one before was, or a message that was read
+abbrev pub Brings : Constellation → (live : List ℕ) → Verdict → Type 0
+Brings constellation live (refused why) = Unit {0}
+Brings constellation live (defines book bytes) = Bytes live → Bytes bytes
+Brings constellation live (continues book message) = WasRead constellation message
+Brings constellation live (opens tag message) = WasRead constellation message
+
+areas-bytes : (l : List ℕ) → Bytes (bytesOfAll l)
+unfolding bytesOfAll
+areas-bytes [] = bytes-none
+areas-bytes (a ∷ l) = bytes-append (bytes-area a) (areas-bytes l)
+
 module _ (desk : Desk) (live run : List ℕ) where
   pub record Answered (v : Verdict) : Type 0 where
     pub room : length (loggedBy desk live run v) ≤ logRoom
     pub refusal : verdictAnswers v ≡ true
+    pub brings : Brings (desk .constellation) live v
 
   not-taken : (why : Refusal) → answers why ≡ true → Answered (refused why)
   unfolding loggedBy groupsOfAll
-  not-taken why e = record { room = lit≤ tt; refusal = e }
+  not-taken why e = record { room = lit≤ tt; refusal = e; brings = tt }
 
-  defined : (book : Book) (bytes : List ℕ) → Answered (defines book bytes)
+  defined : (book : Book) (bytes : List ℕ) → (Bytes live → Bytes bytes) → Answered (defines book bytes)
   unfolding loggedBy groupsOfAll
-  defined book bytes = record { room = lit≤ tt; refusal = refl }
+  defined book bytes h = record { room = lit≤ tt; refusal = refl; brings = h }
 
   stopped : (b : Bool) (why : Refusal) → answers why ≡ true → (rest : Verdict) → (b ≡ false → Answered rest) → Answered (stop b (refused why) rest)
   stopped true why e rest h = not-taken why e
@@ -145,6 +168,9 @@ module _ (desk : Desk) (live run : List ℕ) where
   module _ (ready : Ready desk live run) (header : Frame) (payload : List ℕ) where
     -- "4,096 bytes per frame, always enough"
     module _ (r : Reads (desk .constellation) payload) where
+      was-read : WasRead (desk .constellation) (r .message)
+      was-read = record { payload = payload; codes = r .codes; used = r .used; reads = r .reads }
+
       continued : (tag : ℕ) (book : Book) → desk .run ≡ Open tag book → Answered (continues book (r .message))
       unfolding loggedBy
       continued tag book e =
@@ -155,6 +181,7 @@ module _ (desk : Desk) (live run : List ℕ) where
                   (sound-open desk live run (ready .state) tag book e),
             );
             refusal = refl;
+            brings = was-read;
           }
 
       newly : Answered (opens (tagOf header) (r .message))
@@ -173,6 +200,7 @@ module _ (desk : Desk) (live run : List ℕ) where
                   (copied-sound (desk .book) live run (sound-live desk live run (ready .state)) (ready .room)),
             );
             refusal = refl;
+            brings = was-read;
           }
 
       by-run : (o : Run) → desk .run ≡ o → Answered (byRun o (tagOf header) (r .message))
@@ -199,14 +227,14 @@ module _ (desk : Desk) (live run : List ℕ) where
     by-gad : Answered (byPayload desk live header payload (judging 2 0 payload))
     by-gad = go (judging 2 0 payload) refl
       where
-        taken : (o : gads.Outcome) (aiou : ℕ) (bytes : List ℕ) → takeAnswers o ≡ true → Answered (byBook (gads.answerOf o aiou) bytes)
-        taken (gads.taken l) aiou bytes e = defined _ bytes
-        taken (gads.refused why) aiou bytes e = not-taken why e
+        taken : (o : gads.Outcome) (aiou : ℕ) → takeAnswers o ≡ true → Answered (byBook (gads.answerOf o aiou) (gads.leftBy o live))
+        taken (gads.taken l) aiou e = defined _ (bytesOfAll l ++ drop (6 * length l) live) (λ b. bytes-append (areas-bytes l) (bytes-drop (6 * length l) b))
+        taken (gads.refused why) aiou e = not-taken why e
 
         go : (o : layout.Outcome Message) → judging 2 0 payload ≡ o → Answered (byPayload desk live header payload o)
         go (layout.accepted message codes bits) e =
             subst (λ m. Answered (byMessage desk live header payload m)) (sym (gad-only payload message codes bits e .1))
-            (taken (gads.outcome (desk .book) live payload) _ _ (outcome-refuses (desk .book) live payload))
+            (taken (gads.outcome (desk .book) live payload) _ (outcome-refuses (desk .book) live payload))
         go (layout.refused why) e = not-taken why (gad-refuses payload why e)
 
     by-header : Answered (byHeader desk live header payload)

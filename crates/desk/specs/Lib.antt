@@ -10,5 +10,7 @@ pub mod Fits
 pub mod Answering
 pub mod History
 pub mod Continues
+pub mod Entries
 pub mod Theorems
+pub mod Display
 pub mod Determined
