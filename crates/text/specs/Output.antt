@@ -84,6 +84,10 @@ pub short-parts : (room : ℕ) (a b : List (List ℕ)) → Short room (a ++ b) �
 short-parts room [] b s = (tt, s)
 short-parts room (x ∷ a) b s = let r = short-parts room a b (s .1) in ((s .0, r .0), r .1)
 
+pub short-more : (room more : ℕ) (texts : List (List ℕ)) → room ≤ more → Short room texts → Short more texts
+short-more room more [] h s = tt
+short-more room more (x ∷ texts) h s = (omega (arith, s .0), short-more room more texts h (s .1))
+
 pub flatten-append : (a b : List (List ℕ)) → flatten (a ++ b) ≡ flatten a ++ flatten b
 unfolding flatten
 flatten-append [] b = refl
