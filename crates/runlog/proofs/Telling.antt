@@ -7,6 +7,8 @@ use native.Mathlib.Omega.{arith}
 use lib.ListN.{length, take, drop}
 use lib.Seq.{drop-drop, length-take-le}
 use Rattle.text.specs.Text.{waiting, Waiting, sayAll, waitingAfter, saidAfter}
+use Rattle.text.specs.Output.{say-then}
+use Rattle.words.specs.Log.{wholeIn, wholeOf, textsOfLog}
 use Rattle.frame.specs.declared.Frame.{Frame}
 use Rattle.sizes.specs.Sizes.{logRoom}
 use Rattle.stream.specs.declared.Tray.{Tray}
@@ -30,7 +32,7 @@ use Rattle.prepare.specs.Driver.{State, Tells, Feeds, Closes}
 use Rattle.prepare.specs.Steps.{guarded-is}
 use Rattle.runlog.specs.declared.hearing.Heard.{Heard}
 use Rattle.runlog.specs.Events.{isEvent, heardOf, Prepared, Hearing, Step, Within, toTell, lastToTell, Called, Finished, Spoken, Onward, Nearer, Advanced, Neared}
-use Rattle.runlog.specs.Telling.{stateOf, some, logsOf, Told, Ended}
+use Rattle.runlog.specs.Telling.{stateOf, some, textsFor, logsOf, Told, Ended}
 
 -- ---- entries are written for a frame that is taken, and for nothing else
 
@@ -68,10 +70,11 @@ tellable (said.Refused why) n bytes log q z = let y : _≡_ {A = ℕ} 0 1 = cc i
 
 -- ---- what is said one behind the other
 
-say-some : (entries : List ℕ) (w w₁ w₂ : Waiting) (rest : List (List ℕ)) → w₁ ≡ sayAll w (some entries) → w₂ ≡ sayAll w₁ rest → w₂ ≡ sayAll w (some entries ++ rest)
-unfolding sayAll
-say-some [] w w₁ w₂ rest p q = q ∙ ap (λ v. sayAll v rest) p
-say-some (x ∷ xs) w w₁ w₂ rest p q = q ∙ ap (λ v. sayAll v rest) p
+-- of no entries nothing is said
+none-said : (raw : Bool) → textsFor raw [] ≡ []
+unfolding textsOfLog wholeOf wholeIn
+none-said true = refl
+none-said false = refl
 
 -- ---- an event, and what is none
 
@@ -141,18 +144,18 @@ module _ (handed : Handed) (o : stream.Outcome) (a : Answer) (bytes′ live′ r
     tells = subst (λ (r : Result). Tells (r .answer .said) (r .answer .log) (r .bytes) (r .log) (event .0)) e (event .1)
 
     -- its entries are said, and others behind them
-    says-on : (out out′ oo : List ℕ) (at at′ aa : ℕ) (rest : List uncut.Told) → waiting out′ at′ ≡ sayAll (waiting out at) (some (take (a .log) log′))
-        → waiting oo aa ≡ sayAll (waiting out′ at′) (logsOf rest) → waiting oo aa ≡ sayAll (waiting out at) (logsOf (event .0 ∷ rest))
+    says-on : (raw : Bool) (out out′ oo : List ℕ) (at at′ aa : ℕ) (rest : List uncut.Told) → waiting out′ at′ ≡ sayAll (waiting out at) (textsFor raw (take (a .log) log′))
+        → waiting oo aa ≡ sayAll (waiting out′ at′) (logsOf raw rest) → waiting oo aa ≡ sayAll (waiting out at) (logsOf raw (event .0 ∷ rest))
     unfolding logsOf
-    says-on out out′ oo at at′ aa rest p q =
-        say-some (entriesOf (event .0)) (waiting out at) (waiting out′ at′) (waiting oo aa) (logsOf rest)
-        (p ∙ ap (λ l. sayAll (waiting out at) (some l)) (sym (event .2))) q
+    says-on raw out out′ oo at at′ aa rest p q =
+        say-then (waiting out at) (textsFor raw (entriesOf (event .0))) (logsOf raw rest) (p ∙ ap (λ l. sayAll (waiting out at) (textsFor raw l)) (sym (event .2))) q
 
   -- nothing is said
-  says-none : (n : isEvent (a .said) ≡ false) (out out′ : List ℕ) (at at′ : ℕ) → waiting out′ at′ ≡ sayAll (waiting out at) (some (take (a .log) log′))
-      → waiting out′ at′ ≡ sayAll (waiting out at) (logsOf [])
+  says-none : (raw : Bool) (n : isEvent (a .said) ≡ false) (out out′ : List ℕ) (at at′ : ℕ) → waiting out′ at′ ≡ sayAll (waiting out at) (textsFor raw (take (a .log) log′))
+      → waiting out′ at′ ≡ sayAll (waiting out at) (logsOf raw [])
   unfolding logsOf
-  says-none n out out′ at at′ p = p ∙ ap (λ (k : ℕ). sayAll (waiting out at) (some (take k log′))) (quiet (a .said) (a .log) n silent)
+  says-none raw n out out′ at at′ p =
+      p ∙ ap (λ (k : ℕ). sayAll (waiting out at) (textsFor raw (take k log′))) (quiet (a .said) (a .log) n silent) ∙ ap (sayAll (waiting out at)) (none-said raw)
 
 -- ---- past ROOM and STATE a call and a finish are the stream's
 
@@ -169,7 +172,7 @@ module _ (bytes live run log : List ℕ) (tray : Tray) (desk : Desk) (p : Prepar
 
 module _ (raw : Bool) (bytes live run log input : List ℕ) (tray : Tray) (desk : Desk) (p : Prepared bytes tray desk live run log)
     (bytes′ live′ run′ log′ : List ℕ) (a : Answer) (e : results a bytes′ live′ run′ log′ ≡ byCall (hands bytes tray desk live run log) input)
-    (out out′ : List ℕ) (at at′ : ℕ) (w : raw ≡ true → waiting out′ at′ ≡ sayAll (waiting out at) (some (take (a .log) log′))) where
+    (out out′ : List ℕ) (at at′ : ℕ) (w : waiting out′ at′ ≡ sayAll (waiting out at) (textsFor raw (take (a .log) log′))) where
   abbrev lent : Handed
   lent = hands bytes tray desk live run log
 
@@ -180,7 +183,7 @@ module _ (raw : Bool) (bytes live run log input : List ℕ) (tray : Tray) (desk 
     feeds =
         Feeds.an-event log (p .log-room) (tells lent (callOutcome lent input) a bytes′ live′ run′ log′ e n)
         (onto lent (callOutcome lent input) a bytes′ live′ run′ log′ e (λ s₁ u. Feeds waits s₁ (drop u input ∷ []) (z .told) s) (z .feeds));
-    says = λ q. says-on lent (callOutcome lent input) a bytes′ live′ run′ log′ e n out out′ oo at at′ aa (z .told) (w q) (z .says q);
+    says = says-on lent (callOutcome lent input) a bytes′ live′ run′ log′ e n raw out out′ oo at at′ aa (z .told) w (z .says);
   }
 
   call-stops : isEvent (a .said) ≡ false → Told raw (stateOf bytes tray desk live run) out at input (stateOf bytes′ (a .tray) (a .desk) live′ run′) out′ at′
@@ -195,14 +198,14 @@ module _ (raw : Bool) (bytes live run log input : List ℕ) (tray : Tray) (desk 
         feeds =
             back lent (callOutcome lent input) a bytes′ live′ run′ log′ e (λ s₁. Feeds waits (stateOf bytes tray desk live run) (input ∷ []) [] s₁)
             (Feeds.all-used log (p .log-room) h Feeds.no-more);
-        says = λ q. says-none lent (callOutcome lent input) a bytes′ live′ run′ log′ e n out out′ at at′ (w q);
+        says = says-none lent (callOutcome lent input) a bytes′ live′ run′ log′ e raw n out out′ at at′ w;
       }
 
 -- ---- a finish, told
 
 module _ (raw : Bool) (bytes live run log : List ℕ) (tray : Tray) (desk : Desk) (p : Prepared bytes tray desk live run log)
     (bytes′ live′ run′ log′ : List ℕ) (a : Answer) (e : results a bytes′ live′ run′ log′ ≡ byFinish (hands bytes tray desk live run log))
-    (out out′ : List ℕ) (at at′ : ℕ) (w : raw ≡ true → waiting out′ at′ ≡ sayAll (waiting out at) (some (take (a .log) log′))) where
+    (out out′ : List ℕ) (at at′ : ℕ) (w : waiting out′ at′ ≡ sayAll (waiting out at) (textsFor raw (take (a .log) log′))) where
   abbrev lent′ : Handed
   lent′ = hands bytes tray desk live run log
 
@@ -213,7 +216,7 @@ module _ (raw : Bool) (bytes live run log : List ℕ) (tray : Tray) (desk : Desk
     closes =
         Closes.an-event log (p .log-room) (tells lent′ (finishOutcome lent′) a bytes′ live′ run′ log′ e n)
         (onto lent′ (finishOutcome lent′) a bytes′ live′ run′ log′ e (λ s₁ u. Closes s₁ (z .told) s) (z .closes));
-    says = λ q. says-on lent′ (finishOutcome lent′) a bytes′ live′ run′ log′ e n out out′ oo at at′ aa (z .told) (w q) (z .says q);
+    says = says-on lent′ (finishOutcome lent′) a bytes′ live′ run′ log′ e n raw out out′ oo at at′ aa (z .told) w (z .says);
   }
 
   finish-stops : isEvent (a .said) ≡ false → Ended raw (stateOf bytes tray desk live run) out at (stateOf bytes′ (a .tray) (a .desk) live′ run′) out′ at′
@@ -226,7 +229,7 @@ module _ (raw : Bool) (bytes live run log : List ℕ) (tray : Tray) (desk : Desk
         told = [];
         closes =
             back lent′ (finishOutcome lent′) a bytes′ live′ run′ log′ e (λ s₁. Closes (stateOf bytes tray desk live run) [] s₁) (Closes.is-done log (p .log-room) h);
-        says = λ q. says-none lent′ (finishOutcome lent′) a bytes′ live′ run′ log′ e n out out′ at at′ (w q);
+        says = says-none lent′ (finishOutcome lent′) a bytes′ live′ run′ log′ e raw n out out′ at at′ w;
       }
 
 -- ---- what is answered, as the preparing stands then
@@ -234,7 +237,7 @@ module _ (raw : Bool) (bytes live run log : List ℕ) (tray : Tray) (desk : Desk
 module _ (raw : Bool) (bytes live run log portion : List ℕ) (was : Heard)
     (bytes′ live′ run′ log′ : List ℕ) (a : Answer) (e : Called bytes (was .tray) (was .desk) live run log portion (was .used) a bytes′ live′ run′ log′)
     (out out′ : List ℕ) (heard : Heard) (k : Spoken (was .used) a log′ raw out (was .at) out′ heard) where
-  onward : (at′ : ℕ) (x : Heard) → x ≡ heardOf (was .used) a at′ → (raw ≡ true → waiting out′ at′ ≡ sayAll (waiting out (was .at)) (some (take (a .log) log′)))
+  onward : (at′ : ℕ) (x : Heard) → x ≡ heardOf (was .used) a at′ → waiting out′ at′ ≡ sayAll (waiting out (was .at)) (textsFor raw (take (a .log) log′))
       → Onward raw (stateOf bytes (was .tray) (was .desk) live run) out (was .at) (drop (was .used) portion) (stateOf bytes′ (x .tray) (x .desk) live′ run′) out′ at′
       (drop (x .used) portion) (x .more)
   onward at′ x t w =
@@ -257,7 +260,7 @@ module _ (raw : Bool) (bytes live run log portion : List ℕ) (was : Heard)
 module _ (raw : Bool) (bytes live run log : List ℕ) (was : Heard)
     (bytes′ live′ run′ log′ : List ℕ) (a : Answer) (e : Finished bytes (was .tray) (was .desk) live run log a bytes′ live′ run′ log′)
     (out out′ : List ℕ) (heard : Heard) (k : Spoken 0 a log′ raw out (was .at) out′ heard) where
-  nearer : (at′ : ℕ) (x : Heard) → x ≡ heardOf 0 a at′ → (raw ≡ true → waiting out′ at′ ≡ sayAll (waiting out (was .at)) (some (take (a .log) log′)))
+  nearer : (at′ : ℕ) (x : Heard) → x ≡ heardOf 0 a at′ → waiting out′ at′ ≡ sayAll (waiting out (was .at)) (textsFor raw (take (a .log) log′))
       → Nearer raw (stateOf bytes (was .tray) (was .desk) live run) out (was .at) (stateOf bytes′ (x .tray) (x .desk) live′ run′) out′ at′ (x .more)
   nearer at′ x t w =
       rw t (record {
@@ -272,25 +275,25 @@ module _ (raw : Bool) (bytes live run log : List ℕ) (was : Heard)
   finish-neared = record { step = stepped-last (heard .at) heard (k .heard-is); nearer = nearer (heard .at) heard (k .heard-is) (k .says) }
 
 pub spoken-is : (used : ℕ) (a : Answer) (log : List ℕ) (raw : Bool) (out out′ : List ℕ) (at at′ : ℕ) (more : Bool) → more ≡ isEvent (a .said)
-    → (raw ≡ true → waiting out′ at′ ≡ sayAll (waiting out at) (some (take (a .log) log)))
+    → waiting out′ at′ ≡ sayAll (waiting out at) (textsFor raw (take (a .log) log))
     → Spoken used a log raw out at out′ (record { tray = a .tray; desk = a .desk; used = used + a .used; at = at′; more = more })
 spoken-is used a log raw out out′ at at′ more e w = record { heard-is = rw e; says = w }
 
 -- ---- the entries said
 
 module _ (raw : Bool) (out log : List ℕ) (at n : ℕ) where
-  pub nothing-said : n ≡ 0 → raw ≡ true → waiting out at ≡ sayAll (waiting out at) (some (take n log))
+  pub nothing-said : n ≡ 0 → waiting out at ≡ sayAll (waiting out at) (textsFor raw (take n log))
   unfolding sayAll
-  nothing-said z r = rw z
+  nothing-said z = sym (ap (λ (k : ℕ). sayAll (waiting out at) (textsFor raw (take k log))) z ∙ ap (sayAll (waiting out at)) (none-said raw))
 
-  pub entries-said : (out′ : List ℕ) (r : ℕ) → (n ≡ 0 → ⊥) → n ≤ length log → r ≡ waitingAfter out at (take n log) → out′ ≡ saidAfter out at (take n log)
-      → raw ≡ true → waiting out′ r ≡ sayAll (waiting out at) (some (take n log))
+  pub entries-said : (out′ : List ℕ) (r : ℕ) → (n ≡ 0 → ⊥) → n ≤ length log → raw ≡ true → r ≡ waitingAfter out at (take n log) → out′ ≡ saidAfter out at (take n log)
+      → waiting out′ r ≡ sayAll (waiting out at) (textsFor raw (take n log))
   unfolding sayAll
-  entries-said out′ r z l p q _ = go (take n log) (length-take-le n log l) p q
+  entries-said out′ r z l t p q = rw t (go (take n log) (length-take-le n log l) p q)
     where
       go : (t : List ℕ) → length t ≡ n → r ≡ waitingAfter out at t → out′ ≡ saidAfter out at t → waiting out′ r ≡ sayAll (waiting out at) (some t)
       go [] y p q = absurd (z (sym y))
       go (x ∷ xs) y p q = rw (q, p)
 
-  pub not-raw : (out′ : List ℕ) (r : ℕ) → raw ≡ false → raw ≡ true → waiting out′ r ≡ sayAll (waiting out at) (some (take n log))
-  not-raw out′ r f t = let y : _≡_ {A = ℕ} 0 1 = cc in absurd (omega arith)
+  pub lines-said : (out′ : List ℕ) (r : ℕ) → raw ≡ false → waiting out′ r ≡ sayAll (waiting out at) (textsOfLog (take n log)) → waiting out′ r ≡ sayAll (waiting out at) (textsFor raw (take n log))
+  lines-said out′ r f p = rw f p

@@ -18,7 +18,7 @@ use Rattle.prepare.specs.declared.Said.the-variants as said
 use Rattle.prepare.specs.Prepare.{booksIn, hands, results, byCall, byFinish}
 use Rattle.prepare.specs.Driver.{State, Sound}
 use Rattle.runlog.specs.declared.hearing.Heard.{Heard}
-use Rattle.runlog.specs.Telling.{stateOf, some, Told, Ended}
+use Rattle.runlog.specs.Telling.{stateOf, textsFor, Told, Ended}
 
 -- a frame, taken or refused, and noise
 abbrev pub isEvent : Said → Bool
@@ -86,10 +86,10 @@ pub record Finished (bytes : List ℕ) (tray : Tray) (desk : Desk) (live run log
   pub entries-fit : answer .log ≤ length log′
   pub results-are : results answer bytes′ live′ run′ log′ ≡ byFinish (hands bytes tray desk live run log)
 
--- an answer that is told: in the raw form, the entries that were written
+-- an answer that is told: the entries that were written are said
 pub record Spoken (used : ℕ) (answer : Answer) (log : List ℕ) (raw : Bool) (out : List ℕ) (at : ℕ) (out′ : List ℕ) (heard : Heard) : Type 0 where
   pub heard-is : heard ≡ heardOf used answer (heard .at)
-  pub says : raw ≡ true → waiting out′ (heard .at) ≡ sayAll (waiting out at) (some (take (answer .log) log))
+  pub says : waiting out′ (heard .at) ≡ sayAll (waiting out at) (textsFor raw (take (answer .log) log))
 
 -- One call: if there is more, what is told of the rest is told behind it; else all is told.
 pub record Onward (raw : Bool) (state : State) (out : List ℕ) (at : ℕ) (input : List ℕ) (state′ : State) (out′ : List ℕ) (at′ : ℕ) (rest : List ℕ) (more : Bool) : Type 0 where

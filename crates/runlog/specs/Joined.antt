@@ -1,11 +1,12 @@
--- Laws: the entries of what is told, joined, are its run log; and those of each event have room where there is room for a frame's log. Proved.
+-- Laws: the texts of what is told, one behind the other; in the raw form they are its run log, and those of each event have room where there is room for a frame's log. Proved.
 use mathlib.Core.Path.{_≡_, refl, sym, ap, _∙_, subst}
+use mathlib.Core.Bool.{Bool, true}
 use mathlib.Core.List.{List, [], _∷_, _++_, append-assoc, flatten}
 use Prim.Native.Nat.{ℕ, _≤_}
 use native.Mathlib.Omega.{arith}
 use lib.ListN.{length, replicate, length-replicate}
 use Rattle.text.specs.Text.{Short}
-use Rattle.text.specs.Output.{short-parts}
+use Rattle.text.specs.Output.{short-parts, flatten-append}
 use Rattle.sizes.specs.Sizes.{logRoom}
 use Rattle.stream.specs.Scan.{Event, frame, noise}
 use Rattle.desk.specs.Take as desk
@@ -15,7 +16,7 @@ use Rattle.prepare.specs.Uncut as uncut
 use Rattle.prepare.specs.Uncut.{verdictOn, toldBy, toldOf, toldAll, booksAfter, entriesOf, runLog}
 use Rattle.prepare.specs.Driver.{Sound}
 use Rattle.prepare.specs.Stays.{verdict-past, sound-after}
-use Rattle.runlog.specs.Telling.{some, logsOf}
+use Rattle.runlog.specs.Telling.{some, textsFor, logsOf}
 
 -- ---- the entries of what is told
 
@@ -24,10 +25,10 @@ unfolding flatten
 some-flat [] rest = refl
 some-flat (x ∷ xs) rest = refl
 
-pub logs-join : (ts : List uncut.Told) → flatten (logsOf ts) ≡ runLog ts
+pub logs-join : (ts : List uncut.Told) → flatten (logsOf true ts) ≡ runLog ts
 unfolding logsOf runLog flatten
 logs-join [] = refl
-logs-join (t ∷ ts) = some-flat (entriesOf t) (logsOf ts) ∙ ap (λ l. entriesOf t ++ l) (logs-join ts)
+logs-join (t ∷ ts) = some-flat (entriesOf t) (logsOf true ts) ∙ ap (λ l. entriesOf t ++ l) (logs-join ts)
 
 some-short : (room : ℕ) (entries : List ℕ) (rest : List (List ℕ)) → length entries ≤ room → Short room rest → Short room (some entries ++ rest)
 some-short room [] rest h s = s
@@ -49,17 +50,22 @@ entries-short books sound (frame header bytes) =
     go (desk.continues book message) h = h
     go (desk.opens tag message) h = h
 
-pub told-short : (events : List Event) (books : Held) → Sound books → Short logRoom (logsOf (toldAll books events))
+pub raw-short : (events : List Event) (books : Held) → Sound books → Short logRoom (logsOf true (toldAll books events))
 unfolding logsOf toldAll
-told-short [] books sound = tt
-told-short (e ∷ events) books sound =
-    some-short logRoom (entriesOf (toldOf books e)) (logsOf (toldAll (booksAfter books e) events)) (entries-short books sound e)
-    (told-short events (booksAfter books e) (sound-after sound e))
+raw-short [] books sound = tt
+raw-short (e ∷ events) books sound =
+    some-short logRoom (entriesOf (toldOf books e)) (logsOf true (toldAll (booksAfter books e) events)) (entries-short books sound e)
+    (raw-short events (booksAfter books e) (sound-after sound e))
 
-logs-append : (ts us : List uncut.Told) → logsOf (ts ++ us) ≡ logsOf ts ++ logsOf us
-unfolding logsOf
-logs-append [] us = refl
-logs-append (t ∷ ts) us = ap (λ l. some (entriesOf t) ++ l) (logs-append ts us) ∙ sym (append-assoc (some (entriesOf t)) (logsOf ts) (logsOf us))
+module _ (raw : Bool) where
+  logs-append : (ts us : List uncut.Told) → logsOf raw (ts ++ us) ≡ logsOf raw ts ++ logsOf raw us
+  unfolding logsOf
+  logs-append [] us = refl
+  logs-append (t ∷ ts) us =
+      ap (λ l. textsFor raw (entriesOf t) ++ l) (logs-append ts us) ∙ sym (append-assoc (textsFor raw (entriesOf t)) (logsOf raw ts) (logsOf raw us))
 
-pub logs-parts : (ts us : List uncut.Told) → Short logRoom (logsOf (ts ++ us)) → Short logRoom (logsOf ts) × Short logRoom (logsOf us)
-logs-parts ts us s = short-parts logRoom (logsOf ts) (logsOf us) (subst (Short logRoom) (logs-append ts us) s)
+  pub logs-parts : (ts us : List uncut.Told) → Short logRoom (logsOf raw (ts ++ us)) → Short logRoom (logsOf raw ts) × Short logRoom (logsOf raw us)
+  logs-parts ts us s = short-parts logRoom (logsOf raw ts) (logsOf raw us) (subst (Short logRoom) (logs-append ts us) s)
+
+  pub logs-flat : (ts us : List uncut.Told) → flatten (logsOf raw ts) ++ flatten (logsOf raw us) ≡ flatten (logsOf raw (ts ++ us))
+  logs-flat ts us = sym (ap flatten (logs-append ts us) ∙ flatten-append (logsOf raw ts) (logsOf raw us))

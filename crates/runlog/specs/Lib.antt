@@ -4,4 +4,5 @@ pub mod Running
 pub mod Outgoing
 pub mod Events
 pub mod Joined
+pub mod Lines
 pub mod Theorems

@@ -1,10 +1,11 @@
 -- Definitions to believe: what the program tells of a stream. Its log is said as `text::say` says a text: it waits in the output's buffer, and goes out when that is full and
--- before the next read. In the raw form the bytes said are the entries as they were written; the lines of the form in words are crate `words`'.
+-- before the next read. In the raw form the bytes said are the entries as they were written; in words the lines are crate `words`'.
 use mathlib.Core.Path.{_≡_}
-use mathlib.Core.Bool.{Bool, true}
+use mathlib.Core.Bool.{Bool, true, false}
 use mathlib.Core.List.{List, [], _∷_, _++_}
 use Prim.Native.Nat.{ℕ}
 use Rattle.text.specs.Text.{waiting, sayAll}
+use Rattle.words.specs.Log.{textsOfLog}
 use Rattle.stream.specs.declared.Tray.{Tray}
 use Rattle.stream.specs.Driver.{waits}
 use Rattle.desk.specs.declared.Desk.{Desk}
@@ -22,19 +23,24 @@ abbrev pub some : (bytes : List ℕ) → List (List ℕ)
 some [] = []
 some (x ∷ xs) = (x ∷ xs) ∷ []
 
--- the entries of each event
-unfoldable pub logsOf : List uncut.Told → List (List ℕ)
-logsOf [] = []
-logsOf (told ∷ rest) = some (entriesOf told) ++ logsOf rest
+-- the texts of a log: its own bytes, or the lines of its entries
+abbrev pub textsFor : (raw : Bool) → (log : List ℕ) → List (List ℕ)
+textsFor true log = some log
+textsFor false log = textsOfLog log
 
--- A portion is told until hungry: what its calls tell, and in the raw form the entries that they write.
+-- those of each event
+unfoldable pub logsOf : (raw : Bool) → List uncut.Told → List (List ℕ)
+logsOf raw [] = []
+logsOf raw (told ∷ rest) = textsFor raw (entriesOf told) ++ logsOf raw rest
+
+-- A portion is told until hungry: what its calls tell, and the entries that they write are said.
 pub record Told (raw : Bool) (state : State) (out : List ℕ) (at : ℕ) (portion : List ℕ) (state′ : State) (out′ : List ℕ) (at′ : ℕ) : Type 0 where
   pub told : List uncut.Told
   pub feeds : Feeds waits state (portion ∷ []) told state′
-  pub says : raw ≡ true → waiting out′ at′ ≡ sayAll (waiting out at) (logsOf told)
+  pub says : waiting out′ at′ ≡ sayAll (waiting out at) (logsOf raw told)
 
 -- The stream's end is told until done.
 pub record Ended (raw : Bool) (state : State) (out : List ℕ) (at : ℕ) (state′ : State) (out′ : List ℕ) (at′ : ℕ) : Type 0 where
   pub told : List uncut.Told
   pub closes : Closes state told state′
-  pub says : raw ≡ true → waiting out′ at′ ≡ sayAll (waiting out at) (logsOf told)
+  pub says : waiting out′ at′ ≡ sayAll (waiting out at) (logsOf raw told)

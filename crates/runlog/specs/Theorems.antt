@@ -1,13 +1,16 @@
 -- With `raw` the program's bytes are the run log of the uncut stream: those that go out (Outgoing.antt), portion after portion and at the end, are those that document 01 lays down for the
--- portions that were told, joined, by the desk that the command line asked for, however they are cut. Proved.
+-- portions that were told, joined, by the desk that the command line asked for, however they are cut. In words they are the lines of the entries that this run log reads as. Proved.
 use mathlib.Core.Path.{_≡_, refl, sym, ap, ap₂, _∙_, subst}
-use mathlib.Core.Bool.{Bool, true}
+use mathlib.Core.Bool.{Bool, true, false}
 use mathlib.Core.List.{List, [], _∷_, _++_, flatten}
 use Prim.Native.Nat.{ℕ, _≤_}
 use native.Mathlib.Omega.{arith}
 use lib.ListN.{length, replicate, length-replicate}
-use Rattle.text.specs.Text.{waiting, sayAll, wholeOut, Short}
+use Rattle.text.specs.Text.{Short}
 use Rattle.text.specs.Output.{whole-out}
+use Rattle.entries.specs.Entry.{Entry}
+use Rattle.entries.specs.Ends.{ReadsAs}
+use Rattle.words.specs.Lines.{each, textsOf}
 use Rattle.sizes.specs.Sizes.{longestFrame, bookBytes, logRoom}
 use Rattle.stream.specs.Scan.{scan}
 use Rattle.stream.specs.Driver.{Clear, waits}
@@ -15,12 +18,12 @@ use Rattle.stream.specs.Theorems.{zeros-clear}
 use Rattle.desk.specs.declared.Desk.{Desk}
 use Rattle.desk.specs.declared.NewDesk.the-variants.{Made}
 use Rattle.desk.specs.Desk.{newDesk}
-use Rattle.desk.specs.History.{Held}
+use Rattle.desk.specs.History.{Held, Snapshot, KeptOn}
+use Rattle.desk.specs.Entries.{BooksInBytes}
 use Rattle.prepare.specs.Uncut as uncut
-use Rattle.prepare.specs.Uncut.{runLog, uncutTold, uncutLog}
+use Rattle.prepare.specs.Uncut.{uncutTold, uncutLog}
 use Rattle.prepare.specs.Driver.{State, Sound, Feeds, Whole, start}
-use Rattle.prepare.specs.Driving.{log-append}
-use Rattle.prepare.specs.Theorems.{prepared, fresh-sound}
+use Rattle.prepare.specs.Theorems.{prepared, fresh-sound, fresh-kept}
 use Rattle.runlog.specs.declared.command.Wanted.the-variants.{Log}
 use Rattle.runlog.specs.declared.hearing.Stop.{Stop}
 use Rattle.runlog.specs.declared.Job.the-variants as job
@@ -30,7 +33,8 @@ use Rattle.runlog.specs.Command.{jobOf}
 use Rattle.runlog.specs.Telling.{logsOf}
 use Rattle.runlog.specs.Running.{Reads, toldIn, AllTold, atStart, Ran, Does}
 use Rattle.runlog.specs.Outgoing.{outIn, outOf}
-use Rattle.runlog.specs.Joined.{logs-join, told-short, logs-parts}
+use Rattle.runlog.specs.Joined.{logs-join, raw-short, logs-parts, logs-flat}
+use Rattle.runlog.specs.Lines.{allIn, log-read, all-lines, words-short, told-read, zeros-bytes}
 
 portion-then : {s s₁ s₂ : State} {p : List ℕ} {ps : List (List ℕ)} {ts us : List uncut.Told} → Feeds waits s (p ∷ []) ts s₁ → Feeds waits s₁ ps us s₂
     → Feeds waits s (p ∷ ps) (ts ++ us) s₂
@@ -43,23 +47,17 @@ unfolding toldIn
 portions-feed Reads.no-more = Feeds.no-more
 portions-feed (Reads.a-portion at told rest) = portion-then (told .feeds) (portions-feed rest)
 
--- what goes out while something is told, and behind it, is its run log
-told-joined : (o o₁ : List ℕ) (at : ℕ) (ts : List uncut.Told) → waiting o₁ at ≡ sayAll (waiting o 0) (logsOf ts) → logRoom ≤ length o → Short logRoom (logsOf ts)
-    → (wholeOut o (logsOf ts) o₁ at ≡ runLog ts) × (length o₁ ≡ length o)
-told-joined o o₁ at ts e h s =
-    let r = whole-out o o₁ at logRoom (logsOf ts) e h s in
-    (r .0 ∙ logs-join ts, r .1)
-
-portions-joined : {raw : Bool} {s s₁ : State} {o o₁ : List ℕ} {ps : List (List ℕ)} → raw ≡ true → (r : Reads raw s o ps s₁ o₁) → logRoom ≤ length o → Short logRoom (logsOf (toldIn r))
-    → (outIn r ≡ runLog (toldIn r)) × (length o₁ ≡ length o)
-unfolding toldIn outIn runLog
-portions-joined q Reads.no-more h s = (refl, refl)
-portions-joined q (Reads.a-portion {o = o} {o₁ = p} at told rest) h s =
-    let d = logs-parts (told .told) (toldIn rest) s in
-    let j = told-joined o p at (told .told) (told .says q) h (d .0) in
+-- what goes out of the portions is the texts of what is told of them
+portions-joined : {raw : Bool} {s s₁ : State} {o o₁ : List ℕ} {ps : List (List ℕ)} → (r : Reads raw s o ps s₁ o₁) → logRoom ≤ length o → Short logRoom (logsOf raw (toldIn r))
+    → (outIn r ≡ flatten (logsOf raw (toldIn r))) × (length o₁ ≡ length o)
+unfolding toldIn outIn logsOf flatten
+portions-joined Reads.no-more h s = (refl, refl)
+portions-joined {raw = raw} (Reads.a-portion {o = o} {o₁ = p} at told rest) h s =
+    let d = logs-parts raw (told .told) (toldIn rest) s in
+    let j = whole-out o p at logRoom (logsOf raw (told .told)) (told .says) h (d .0) in
     let l = j .1 in
-    let r = portions-joined q rest (omega arith) (d .1) in
-    (ap₂ (λ x y. x ++ y) (j .0) (r .0) ∙ sym (log-append (told .told) (toldIn rest)), r .1 ∙ l)
+    let r = portions-joined rest (omega arith) (d .1) in
+    (ap₂ (λ x y. x ++ y) (j .0) (r .0) ∙ logs-flat raw (told .told) (toldIn rest), r .1 ∙ l)
 
 module _ {raw : Bool} {books : Held} {bytes out bytes₂ live₂ run₂ out₂ : List ℕ} {stop : Stop} (clear : Clear bytes) (sound : Sound books)
     (a : AllTold raw (start bytes books) out bytes₂ live₂ run₂ out₂ stop) where
@@ -77,26 +75,62 @@ module _ {raw : Bool} {books : Held} {bytes out bytes₂ live₂ run₂ out₂ :
   pub told-uncut : toldIn (a .reads) ++ a .closes .ends .told ≡ uncutTold books (flatten (a .portions))
   told-uncut = prepared clear sound whole .0
 
-  -- And with `raw` the bytes that go out are its run log.
-  pub out-uncut : raw ≡ true → logRoom ≤ length out → outOf a ≡ uncutLog books (flatten (a .portions))
-  out-uncut q h =
+  -- And the bytes that go out are the texts of it,
+  out-all : Short logRoom (logsOf raw (uncutTold books (flatten (a .portions)))) → logRoom ≤ length out → outOf a ≡ flatten (logsOf raw (uncutTold books (flatten (a .portions))))
+  out-all short h =
       let ts = toldIn (a .reads) in
       let us = a .closes .ends .told in
-      let s = logs-parts ts us (subst (λ ts. Short logRoom (logsOf ts)) (sym told-uncut) (told-short (scan (flatten (a .portions))) books sound)) in
-      let r = portions-joined q (a .reads) h (s .0) in
+      let s = logs-parts raw ts us (subst (λ ts. Short logRoom (logsOf raw ts)) (sym told-uncut) short) in
+      let r = portions-joined (a .reads) h (s .0) in
       let l = r .1 in
-      let j = told-joined (a .out₁) out₂ (a .closes .at′) us (a .closes .ends .says q) (omega arith) (s .1) in
-      ap₂ (λ x y. x ++ y) (r .0) (j .0) ∙ sym (log-append ts us) ∙ prepared clear sound whole .1
+      let j = whole-out (a .out₁) out₂ (a .closes .at′) logRoom (logsOf raw us) (a .closes .ends .says) (omega arith) (s .1) in
+      ap₂ (λ x y. x ++ y) (r .0) (j .0) ∙ logs-flat raw ts us ∙ ap (λ ts. flatten (logsOf raw ts)) told-uncut
+
+  -- with `raw` its run log,
+  pub out-uncut : raw ≡ true → logRoom ≤ length out → outOf a ≡ uncutLog books (flatten (a .portions))
+  out-uncut q h =
+      out-all (subst (λ (b : Bool). Short logRoom (logsOf b (uncutTold books (flatten (a .portions))))) (sym q) (raw-short (scan (flatten (a .portions))) books sound)) h
+      ∙ ap (λ (b : Bool). flatten (logsOf b (uncutTold books (flatten (a .portions))))) q ∙ logs-join (uncutTold books (flatten (a .portions)))
+
+  -- and in words the lines of the entries that it reads as.
+  pub out-lines : raw ≡ false → logRoom ≤ length out → (opening : Snapshot) → KeptOn (record { held = books; opening = opening })
+      → BooksInBytes (record { held = books; opening = opening })
+      → (entries : List Entry) × ReadsAs (uncutLog books (flatten (a .portions))) entries × (outOf a ≡ flatten (each textsOf entries))
+  out-lines q h opening k b =
+      let ts = uncutTold books (flatten (a .portions)) in
+      let r = told-read (scan (flatten (a .portions))) (record { held = books; opening = opening }) sound k b in (
+        allIn ts r,
+        log-read ts r,
+        out-all (subst (λ (b : Bool). Short logRoom (logsOf b ts)) (sym q) (words-short ts r)) h ∙ ap (λ (b : Bool). flatten (logsOf b ts)) q ∙ ap flatten (all-lines ts r),
+      )
 
 ran-by : {desk : Desk} {raw : Bool} {d : Done} → Does (job.Run desk raw) d → (stop : Stop) × Ran desk raw stop × (d ≡ done.Ran stop)
 ran-by (Does.runs {stop = stop} r) = (stop, r, refl)
 
 -- So it is by the desk that the command line asks for, if there is one: a new one for its solution, processor and constellation.
-pub run-log : (solution processor constellation : ℕ) (desk : Desk) → newDesk solution processor constellation ≡ Made desk
-    → {d : Done} → Does (jobOf (Log solution processor constellation true)) d
-    → (stop : Stop) × (ran : Ran desk true stop) × (d ≡ done.Ran stop) × (outOf (ran .all-told) ≡ uncutLog (atStart desk .books) (flatten (ran .all-told .portions)))
-run-log solution processor constellation desk e does =
-    let r = ran-by (rw e at does) in
-    let room : bookBytes ≤ length (replicate {A = ℕ} bookBytes 0) = omega (arith, length-replicate {A = ℕ} bookBytes 0) in
-    let sound = fresh-sound solution processor constellation desk e (replicate bookBytes 0) (replicate bookBytes 0) room room in
-    (r .0, r .1, r .2, out-uncut (zeros-clear longestFrame (omega arith)) sound (r .1 .all-told) refl (r .1 .out-room))
+module _ (solution processor constellation : ℕ) (desk : Desk) (e : newDesk solution processor constellation ≡ Made desk) where
+  room : bookBytes ≤ length (replicate {A = ℕ} bookBytes 0)
+  room = omega (arith, length-replicate {A = ℕ} bookBytes 0)
+
+  start-sound : Sound (atStart desk .books)
+  start-sound = fresh-sound solution processor constellation desk e (replicate bookBytes 0) (replicate bookBytes 0) room room
+
+  pub run-log : {d : Done} → Does (jobOf (Log solution processor constellation true)) d
+      → (stop : Stop) × (ran : Ran desk true stop) × (d ≡ done.Ran stop) × (outOf (ran .all-told) ≡ uncutLog (atStart desk .books) (flatten (ran .all-told .portions)))
+  run-log does =
+      let r = ran-by (rw e at does) in
+      (r .0, r .1, r .2, out-uncut (zeros-clear longestFrame (omega arith)) start-sound (r .1 .all-told) refl (r .1 .out-room))
+
+  pub run-lines : {d : Done} → Does (jobOf (Log solution processor constellation false)) d
+      → (stop : Stop) × (ran : Ran desk false stop) × (d ≡ done.Ran stop)
+      × ((entries : List Entry) × ReadsAs (uncutLog (atStart desk .books) (flatten (ran .all-told .portions))) entries × (outOf (ran .all-told) ≡ flatten (each textsOf entries)))
+  run-lines does =
+      let r = ran-by (rw e at does) in
+      let opening : Snapshot = record { book = desk .book; bytes = replicate bookBytes 0 } in (
+        r .0,
+        r .1,
+        r .2,
+        out-lines (zeros-clear longestFrame (omega arith)) start-sound (r .1 .all-told) refl (r .1 .out-room) opening
+            (fresh-kept solution processor constellation desk e (replicate bookBytes 0) (replicate bookBytes 0) opening)
+            (record { live = zeros-bytes bookBytes; opening = zeros-bytes bookBytes }),
+      )

@@ -84,7 +84,25 @@ pub short-parts : (room : ℕ) (a b : List (List ℕ)) → Short room (a ++ b) �
 short-parts room [] b s = (tt, s)
 short-parts room (x ∷ a) b s = let r = short-parts room a b (s .1) in ((s .0, r .0), r .1)
 
+pub short-more : (room more : ℕ) (texts : List (List ℕ)) → room ≤ more → Short room texts → Short more texts
+short-more room more [] h s = tt
+short-more room more (x ∷ texts) h s = (omega (arith, s .0), short-more room more texts h (s .1))
+
 pub flatten-append : (a b : List (List ℕ)) → flatten (a ++ b) ≡ flatten a ++ flatten b
 unfolding flatten
 flatten-append [] b = refl
 flatten-append (x ∷ a) b = ap (λ l. x ++ l) (flatten-append a b) ∙ sym (append-assoc x (flatten a) (flatten b))
+
+-- texts said, and others behind them
+pub say-append : (w : Waiting) (a b : List (List ℕ)) → sayAll (sayAll w a) b ≡ sayAll w (a ++ b)
+unfolding sayAll
+say-append w [] b = refl
+say-append w (text ∷ a) b = say-append (waiting (saidAfter (w .out) (w .at) text) (waitingAfter (w .out) (w .at) text)) a b
+
+-- one text said
+pub say-one : (out out′ : List ℕ) (at at′ : ℕ) (text : List ℕ) → at′ ≡ waitingAfter out at text → out′ ≡ saidAfter out at text → waiting out′ at′ ≡ sayAll (waiting out at) (text ∷ [])
+unfolding sayAll
+say-one out out′ at at′ text e o = rw (o, e)
+
+pub say-then : (w : Waiting) {w₁ w₂ : Waiting} (a b : List (List ℕ)) → w₁ ≡ sayAll w a → w₂ ≡ sayAll w₁ b → w₂ ≡ sayAll w (a ++ b)
+say-then w a b p q = q ∙ ap (λ v. sayAll v b) p ∙ say-append w a b
