@@ -1,9 +1,9 @@
 -- Serves proofs, and is proved: what the functions that read answer, by places in the bytes. Assumes nothing.
-use mathlib.Core.Path.{_≡_, refl, ap, ap₂, sym, _∙_, subst}
+use mathlib.Core.Path.{_≡_, ap, ap₂, sym, _∙_}
 use mathlib.Core.List.{List, [], _∷_, _++_}
 use Prim.Native.Nat.{ℕ, _+_, _-_, _*_, _≤_}
 use native.Mathlib.Omega.{arith}
-use lib.ListN.{length, drop, length-drop}
+use lib.ListN.{length, drop}
 use lib.Seq.{drop-drop}
 use Rattle.answer.specs.Stop.{stop}
 use Rattle.answer.specs.declared.Refusal.{Refusal}
