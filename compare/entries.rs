@@ -326,7 +326,7 @@ fn instead(rng: &mut Rng, all: &[Place], at: usize) -> Vec<Vec<u8>> {
     others.extend([1 << 32, 1 << 63, number | 1 << 63, u64::MAX]);
     match role {
         Role::Satellite => {
-            others.extend([1, 64, 65, 192, 193, 256, 257]);
+            others.extend([1, 64, 65, 193 - 1, 193, 256, 257]);
             let before = all[..at].iter().rev().find(|place| place.role == Role::Satellite);
             others.extend(before.iter().flat_map(|before| [before.number, before.number + 1]));
         }

@@ -1,6 +1,6 @@
 /* One job in C: messages come as a stream with noise before them, in portions of 40 bytes. Each event of the stream is printed by its number;
- * then a desk is made, the same stream is prepared, and each event is printed with the log bytes that it adds. Then an area is looked up, and
- * the book is kept and taken in by a second desk. Last come views of two sheets. */
+ * then a desk is made, the same stream is prepared, and each event is printed with the log bytes that it adds, and these are read back entry by
+ * entry. Then an area is looked up, and the book is kept and taken in by a second desk. Last come views of two sheets. */
 #include "homralgyu.h"
 
 #include <stdio.h>
@@ -11,6 +11,9 @@ enum { SOLUTION = 5, PROCESSOR = 11, GPS = 0, HPAC = 1, GAD = 2, PORTION = 40, M
 
 /* the events of a stream */
 enum { HUNGRY, FRAME, NOISE, DONE };
+
+/* the entries of the run log */
+enum { RUN_OPENED = 1, AREA_PLACED, LEFT_OUT };
 
 /* Everything that a job lends to its calls. */
 struct job {
@@ -98,6 +101,62 @@ static int tell(struct job *job)
     }
 }
 
+/* A residual of the log: invalid, or in its unit (1 metres, 3 TECU). */
+static void tell_residual(const uint64_t what[2], double value)
+{
+    if (what[0] == 0)
+        printf(" %u invalid", (unsigned)what[1]);
+    else
+        printf(" %u %+.3f %s", (unsigned)what[1], value, what[0] == 1 ? "metres" : "TECU");
+}
+
+/* The troposphere residuals of a placed area, then satellite by satellite those of the ionosphere, one a node. */
+static void tell_placed(const uint8_t *bytes, size_t size, const uint64_t *entry, uint64_t nodes)
+{
+    uint64_t satellite[2], what[2];
+    double value[1];
+    printf("area %u placed, %u satellites:", (unsigned)entry[HOMRALGYU_ENTRY_ID], (unsigned)entry[HOMRALGYU_ENTRY_S]);
+    for (uint64_t node = 0; node < entry[HOMRALGYU_ENTRY_T]; node++) {
+        must(homralgyu_entry_troposphere(bytes, size, node, what, 2, value, 1), "entry_troposphere");
+        tell_residual(what, value[0]);
+    }
+    printf("\n");
+    for (uint64_t k = 0; k < entry[HOMRALGYU_ENTRY_S]; k++) {
+        must(homralgyu_entry_satellite(bytes, size, k, satellite, 2), "entry_satellite");
+        printf("satellite %u, size %u:", (unsigned)satellite[0], (unsigned)satellite[1]);
+        for (uint64_t node = 0; node < nodes; node++) {
+            must(homralgyu_entry_residual(bytes, size, k, node, what, 2, value, 1), "entry_residual");
+            tell_residual(what, value[0]);
+        }
+        printf("\n");
+    }
+}
+
+/* The entries of the run log, as the display has them. */
+static void read_log(const uint8_t *log, size_t size)
+{
+    uint64_t entry[HOMRALGYU_ENTRY];
+    for (size_t at = 0; at < size; at += entry[HOMRALGYU_ENTRY_USED]) {
+        must(homralgyu_entry_read(log + at, size - at, entry, HOMRALGYU_ENTRY), "entry_read");
+        switch (entry[HOMRALGYU_ENTRY_KIND]) {
+        case RUN_OPENED:
+            printf("run opened, tag %u, AIOU + 1 %u, %u areas\n", (unsigned)entry[HOMRALGYU_ENTRY_TAG],
+                   (unsigned)entry[HOMRALGYU_ENTRY_AIOU_PLUS_ONE], (unsigned)entry[HOMRALGYU_ENTRY_COUNT]);
+            break;
+        case AREA_PLACED:
+            /* the GAD of this job has two nodes */
+            tell_placed(log + at, size - at, entry, 2);
+            break;
+        case LEFT_OUT:
+            printf("area %u left out, reason %u\n", (unsigned)entry[HOMRALGYU_ENTRY_ID], (unsigned)entry[HOMRALGYU_ENTRY_REASON]);
+            break;
+        default:
+            printf("entry %u\n", (unsigned)entry[HOMRALGYU_ENTRY_KIND]);
+            exit(1);
+        }
+    }
+}
+
 /* An event with what the desk made of it. */
 static int tell_desk(struct job *job)
 {
@@ -106,6 +165,7 @@ static int tell_desk(struct job *job)
         printf("the desk answers %u\n", (unsigned)job->told[HOMRALGYU_TOLD_NUMBER]);
     if (job->told[HOMRALGYU_TOLD_LOG] != 0)
         print_bytes("log", job->log, job->told[HOMRALGYU_TOLD_LOG]);
+    read_log(job->log, job->told[HOMRALGYU_TOLD_LOG]);
     return more;
 }
 

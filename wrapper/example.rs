@@ -1,7 +1,7 @@
-//! The wrapper in use: a frame written, found in a stream behind three bytes of noise, and its payload read; then a desk that takes two messages, and
-//! views of two sheets.
+//! The wrapper in use: a frame written, found in a stream behind three bytes of noise, and its payload read; then a desk that takes two messages, the
+//! run log read back, and views of two sheets.
 
-use homralgyu::{Desk, Event, Parts, Refusal, Stream};
+use homralgyu::{Desk, Entry, Event, Parts, Refusal, Stream};
 
 /// A sheet of GPS as a plain frame.
 fn frame_of(message_type: u8, sheet: &[u64]) -> Result<Vec<u8>, Refusal> {
@@ -65,10 +65,41 @@ fn desk() -> Result<(), Refusal> {
     let mut log = [0; homralgyu::LOG_ROOM];
     let written = desk.take(&message, &mut log)?;
     println!("log {:02X?}", &log[..written]);
+    read_log(&log[..written])?;
     desk.take(&definition, &mut log)?;
     // a GAD does not reach the open run
     println!("area 5: {:02X?} in the open run, {:02X?} in the live book", desk.find(5), desk.book().find(5));
     println!("a frame that is cut: {:?}", desk.take(&message[..5], &mut log));
+    // a desk that has the area before its run opens, and both grids of its two nodes
+    let grids = frame_of(
+        1,
+        &[0, 3, 0, 0, 5, 2, 2, 2, 0, 0, 0, 0, 0, 1, 255, 254, 0, 0, 1, 0, 0, 0, 3, 16383, 16382],
+    )?;
+    let mut desk = Desk::new(5, 11, 0)?;
+    desk.take(&definition, &mut log)?;
+    let written = desk.take(&grids, &mut log)?;
+    read_log(&log[..written])
+}
+
+/// The run log entry by entry, with the residuals of each area that is placed.
+fn read_log(mut log: &[u8]) -> Result<(), Refusal> {
+    while !log.is_empty() {
+        let (entry, used) = homralgyu::read_entry(log)?;
+        println!("{entry:?}");
+        if let Entry::Placed { troposphere: Some(grid), satellites, .. } = entry {
+            for node in 0..grid.count {
+                println!("node {node}: {:?}", homralgyu::entry_troposphere(log, node)?);
+            }
+            for k in 0..satellites {
+                println!("satellite and SF063: {:?}", homralgyu::entry_satellite(log, k)?);
+                for node in 0..grid.count {
+                    println!("node {node}: {:?}", homralgyu::entry_residual(log, k, node)?);
+                }
+            }
+            println!("satellite {satellites}: {:?}", homralgyu::entry_satellite(log, satellites));
+        }
+        log = &log[used..];
+    }
     Ok(())
 }
 

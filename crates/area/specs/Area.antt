@@ -4,6 +4,7 @@ use mathlib.Core.List.{List, [], _∷_, _++_}
 use Prim.Native.Nat.{ℕ, _+_, _*_, _/_, _%_, _^_}
 use lib.Dec.{leb, ltb}
 use lib.ListN.{length, getD, take, drop}
+use Rattle.area.specs.declared.AreaId.{AreaId}
 
 -- its fields, most significant first: ID 8 bits, reference latitude 11, reference longitude 12, rows 3, columns 3, spacing of the
 -- latitudes 5, spacing of the longitudes 5
@@ -27,6 +28,10 @@ sf036 a = a / 2 ^ 5 % 2 ^ 5
 
 abbrev pub sf037 : ℕ → ℕ
 sf037 a = a % 2 ^ 5
+
+-- its ID, apart from BPAC's
+abbrev pub areaId : ℕ → AreaId
+areaId id = record { 0 = id }
 
 -- "SF030, 034 to 037, .. mean code plus one (036 and 037 in tenths of a degree)"
 abbrev pub rows : ℕ → ℕ

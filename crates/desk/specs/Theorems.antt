@@ -10,12 +10,13 @@ use lib.Dec.{ltb}
 use lib.ListN.{length, take, drop}
 use borrow.Author.Tests.{lt-ltb, le-leb, le-ltb}
 use Rattle.area.specs.declared.AreaId.{AreaId}
+use Rattle.area.specs.Area.{areaId}
 use Rattle.hpac.specs.Hpac.{Area, Hpac}
 use Rattle.sizes.specs.Sizes.{tags, bookBytes, logRoom}
 use Rattle.book.specs.Book.{noBook, headSound, areasSound, sound, isHeld, placeOf, found}
 use Rattle.book.specs.Laws.{sound-room}
 use Rattle.book.specs.declared.Book.{Book}
-use Rattle.log.specs.Log.{opened, areaId, bitsFor, reasonFor, reasonOf, troposphereIn, satellitesIn, entryOf, entriesOf as logEntries, logOf}
+use Rattle.log.specs.Log.{opened, bitsFor, reasonFor, reasonOf, troposphereIn, satellitesIn, entryOf, entriesOf as logEntries, logOf}
 use Rattle.entries.specs.Entry as entry
 use Rattle.entries.specs.Entry.{joined, numbersOf}
 use Rattle.answer.specs.declared.Refusal.{Refusal}

@@ -1,7 +1,7 @@
 -- Two results of a public call of this crate cannot differ: for equal inputs, answers and lent buffers that meet the contract are equal. Proved.
 -- Written by tests/determined from the contracts in src/.
 use Prim.Native.Nat.{ℕ}
-use Rattle.export.specs.Numbers.{answered, lentAfter}
+use Rattle.export.specs.Numbers.{answered, lentAfter, stored}
 use Rattle.exportviews.specs.Areas.{bpacFloats, bpacRoom, gadFloats, gadRoom, hpacRoom, toldBpac, toldGad, toldHpac}
 use Rattle.exportviews.specs.Satellites.{satelliteFloats, satelliteRoom, toldSatellite}
 use Rattle.exportviews.specs.Views.{floatsAfter, numberTold, viewAfter}
@@ -40,6 +40,12 @@ pub bpac-area-determined : (id : ℕ) (sheet view : List ℕ) (floats : List Flo
     → floats₂ ≡ floatsAfter bpacRoom view bpacFloats floats (toldBpac (bpacAnswerOf id sheet))
     → (r₁ ≡ r₂) × (view₁ ≡ view₂) × (floats₁ ≡ floats₂)
 bpac-area-determined id sheet view floats r₁ r₂ view₁ view₂ floats₁ floats₂ e0₁ e0₂ e1₁ e1₂ e2₁ e2₂ = (e0₁ ∙ sym e0₂, e1₁ ∙ sym e1₂, e2₁ ∙ sym e2₂)
+
+pub put-floats-determined : (floats out : List Float) (out₁ out₂ : List Float)
+    → out₁ ≡ stored floats out
+    → out₂ ≡ stored floats out
+    → out₁ ≡ out₂
+put-floats-determined floats out out₁ out₂ e0₁ e0₂ = e0₁ ∙ sym e0₂
 
 pub satellite-at-determined : (subtype : ℕ) (sheet : List ℕ) (place : ℕ) (view : List ℕ) (floats : List Float) (r₁ r₂ : ℕ) (view₁ view₂ : List ℕ) (floats₁ floats₂ : List Float)
     → r₁ ≡ numberTold satelliteRoom view satelliteFloats floats (toldSatellite (satelliteAnswerOf subtype sheet place))

@@ -32,6 +32,7 @@ use Rattle.views.specs.declared.satellites.Satellite.{Satellite}
 use Rattle.views.specs.declared.satellites.Satellite.the-variants.{OutOfUse, InUse}
 use Rattle.views.specs.declared.satellites.SatelliteAnswer.{SatelliteAnswer}
 use Rattle.views.specs.declared.satellites.SatelliteAnswer.the-variants as satelliteAnswer
+use Rattle.export.specs.Numbers as export
 use Rattle.export.specs.Numbers.{room, roomFor, laid, answered, lentAfter}
 use Rattle.exportviews.specs.Views.{Told, none, rooms, numberTold, viewAfter, floatsAfter}
 use Rattle.exportviews.specs.Areas.{gadNumbersOf, gadFloatsOf, toldGad, hpacNumbersOf, toldHpac, bpacNumbersOf, bpacFloatsOf, toldBpac}
@@ -74,23 +75,33 @@ refusal-leaves m view n floats told q h = go (ltb (length view) m) (ltb (length 
     go false true h = (refl, refl)
     go false false h = both (q h)
 
--- the same of an HPAC area
-pub hpac-refusal-leaves : (m : ℕ) (view : List ℕ) (a : HpacAnswer) → (answered m view (toldHpac a) ≡ 0 → ⊥) → lentAfter m view (toldHpac a) ≡ view
-unfolding answered lentAfter roomFor laid toldHpac
-hpac-refusal-leaves m view a h = go (ltb (length view) m) a h
+-- the same of a call that tells no floats
+abbrev pub QuietNumbers : export.Told → Type 0
+QuietNumbers told = (told .number ≡ 0 → ⊥) → told .numbers ≡ []
+
+pub hpac-quiet : (a : HpacAnswer) → QuietNumbers (toldHpac a)
+unfolding toldHpac
+hpac-quiet (hpacAnswer.Is area) h = absurd (h refl)
+hpac-quiet hpacAnswer.Absent h = absurd (h refl)
+hpac-quiet (hpacAnswer.Refused why) h = refl
+
+pub lent-leaves : (m : ℕ) (lent : List ℕ) (told : export.Told) → QuietNumbers told → (answered m lent told ≡ 0 → ⊥) → lentAfter m lent told ≡ lent
+unfolding answered lentAfter roomFor laid
+lent-leaves m lent told q h = go (ltb (length lent) m) h
   where
-    go : (b : Bool) (a : HpacAnswer) → (cond b room (toldHpac a .number) ≡ 0 → ⊥) → cond b view (laid (toldHpac a .numbers) view) ≡ view
-    go true a h = refl
-    go false (hpacAnswer.Is area) h = absurd (h refl)
-    go false hpacAnswer.Absent h = absurd (h refl)
-    go false (hpacAnswer.Refused why) h = refl
+    go : (b : Bool) → (cond b room (told .number) ≡ 0 → ⊥) → cond b lent (laid (told .numbers) lent) ≡ lent
+    go true h = refl
+    go false h = rw (q h) refl
+
+pub hpac-refusal-leaves : (m : ℕ) (view : List ℕ) (a : HpacAnswer) → (answered m view (toldHpac a) ≡ 0 → ⊥) → lentAfter m view (toldHpac a) ≡ view
+hpac-refusal-leaves m view a h = lent-leaves m view (toldHpac a) (hpac-quiet a) h
 
 -- ---- two areas that are told alike are the same
 
-at : {l r : List ℕ} → l ≡ r → (i : ℕ) → getD l i 0 ≡ getD r i 0
+pub at : {l r : List ℕ} → l ≡ r → (i : ℕ) → getD l i 0 ≡ getD r i 0
 at e i = ap (λ (l : List ℕ). getD l i 0) e
 
-float-at : {l r : List Float} → l ≡ r → (i : ℕ) → getD l i none ≡ getD r i none
+pub float-at : {l r : List Float} → l ≡ r → (i : ℕ) → getD l i none ≡ getD r i none
 float-at e i = ap (λ (l : List Float). getD l i none) e
 
 gad-same : {a a' b b' c c' d d' : Float} {m m' n n' : ℕ} → a ≡ a' → b ≡ b' → m ≡ m' → n ≡ n' → c ≡ c' → d ≡ d'

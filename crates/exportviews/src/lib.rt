@@ -1,4 +1,4 @@
 // The calls of `views` for C and for other languages that can call C (include/homralgyu.h says what each does).
 pub mod areas;
-mod floats;
+pub mod floats;
 pub mod satellites;

@@ -7,6 +7,8 @@ pub mod Stays
 pub mod Driving
 pub mod Placed
 pub mod Placing
+pub mod Entries
 pub mod Theorems
+pub mod Display
 pub mod Moves
 pub mod Determined

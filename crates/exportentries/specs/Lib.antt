@@ -1,0 +1,4 @@
+pub mod Entries
+pub mod Ranges
+pub mod Theorems
+pub mod Determined
