@@ -1,5 +1,6 @@
 -- Definitions to believe: the data fields of the twelve payloads, a line a field (document 000, section 6.4; document 01, "Codes"): its number, its bits, the
--- codes that it takes, and what they mean. Every layout, row, value, log entry and word of the run log takes a field's facts from here.
+-- codes that it takes, and what they mean. Every layout, row, value, log entry and word of the run log takes a field's facts from here, or is proved to
+-- agree with it (`limits` of crate entries, the corners of crate words).
 use mathlib.Core.Bool.{Bool, true, false}
 use mathlib.Core.List.{List, [], _∷_}
 use Prim.Native.Nat.{ℕ, _-_, _^_}

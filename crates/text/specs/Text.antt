@@ -73,7 +73,7 @@ Short room (text ∷ texts) = (length text ≤ room) × Short room texts
 abbrev pub digit : ℕ → ℕ
 digit n = 48 + n % 10
 
--- The digits, the most significant first, with no 0 before them. A number has fewer digits than the number that comes after it, so so many steps are enough for all of them.
+-- The digits, the most significant first, with no 0 before them. A number has fewer digits than the number that comes after it, so that many steps are enough for all of them.
 unfoldable pub digitsIn : (steps : ℕ) → ℕ → List ℕ
 digitsIn zero n = []
 digitsIn (suc steps) n = cond (ltb n 10) (digit n ∷ []) (digitsIn steps (n / 10) ++ (digit n ∷ []))
