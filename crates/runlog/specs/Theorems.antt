@@ -1,5 +1,6 @@
--- With `raw` the program's bytes are the run log of the uncut stream: those that go out (Outgoing.antt), portion after portion and at the end, are those that document 01 lays down for the
--- portions that were told, joined, by the desk that the command line asked for, however they are cut. In words they are the lines of the entries that this run log reads as. Proved.
+-- Theorems: with `raw` the program's bytes are the run log of the uncut stream: those that go out (Outgoing.antt), portion after portion and at the end, are those that document 01 lays down for the
+-- portions that were told, joined, by the desk that the command line asked for, however they are cut. In words they are the lines of this run log's entries, as they are defined for the uncut stream.
+-- Proved.
 use mathlib.Core.Path.{_≡_, refl, sym, ap, ap₂, _∙_, subst}
 use mathlib.Core.Bool.{Bool, true, false}
 use mathlib.Core.List.{List, [], _∷_, _++_, flatten}
@@ -8,9 +9,8 @@ use native.Mathlib.Omega.{arith}
 use lib.ListN.{length, replicate, length-replicate}
 use Rattle.text.specs.Text.{Short}
 use Rattle.text.specs.Output.{whole-out}
-use Rattle.entries.specs.Entry.{Entry}
-use Rattle.entries.specs.Ends.{ReadsAs}
 use Rattle.words.specs.Lines.{each, textsOf}
+use Rattle.words.specs.Theorems.{reads-once}
 use Rattle.sizes.specs.Sizes.{longestFrame, bookBytes, logRoom}
 use Rattle.stream.specs.Scan.{scan}
 use Rattle.stream.specs.Driver.{Clear, waits}
@@ -18,12 +18,14 @@ use Rattle.stream.specs.Theorems.{zeros-clear}
 use Rattle.desk.specs.declared.Desk.{Desk}
 use Rattle.desk.specs.declared.NewDesk.the-variants.{Made}
 use Rattle.desk.specs.Desk.{newDesk}
-use Rattle.desk.specs.History.{Held, Snapshot, KeptOn}
+use Rattle.desk.specs.History.{Held, Snapshot, Course, KeptOn}
 use Rattle.desk.specs.Entries.{BooksInBytes}
 use Rattle.prepare.specs.Uncut as uncut
 use Rattle.prepare.specs.Uncut.{uncutTold, uncutLog}
 use Rattle.prepare.specs.Driver.{State, Sound, Feeds, Whole, start}
+use Rattle.prepare.specs.Entries.{uncutEntries}
 use Rattle.prepare.specs.Theorems.{prepared, fresh-sound, fresh-kept}
+use Rattle.prepare.specs.Display.{uncut-reads}
 use Rattle.runlog.specs.declared.command.Wanted.the-variants.{Log}
 use Rattle.runlog.specs.declared.hearing.Stop.{Stop}
 use Rattle.runlog.specs.declared.Job.the-variants as job
@@ -92,17 +94,16 @@ module _ {raw : Bool} {books : Held} {bytes out bytes₂ live₂ run₂ out₂ :
       out-all (subst (λ (b : Bool). Short logRoom (logsOf b (uncutTold books (flatten (a .portions))))) (sym q) (raw-short (scan (flatten (a .portions))) books sound)) h
       ∙ ap (λ (b : Bool). flatten (logsOf b (uncutTold books (flatten (a .portions))))) q ∙ logs-join (uncutTold books (flatten (a .portions)))
 
-  -- and in words the lines of the entries that it reads as.
+  -- and in words the lines of its entries, which are those of the uncut stream.
   pub out-lines : raw ≡ false → logRoom ≤ length out → (opening : Snapshot) → KeptOn (record { held = books; opening = opening })
-      → BooksInBytes (record { held = books; opening = opening })
-      → (entries : List Entry) × ReadsAs (uncutLog books (flatten (a .portions))) entries × (outOf a ≡ flatten (each textsOf entries))
+      → BooksInBytes (record { held = books; opening = opening }) → outOf a ≡ flatten (each textsOf (uncutEntries books opening (flatten (a .portions))))
   out-lines q h opening k b =
+      let course : Course = record { held = books; opening = opening } in
       let ts = uncutTold books (flatten (a .portions)) in
-      let r = told-read (scan (flatten (a .portions))) (record { held = books; opening = opening }) sound k b in (
-        allIn ts r,
-        log-read ts r,
-        out-all (subst (λ (b : Bool). Short logRoom (logsOf b ts)) (sym q) (words-short ts r)) h ∙ ap (λ (b : Bool). flatten (logsOf b ts)) q ∙ ap flatten (all-lines ts r),
-      )
+      let r = told-read (scan (flatten (a .portions))) course sound k b in
+      let same : allIn ts r ≡ uncutEntries books opening (flatten (a .portions)) = reads-once (log-read ts r) (uncut-reads course sound k b (flatten (a .portions))) in
+      out-all (subst (λ (b : Bool). Short logRoom (logsOf b ts)) (sym q) (words-short ts r)) h ∙ ap (λ (b : Bool). flatten (logsOf b ts)) q ∙ ap flatten (all-lines ts r)
+      ∙ ap (λ l. flatten (each textsOf l)) same
 
 ran-by : {desk : Desk} {raw : Bool} {d : Done} → Does (job.Run desk raw) d → (stop : Stop) × Ran desk raw stop × (d ≡ done.Ran stop)
 ran-by (Does.runs {stop = stop} r) = (stop, r, refl)
@@ -121,12 +122,15 @@ module _ (solution processor constellation : ℕ) (desk : Desk) (e : newDesk sol
       let r = ran-by (rw e at does) in
       (r .0, r .1, r .2, out-uncut (zeros-clear longestFrame (omega arith)) start-sound (r .1 .all-told) refl (r .1 .out-room))
 
+  -- no run is open at the start, so this book opens none
+  abbrev pub opening : Snapshot
+  opening = record { book = desk .book; bytes = replicate bookBytes 0 }
+
   pub run-lines : {d : Done} → Does (jobOf (Log solution processor constellation false)) d
       → (stop : Stop) × (ran : Ran desk false stop) × (d ≡ done.Ran stop)
-      × ((entries : List Entry) × ReadsAs (uncutLog (atStart desk .books) (flatten (ran .all-told .portions))) entries × (outOf (ran .all-told) ≡ flatten (each textsOf entries)))
+      × (outOf (ran .all-told) ≡ flatten (each textsOf (uncutEntries (atStart desk .books) opening (flatten (ran .all-told .portions)))))
   run-lines does =
-      let r = ran-by (rw e at does) in
-      let opening : Snapshot = record { book = desk .book; bytes = replicate bookBytes 0 } in (
+      let r = ran-by (rw e at does) in (
         r .0,
         r .1,
         r .2,
