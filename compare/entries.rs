@@ -17,7 +17,7 @@ use second::payload::GadArea;
 use second::values::Residual;
 
 /// The numbers that an entry wants room for, a residual's unit and code, a satellite's number and size code.
-const ENTRY_ROOM: usize = 7;
+const ENTRY_ROOM: usize = 8;
 const RESIDUAL_ROOM: usize = 2;
 const SATELLITE_ROOM: usize = 2;
 
@@ -31,7 +31,7 @@ fn told(entry: &Entry, used: usize) -> Vec<u64> {
         Entry::LeftOut { id, reason } => vec![3, used, *id, *reason],
         Entry::Placed(p) => {
             let (count, size) = p.troposphere.as_ref().map_or((0, 0), |t| (t.residuals.len() as u64, t.size));
-            vec![2, used, p.id, p.bits, count, size, p.satellites.len() as u64]
+            vec![2, used, p.id, p.bits, count, size, p.satellites.len() as u64, nodes_of(p)]
         }
     }
 }
@@ -129,7 +129,7 @@ fn at_index(rng: &mut Rng, judge: &mut Judge, bytes: &[u8], k: u64, node: u64) {
 
 /// What the wrapper makes of the numbers: the same entry, residual and satellite once more, as Rust says them.
 fn wrapped(rng: &mut Rng, judge: &mut Judge, bytes: &[u8], entry: &Entry, used: usize) {
-    use homralgyu::{Troposphere, Value};
+    use homralgyu::Troposphere;
     let said = || format!("bytes {}", hex(bytes));
     let input = Input { call: "the wrapper's read_entry", said: &said };
     let expected = match entry {
@@ -145,14 +145,15 @@ fn wrapped(rng: &mut Rng, judge: &mut Judge, bytes: &[u8], entry: &Entry, used: 
                 .as_ref()
                 .map(|grid| Troposphere { count: grid.residuals.len() as u64, size: grid.size }),
             satellites: p.satellites.len() as u64,
+            nodes: nodes_of(p),
         },
     };
     judge.same(&input, "the entry", &homralgyu::read_entry(bytes), &Ok((expected, used)));
     let (k, node) = corner(rng, entry);
     let value = |coded: Coded| match coded.residual {
-        Residual::Invalid => (coded.code, Value::Invalid),
-        Residual::Metres(x) => (coded.code, Value::Metres(x)),
-        Residual::Tecu(x) => (coded.code, Value::Tecu(x)),
+        Residual::Invalid => (coded.code, homralgyu::Residual::Invalid),
+        Residual::Metres(x) => (coded.code, homralgyu::Residual::Metres(x)),
+        Residual::Tecu(x) => (coded.code, homralgyu::Residual::Tecu(x)),
     };
     let refusal = |why: Refusal| homralgyu::Refusal(why.number());
     judge.same(
@@ -534,7 +535,7 @@ pub fn odd(rng: &mut Rng, judge: &mut Judge) {
         2 => entries::bytes(&entry(rng)),
         _ => broken_entry(rng),
     };
-    let places = rng.pick(&[0, 3, 6, 7, 7, 7, 7, 7, 7, 8, 12]);
+    let places = rng.pick(&[0, 3, 7, 8, 8, 8, 8, 8, 8, 9, 12]);
     if let Ok((entry, used)) = read_into(rng, judge, &bytes, places) {
         marks::entry_read(judge, &entry, used);
         wrapped(rng, judge, &bytes, &entry, used);

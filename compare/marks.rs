@@ -17,7 +17,7 @@ use second::values::{Residual, Yaw};
 use second::views::{Satellite, SatelliteView};
 
 /// What a run of many inputs has to meet besides.
-pub const MARKS: [&str; 48] = [
+pub const MARKS: [&str; 49] = [
     "GAD: a book begins",
     "GAD: a book of 32",
     "GAD: the book grows",
@@ -44,6 +44,7 @@ pub const MARKS: [&str; 48] = [
     "log: 2, placed with both",
     "log: 2, placed with satellites",
     "log: 2, placed with troposphere residuals",
+    "log: 2, placed without a grid",
     "log: 3, left out by 1",
     "log: 3, left out by 2",
     "log: 3, left out by 3",

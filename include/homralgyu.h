@@ -268,7 +268,7 @@ uint8_t homralgyu_prepare_finish(uint8_t *bytes, size_t bytes_len, uint64_t *tra
                                  uint8_t *live, size_t live_len, uint8_t *run, size_t run_len, uint8_t *log, size_t log_len,
                                  uint64_t *told, size_t told_len, uint64_t *header, size_t header_len);
 
-/* The run log, read: an entry is up to seven numbers. */
+/* The run log, read: an entry is up to eight numbers. */
 enum homralgyu_entry {
     HOMRALGYU_ENTRY_KIND,          /* 1 run opened, 2 area placed, 3 area left out */
     HOMRALGYU_ENTRY_USED,          /* bytes that the entry takes */
@@ -276,17 +276,27 @@ enum homralgyu_entry {
     HOMRALGYU_ENTRY_AIOU_PLUS_ONE, /* AIOU + 1, 0 without a book, */
     HOMRALGYU_ENTRY_COUNT,         /* the count of areas in its book; nothing more is written */
     HOMRALGYU_ENTRY_ID = 2,        /* of an area: its ID, */
-    HOMRALGYU_ENTRY_REASON,        /* if it is left out why, 1 to 4, and nothing more is written; */
-    HOMRALGYU_ENTRY_BITS = 3,      /* if it is placed the 47 bits as a number, */
+    HOMRALGYU_ENTRY_REASON,        /* if it is left out the reason, 1 to 4 as below, and nothing more is written; */
+    HOMRALGYU_ENTRY_BITS = 3,      /* if it is placed the 47 bits as a number, which lie as below, */
     HOMRALGYU_ENTRY_T,             /* T, how many troposphere residuals it has, */
     HOMRALGYU_ENTRY_T_SIZE,        /* their SF051 code, 0 if T is 0, */
-    HOMRALGYU_ENTRY_S,             /* S, how many satellites it has */
-    HOMRALGYU_ENTRY                /* the room that an entry wants: 7 */
+    HOMRALGYU_ENTRY_S,             /* S, how many satellites it has, */
+    HOMRALGYU_ENTRY_NODES,         /* how many nodes its grid has: every satellite has one residual a node, also where T is 0 */
+    HOMRALGYU_ENTRY                /* the room that an entry wants: 8 */
 };
 
+/* The reasons for which an area is left out: 1 the run has no book, 2 the message has another AIOU than the run's book, 3 the ID is not in
+ * that book, 4 SF039 differs from the area's count of nodes.
+ *
+ * The 47 bits are SF031 (8 bits), SF032 (11), SF033 (12), SF034 (3), SF035 (3), SF036 (5) and SF037 (5), the first highest: SF037 is
+ * bits % 32, SF036 bits / 32 % 32. homralgyu_value gives degrees for SF032, SF033, SF036 and SF037 (latitude and longitude of the reference
+ * corner, then their spacings), and for SF034 and SF035 the counts of nodes in latitude and in longitude. */
+
 /* Reads the entry that the bytes begin with; bytes behind it are not looked at.
- * Refusals in order: ROOM (entry, 7), then at the first faulty number in reading order SHORT or FORM.
- * Writes the entry: five, seven or four numbers, by its kind. */
+ * Refusals in order: ROOM (entry, 8), then at the first faulty number in reading order SHORT or FORM.
+ * Writes the entry: five, eight or four numbers, by its kind.
+ * SHORT bytes may become an entry when more bytes come behind them, so a display waits for more; bytes that are FORM never will. An entry has
+ * at most 8,525 bytes: if so many are SHORT, no further byte makes them one. */
 uint8_t homralgyu_entry_read(const uint8_t *bytes, size_t bytes_len, uint64_t *entry, size_t entry_len);
 
 /* The troposphere residual of that entry at a node, from 0 on.
@@ -300,8 +310,9 @@ uint8_t homralgyu_entry_troposphere(const uint8_t *bytes, size_t bytes_len, uint
  * Writes into satellite its number and its SF063 code. */
 uint8_t homralgyu_entry_satellite(const uint8_t *bytes, size_t bytes_len, uint64_t k, uint64_t *satellite, size_t satellite_len);
 
-/* The residual of satellite k at a node, both from 0 on.
- * Refusals in order: ROOM (what, 2; value, 1), SHORT or FORM as above, FIELD if the entry has no such residual.
+/* The residual of satellite k of that entry at a node, both from 0 on.
+ * Refusals in order: ROOM (what, 2; value, 1), SHORT or FORM as above, FIELD if the entry has no such residual: it has one for every k below S
+ * and every node below the count of nodes.
  * Writes into what the unit (0 invalid, 3 TECU) and the residual's code; and the value in TECU, if it is not invalid. */
 uint8_t homralgyu_entry_residual(const uint8_t *bytes, size_t bytes_len, uint64_t k, uint64_t node, uint64_t *what, size_t what_len,
                                  double *value, size_t value_len);

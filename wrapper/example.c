@@ -62,12 +62,15 @@ static void make_input(struct input *input)
     const uint64_t gad[] = {0, 3, 0, 0, 5, 900, 0, 1, 0, 0, 0};
     /* both grids: SF053 invalid and 254; satellite 32 with SF067 invalid and 16382 */
     const uint64_t grids[] = {0, 3, 0, 0, 5, 2, 2, 2, 0, 0, 0, 0, 0, 1, 255, 254, 0, 0, 1, 0, 0, 0, 3, 16383, 16382};
+    /* satellites alone, without troposphere residuals: satellite 1 with SF064 invalid and 8 */
+    const uint64_t slant[] = {0, 3, 0, 0, 5, 2, 0, 2, 0, 0, (uint64_t)1 << 31, 0, 0, 0, 0, 15, 8};
     const uint8_t noise[] = {0x00, 0x73, 0x00};
     memcpy(input->bytes, noise, sizeof noise);
     input->size = sizeof noise;
     add(input, HPAC, SOLUTION, 43199, bare, sizeof bare / sizeof *bare); /* document 01, measured case 10 */
     add(input, GAD, SOLUTION, 0, gad, sizeof gad / sizeof *gad);
     add(input, HPAC, SOLUTION, 9, grids, sizeof grids / sizeof *grids); /* an earlier tag opens a run too */
+    add(input, HPAC, SOLUTION, 9, slant, sizeof slant / sizeof *slant);
     add(input, HPAC, SOLUTION + 1, 9, bare, sizeof bare / sizeof *bare);
     add(input, HPAC, SOLUTION, 43200, bare, sizeof bare / sizeof *bare);
 }
@@ -110,12 +113,15 @@ static void tell_residual(const uint64_t what[2], double value)
         printf(" %u %+.3f %s", (unsigned)what[1], value, what[0] == 1 ? "metres" : "TECU");
 }
 
-/* The troposphere residuals of a placed area, then satellite by satellite those of the ionosphere, one a node. */
-static void tell_placed(const uint8_t *bytes, size_t size, const uint64_t *entry, uint64_t nodes)
+/* The troposphere residuals of a placed area, if there are any, then satellite by satellite those of the ionosphere, one a node. */
+static void tell_placed(const uint8_t *bytes, size_t size, const uint64_t *entry)
 {
     uint64_t satellite[2], what[2];
     double value[1];
-    printf("area %u placed, %u satellites:", (unsigned)entry[HOMRALGYU_ENTRY_ID], (unsigned)entry[HOMRALGYU_ENTRY_S]);
+    printf("area %u placed, nodes %u, satellites %u", (unsigned)entry[HOMRALGYU_ENTRY_ID], (unsigned)entry[HOMRALGYU_ENTRY_NODES],
+           (unsigned)entry[HOMRALGYU_ENTRY_S]);
+    if (entry[HOMRALGYU_ENTRY_T] != 0)
+        printf(", troposphere:");
     for (uint64_t node = 0; node < entry[HOMRALGYU_ENTRY_T]; node++) {
         must(homralgyu_entry_troposphere(bytes, size, node, what, 2, value, 1), "entry_troposphere");
         tell_residual(what, value[0]);
@@ -124,12 +130,21 @@ static void tell_placed(const uint8_t *bytes, size_t size, const uint64_t *entry
     for (uint64_t k = 0; k < entry[HOMRALGYU_ENTRY_S]; k++) {
         must(homralgyu_entry_satellite(bytes, size, k, satellite, 2), "entry_satellite");
         printf("satellite %u, size %u:", (unsigned)satellite[0], (unsigned)satellite[1]);
-        for (uint64_t node = 0; node < nodes; node++) {
+        for (uint64_t node = 0; node < entry[HOMRALGYU_ENTRY_NODES]; node++) {
             must(homralgyu_entry_residual(bytes, size, k, node, what, 2, value, 1), "entry_residual");
             tell_residual(what, value[0]);
         }
         printf("\n");
     }
+}
+
+static void tell_opened(const uint64_t *entry)
+{
+    printf("run opened, tag %u, ", (unsigned)entry[HOMRALGYU_ENTRY_TAG]);
+    if (entry[HOMRALGYU_ENTRY_AIOU_PLUS_ONE] == 0)
+        printf("no book\n");
+    else
+        printf("AIOU %u, areas %u\n", (unsigned)entry[HOMRALGYU_ENTRY_AIOU_PLUS_ONE] - 1, (unsigned)entry[HOMRALGYU_ENTRY_COUNT]);
 }
 
 /* The entries of the run log, as the display has them. */
@@ -140,12 +155,10 @@ static void read_log(const uint8_t *log, size_t size)
         must(homralgyu_entry_read(log + at, size - at, entry, HOMRALGYU_ENTRY), "entry_read");
         switch (entry[HOMRALGYU_ENTRY_KIND]) {
         case RUN_OPENED:
-            printf("run opened, tag %u, AIOU + 1 %u, %u areas\n", (unsigned)entry[HOMRALGYU_ENTRY_TAG],
-                   (unsigned)entry[HOMRALGYU_ENTRY_AIOU_PLUS_ONE], (unsigned)entry[HOMRALGYU_ENTRY_COUNT]);
+            tell_opened(entry);
             break;
         case AREA_PLACED:
-            /* the GAD of this job has two nodes */
-            tell_placed(log + at, size - at, entry, 2);
+            tell_placed(log + at, size - at, entry);
             break;
         case LEFT_OUT:
             printf("area %u left out, reason %u\n", (unsigned)entry[HOMRALGYU_ENTRY_ID], (unsigned)entry[HOMRALGYU_ENTRY_REASON]);

@@ -78,6 +78,10 @@ fn desk() -> Result<(), Refusal> {
     let mut desk = Desk::new(5, 11, 0)?;
     desk.take(&definition, &mut log)?;
     let written = desk.take(&grids, &mut log)?;
+    read_log(&log[..written])?;
+    // satellites alone, without troposphere residuals
+    let slant = frame_of(1, &[0, 3, 0, 0, 5, 2, 0, 2, 0, 0, 1 << 31, 0, 0, 0, 0, 15, 8])?;
+    let written = desk.take(&slant, &mut log)?;
     read_log(&log[..written])
 }
 
@@ -86,17 +90,17 @@ fn read_log(mut log: &[u8]) -> Result<(), Refusal> {
     while !log.is_empty() {
         let (entry, used) = homralgyu::read_entry(log)?;
         println!("{entry:?}");
-        if let Entry::Placed { troposphere: Some(grid), satellites, .. } = entry {
-            for node in 0..grid.count {
+        if let Entry::Placed { troposphere, satellites, nodes, .. } = entry {
+            for node in 0..troposphere.map_or(0, |grid| grid.count) {
                 println!("node {node}: {:?}", homralgyu::entry_troposphere(log, node)?);
             }
             for k in 0..satellites {
                 println!("satellite and SF063: {:?}", homralgyu::entry_satellite(log, k)?);
-                for node in 0..grid.count {
+                for node in 0..nodes {
                     println!("node {node}: {:?}", homralgyu::entry_residual(log, k, node)?);
                 }
             }
-            println!("satellite {satellites}: {:?}", homralgyu::entry_satellite(log, satellites));
+            println!("at place {satellites}: {:?}", homralgyu::entry_satellite(log, satellites));
         }
         log = &log[used..];
     }

@@ -1295,15 +1295,37 @@ pub struct Troposphere {
 pub enum Entry {
     /// a run was opened, with so many areas in its book
     Opened { tag: u64, aiou: Option<u8>, count: u64 },
-    /// an area was placed: its 47 bits, its troposphere residuals if there are any, and so many satellites
-    Placed { id: u8, bits: u64, troposphere: Option<Troposphere>, satellites: u64 },
-    /// an area was left out, for this reason
+    /// an area was placed: its 47 bits, its troposphere residuals if there are any, and so many satellites. Its grid has
+    /// so many nodes: every satellite has one residual a node, also where there are no troposphere residuals.
+    ///
+    /// The 47 bits are SF031 (8 bits), SF032 (11), SF033 (12), SF034 (3), SF035 (3), SF036 (5) and SF037 (5), the first
+    /// highest; `value` gives degrees for SF032, SF033, SF036 and SF037, and the counts of nodes for SF034 and SF035.
+    Placed { id: u8, bits: u64, troposphere: Option<Troposphere>, satellites: u64, nodes: u64 },
+    /// an area was left out for this reason: 1 the run has no book, 2 the message has another AIOU than the run's book,
+    /// 3 the ID is not in that book, 4 SF039 differs from the area's count of nodes
     LeftOut { id: u8, reason: u64 },
 }
 
-/// The entry that the bytes begin with, and how many of them it takes.
+/// A residual of an entry: invalid, or a float in its unit.
+#[derive(Clone, Copy, PartialEq, Debug)]
+pub enum Residual {
+    Invalid,
+    Metres(f64),
+    Tecu(f64),
+}
+
+fn residual_of(what: &[u64; 2], value: &[f64; 1]) -> Residual {
+    match what[0] {
+        1 => Residual::Metres(value[0]),
+        3 => Residual::Tecu(value[0]),
+        _ => Residual::Invalid,
+    }
+}
+
+/// The entry that the bytes begin with, and how many of them it takes. Bytes that are SHORT, `Refusal(1)`, may become an
+/// entry when more bytes come behind them; those that are FORM, `Refusal(18)`, never will. An entry has at most 8,525 bytes.
 pub fn read_entry(bytes: &[u8]) -> Result<(Entry, usize), Refusal> {
-    let mut n = [0; 7];
+    let mut n = [0; 8];
     answer(raw::entry_read(bytes, &mut n), ())?;
     let entry = match n[0] {
         1 => Entry::Opened { tag: n[2], aiou: (n[3] != 0).then(|| (n[3] - 1) as u8), count: n[4] },
@@ -1312,29 +1334,31 @@ pub fn read_entry(bytes: &[u8]) -> Result<(Entry, usize), Refusal> {
             bits: n[3],
             troposphere: (n[4] != 0).then_some(Troposphere { count: n[4], size: n[5] }),
             satellites: n[6],
+            nodes: n[7],
         },
         _ => Entry::LeftOut { id: n[2] as u8, reason: n[3] },
     };
     Ok((entry, n[1] as usize))
 }
 
-/// The troposphere residual of the entry that the bytes begin with, at a node from 0 on: its code, and invalid or its metres.
-pub fn entry_troposphere(bytes: &[u8], node: u64) -> Result<(u64, Value), Refusal> {
+/// The troposphere residual at a node, from 0 on, of the entry that the bytes begin with: its code, and invalid or its metres.
+pub fn entry_troposphere(bytes: &[u8], node: u64) -> Result<(u64, Residual), Refusal> {
     let (mut what, mut value) = ([0; 2], [0.0]);
     answer(raw::entry_troposphere(bytes, node, &mut what, &mut value), ())?;
-    Ok((what[1], value_of(&what, &value)))
+    Ok((what[1], residual_of(&what, &value)))
 }
 
-/// The satellite at a place from 0 on of the entry that the bytes begin with: its number and its SF063 code.
+/// Satellite k, from 0 on, of the entry that the bytes begin with: its number and its SF063 code.
 pub fn entry_satellite(bytes: &[u8], k: u64) -> Result<(u64, u64), Refusal> {
     let mut n = [0; 2];
     answer(raw::entry_satellite(bytes, k, &mut n), ())?;
     Ok((n[0], n[1]))
 }
 
-/// The residual of that satellite at a node from 0 on: its code, and invalid or its TECU.
-pub fn entry_residual(bytes: &[u8], k: u64, node: u64) -> Result<(u64, Value), Refusal> {
+/// The residual of satellite k at a node, both from 0 on, of the entry that the bytes begin with: its code, and invalid or
+/// its TECU.
+pub fn entry_residual(bytes: &[u8], k: u64, node: u64) -> Result<(u64, Residual), Refusal> {
     let (mut what, mut value) = ([0; 2], [0.0]);
     answer(raw::entry_residual(bytes, k, node, &mut what, &mut value), ())?;
-    Ok((what[1], value_of(&what, &value)))
+    Ok((what[1], residual_of(&what, &value)))
 }

@@ -1,5 +1,5 @@
 /* How much stack each call takes that reads the run log, beside what the caller lends: it runs on a stack of its own, painted before
- * and looked at behind. Prints a line a call, and exits with 1 if one takes over 2 KiB. */
+ * and looked at behind. Prints a line a call, and exits with 1 if one takes over 2 KiB, with 2 if the entry does not read. */
 #define _XOPEN_SOURCE 700
 #include "homralgyu.h"
 #include <stdio.h>
@@ -20,10 +20,11 @@ static void put(uint64_t x) {
     bytes[length++] = (uint8_t)x;
 }
 
-/* The longest entry: area 0 with 8 x 8 nodes, both grids with the widest residuals, 64 satellites of two bytes each. */
+/* The longest entry, 8,525 bytes: area 255, whose ID takes two bytes and whose 47 bits take seven, with 8 x 8 nodes, both grids with the
+ * widest residuals, 64 satellites of two bytes each. */
 static void make(void) {
-    uint64_t bits = ((uint64_t)1800 << 28) | (7 << 13) | (7 << 10);
-    put(2), put(0), put(bits), put(64), put(1);
+    uint64_t id = 255, bits = (id << 39) | ((uint64_t)1800 << 28) | (7 << 13) | (7 << 10);
+    put(2), put(id), put(bits), put(64), put(1);
     for (int node = 0; node < 64; node++) put(255);
     put(64);
     for (int k = 0; k < 64; k++) {

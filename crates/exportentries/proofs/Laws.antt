@@ -1,5 +1,5 @@
 -- Laws: an arm of a `match` on what was read, and what was read is small. Assumes nothing.
-use mathlib.Core.Path.{_≡_, refl, ap₂, sym, _∙_, subst}
+use mathlib.Core.Path.{_≡_, refl, ap, ap₂, sym, _∙_, subst}
 use mathlib.Core.List.{List, [], _∷_}
 use Prim.Native.Nat.{ℕ, _+_, _^_, _≤_, _<_}
 use native.Mathlib.Omega.{arith}
@@ -7,6 +7,7 @@ use lib.Ieee.{Float}
 use lib.ListN.{length, getD}
 use mir.Syntax.{w8}
 use mir.Val.{Fits}
+use Rattle.area.specs.Area.{nodes}
 use Rattle.values.specs.declared.Residual.{Residual}
 use Rattle.entries.specs.Read.{readEntry}
 use Rattle.entries.specs.Answers.{readAnswer}
@@ -57,7 +58,7 @@ module _ (a v : Residual) where
   pub residual-floats : (lent now : List Float) → a ≡ v → now ≡ laid (floatsOfResidual v) lent → now ≡ laid (floatsOfResidual a) lent
   residual-floats lent now e p = arm (λ x. laid (floatsOfResidual x) lent) a v now e p
 
--- ---- an entry's numbers, as the code has them, in a slice that has room for seven
+-- ---- an entry's numbers, as the code has them, in a slice that has room for eight
 
 there : (xs lent now : List ℕ) → length xs ≤ entryRoom → entryRoom ≤ length lent → now ≡ stored xs lent → now ≡ laid xs lent
 there xs lent now k h e = stored-there xs lent now e (omega arith)
@@ -68,13 +69,14 @@ module _ (lent now : List ℕ) (h : entryRoom ≤ length lent) (used u : ℕ) (e
   unfolding numbersOfOpened
   opened-there run a ea e = there (numbersOfOpened run used) lent now (omega arith) h (e ∙ ap₂ (λ u a. stored (1 ∷ u ∷ run .tag ∷ a ∷ run .count ∷ []) lent) eu ea)
 
-  pub placed-there : (area : Placed) (d t size : ℕ) → d ≡ area .id .0 → t ≡ countIn (area .troposphere) → size ≡ sizeIn (area .troposphere)
-      → now ≡ stored (2 ∷ u ∷ d ∷ area .bits ∷ t ∷ size ∷ area .satellites ∷ []) lent → now ≡ laid (numbersOfPlaced area used) lent
+  pub placed-there : (area : Placed) (d t size points : ℕ) → d ≡ area .id .0 → t ≡ countIn (area .troposphere) → size ≡ sizeIn (area .troposphere) → points ≡ nodes (area .bits)
+      → now ≡ stored (2 ∷ u ∷ d ∷ area .bits ∷ t ∷ size ∷ area .satellites ∷ points ∷ []) lent → now ≡ laid (numbersOfPlaced area used) lent
   unfolding numbersOfPlaced
-  placed-there area d t size ed et es e =
+  placed-there area d t size points ed et es ep e =
       there (numbersOfPlaced area used) lent now (omega arith) h
-      (e ∙ ap₂ (λ u d. stored (2 ∷ u ∷ d ∷ area .bits ∷ t ∷ size ∷ area .satellites ∷ []) lent) eu ed
-      ∙ ap₂ (λ t size. stored (2 ∷ used ∷ area .id .0 ∷ area .bits ∷ t ∷ size ∷ area .satellites ∷ []) lent) et es)
+      (e ∙ ap₂ (λ u d. stored (2 ∷ u ∷ d ∷ area .bits ∷ t ∷ size ∷ area .satellites ∷ points ∷ []) lent) eu ed
+      ∙ ap₂ (λ t size. stored (2 ∷ used ∷ area .id .0 ∷ area .bits ∷ t ∷ size ∷ area .satellites ∷ points ∷ []) lent) et es
+      ∙ ap (λ points. stored (2 ∷ used ∷ area .id .0 ∷ area .bits ∷ countIn (area .troposphere) ∷ sizeIn (area .troposphere) ∷ area .satellites ∷ points ∷ []) lent) ep)
 
   pub left-out-there : (area : LeftOut) (d : ℕ) → d ≡ area .id .0 → now ≡ stored (3 ∷ u ∷ d ∷ area .reason ∷ []) lent → now ≡ laid (numbersOfLeftOut area used) lent
   unfolding numbersOfLeftOut

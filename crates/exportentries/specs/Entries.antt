@@ -2,6 +2,7 @@
 use mathlib.Core.List.{List, [], _∷_}
 use Prim.Native.Nat.{ℕ, _+_}
 use lib.Ieee.{Float}
+use Rattle.area.specs.Area.{nodes}
 use Rattle.values.specs.declared.Residual.{Residual}
 use Rattle.values.specs.declared.Residual.the-variants as residual
 use Rattle.entries.specs.declared.Aiou.{Aiou}
@@ -22,10 +23,10 @@ use Rattle.entries.specs.declared.SatelliteRead.the-variants as satelliteRead
 use Rattle.export.specs.Numbers as export
 use Rattle.exportviews.specs.Views.{Told, refused}
 
--- ---- an entry: seven numbers at most
+-- ---- an entry: eight numbers at most
 
 abbrev pub entryRoom : ℕ
-entryRoom = 7
+entryRoom = 8
 
 -- "AIOU + 1 (0 without a book)"
 abbrev pub aiouPlusOne : Aiou → ℕ
@@ -45,10 +46,10 @@ sizeIn (troposphere.Grid t size) = size
 unfoldable pub numbersOfOpened : Opened → (used : ℕ) → List ℕ
 numbersOfOpened run used = 1 ∷ used ∷ run .tag ∷ aiouPlusOne (run .aiou) ∷ run .count ∷ []
 
--- of an area placed ID, the 47 bits, T, the SF051 code and S,
+-- of an area placed ID, the 47 bits, T, the SF051 code, S and the count of nodes: a satellite has a residual a node, also where T is 0,
 unfoldable pub numbersOfPlaced : Placed → (used : ℕ) → List ℕ
 numbersOfPlaced area used =
-    2 ∷ used ∷ area .id .0 ∷ area .bits ∷ countIn (area .troposphere) ∷ sizeIn (area .troposphere) ∷ area .satellites ∷ []
+    2 ∷ used ∷ area .id .0 ∷ area .bits ∷ countIn (area .troposphere) ∷ sizeIn (area .troposphere) ∷ area .satellites ∷ nodes (area .bits) ∷ []
 
 -- of an area left out ID and reason
 unfoldable pub numbersOfLeftOut : LeftOut → (used : ℕ) → List ℕ

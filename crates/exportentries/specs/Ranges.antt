@@ -8,7 +8,7 @@ use Rattle.bits.specs.Bits.{Bytes}
 use Rattle.area.specs.Area.{nodes}
 use Rattle.area.specs.Laws.{nodes-some}
 use Rattle.entries.specs.Entry as entries
-use Rattle.entries.specs.Accepted.{mostAiou, IsTroposphere, IsEntry}
+use Rattle.entries.specs.Accepted.{mostAiouPlusOne, IsTroposphere, IsEntry}
 use Rattle.entries.specs.Numbers.{Outcome, accepted, refused}
 use Rattle.entries.specs.Read.{readEntry}
 use Rattle.entries.specs.Theorems.{was}
@@ -24,7 +24,7 @@ use Rattle.entries.specs.declared.EntryRead.the-variants as read
 
 abbrev pub AiouIn : Aiou → Type 0
 AiouIn aiou.None = Unit {0}
-AiouIn (aiou.Is n) = n < mostAiou
+AiouIn (aiou.Is n) = n < mostAiouPlusOne
 
 abbrev pub TroposphereIn : Troposphere → Type 0
 TroposphereIn troposphere.None = Unit {0}
@@ -39,7 +39,7 @@ abbrev pub AnswerIn : EntryRead → Type 0
 AnswerIn (read.Is told used) = EntryIn told
 AnswerIn (read.Refused refusal) = Unit {0}
 
-aiou-in : (aiouPlusOne : ℕ) → aiouPlusOne ≤ mostAiou → AiouIn (aiouOf aiouPlusOne)
+aiou-in : (aiouPlusOne : ℕ) → aiouPlusOne ≤ mostAiouPlusOne → AiouIn (aiouOf aiouPlusOne)
 aiou-in zero h = tt
 aiou-in (suc n) h = omega arith
 

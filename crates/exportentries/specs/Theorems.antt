@@ -1,15 +1,26 @@
--- Theorems on entries of the run log as numbers and floats: a refusal writes nothing; and nothing of an answer is lost, since two entries, residuals or satellites that are told alike are the
--- same. Proved; assumes nothing.
-use mathlib.Core.Path.{_≡_, refl, ap, subst}
-use mathlib.Core.List.{List}
-use Prim.Native.Nat.{ℕ}
+-- Theorems on entries of the run log as numbers and floats: a refusal writes nothing; nothing of an answer is lost, since two entries, residuals or satellites that are told alike are the
+-- same; and S and the count of nodes say which residuals of satellites there are. Proved; assumes nothing.
+use mathlib.Core.Path.{_≡_, refl, ap, sym, subst}
+use mathlib.Core.Bool.{Bool, true, false}
+use mathlib.Core.Logic.{_⊎_, ⊎-elim}
+use mathlib.Core.List.{List, [], _∷_}
+use Prim.Native.Nat.{ℕ, _≤_, _<_}
 use native.Mathlib.Omega.{arith}
+use lib.Dec.{ltb}
+use lib.ListN.{length}
+use borrow.Author.Tests.{ltb-true, ltb-false}
 use Rattle.bits.specs.Bits.{Bytes}
+use Rattle.area.specs.Area.{nodes}
 use Rattle.area.specs.declared.AreaId.{AreaId}
 use Rattle.values.specs.declared.Residual.{Residual}
 use Rattle.values.specs.declared.Residual.the-variants as residual
+use Rattle.entries.specs.Entry as entries
+use Rattle.entries.specs.Accepted.{IsEntry}
+use Rattle.entries.specs.Numbers.{Outcome, accepted, refused}
 use Rattle.entries.specs.Read.{readEntry}
-use Rattle.entries.specs.Answers.{readAnswer}
+use Rattle.entries.specs.Answers.{toldOf, readAnswer, satelliteIn, satellitesOf, slantBy, slantAnswer}
+use Rattle.entries.specs.Theorems.{was}
+use Rattle.entries.specs.Handed.{past-list, slant-handed, slant-outside}
 use Rattle.entries.specs.declared.Aiou.{Aiou}
 use Rattle.entries.specs.declared.Aiou.the-variants as aiou
 use Rattle.entries.specs.declared.Troposphere.{Troposphere}
@@ -112,3 +123,51 @@ residual-whole c d (residual.Tecu x) (residual.Metres y) e f = let z : _≡_ {A 
 pub satellite-whole : (i j m n : ℕ) → toldSatellite (satelliteRead.Is i m) .numbers ≡ toldSatellite (satelliteRead.Is j n) .numbers → (i ≡ j) × (m ≡ n)
 unfolding toldSatellite
 satellite-whole i j m n e = (at e 0, at e 1)
+
+-- ---- the numbers of an area placed say which residuals of satellites there are: FIELD comes exactly for a satellite not below S, or a node not below the count of nodes
+
+module _ (used id bits t size satellites points k node : ℕ) where
+  there-in : (e : entries.Entry) (n : ℕ) → IsEntry e → numbersOfEntry (toldOf e) n ≡ 2 ∷ used ∷ id ∷ bits ∷ t ∷ size ∷ satellites ∷ points ∷ [] → k < satellites → node < points
+      → toldResidual (slantBy (satelliteIn (satellitesOf e) k) node) .number ≡ 0
+  unfolding numbersOfEntry numbersOfOpened numbersOfPlaced numbersOfLeftOut toldResidual
+  there-in (entries.placed i b g ss) n p q h l =
+      let m : k < length ss = subst (λ x. k < x) (sym (at q 6)) h in
+      ap (λ a. toldResidual a .number) (slant-handed i b g ss p k m node (subst (λ x. node < x) (sym (at q 7)) l) .is)
+  there-in (entries.opened tag aiouPlusOne count) n p q h l = let z : _≡_ {A = ℕ} 1 2 = at q 0 in absurd (omega arith)
+  there-in (entries.leftOut i reason) n p q h l = let z : _≡_ {A = ℕ} 3 2 = at q 0 in absurd (omega arith)
+
+  not-there-in : (e : entries.Entry) (n : ℕ) → IsEntry e → numbersOfEntry (toldOf e) n ≡ 2 ∷ used ∷ id ∷ bits ∷ t ∷ size ∷ satellites ∷ points ∷ []
+      → (satellites ≤ k) ⊎ (points ≤ node) → toldResidual (slantBy (satelliteIn (satellitesOf e) k) node) .number ≡ 8
+  unfolding numbersOfEntry numbersOfOpened numbersOfPlaced numbersOfLeftOut toldResidual
+  not-there-in (entries.placed i b g ss) n p q h = go (ltb k (length ss)) refl (at q 6) (at q 7) h
+    where
+      go : (x : Bool) → ltb k (length ss) ≡ x → length ss ≡ satellites → nodes b ≡ points → (satellites ≤ k) ⊎ (points ≤ node)
+          → toldResidual (slantBy (satelliteIn ss k) node) .number ≡ 8
+      go false e es ep h = ap (λ s. toldResidual (slantBy s node) .number) (past-list ss k (ltb-false k (length ss) e))
+      go true e es ep h =
+          let m : k < length ss = ltb-true k (length ss) e in
+          ⊎-elim
+          (λ o. absurd (omega arith))
+          (λ o. ap (λ a. toldResidual a .number) (slant-outside i b g ss p k m node (subst (λ x. x ≤ node) (sym ep) o)))
+          h
+  not-there-in (entries.opened tag aiouPlusOne count) n p q h = let z : _≡_ {A = ℕ} 1 2 = at q 0 in absurd (omega arith)
+  not-there-in (entries.leftOut i reason) n p q h = let z : _≡_ {A = ℕ} 3 2 = at q 0 in absurd (omega arith)
+
+  module _ (s : List ℕ) (b : Bytes s) (told : toldEntry (readAnswer (readEntry s)) .numbers ≡ 2 ∷ used ∷ id ∷ bits ∷ t ∷ size ∷ satellites ∷ points ∷ []) where
+    pub residual-there : k < satellites → node < points → toldResidual (slantAnswer (readEntry s) k node) .number ≡ 0
+    unfolding toldEntry
+    residual-there = go (readEntry s) refl told
+      where
+        go : (o : Outcome entries.Entry) → readEntry s ≡ o → toldEntry (readAnswer o) .numbers ≡ 2 ∷ used ∷ id ∷ bits ∷ t ∷ size ∷ satellites ∷ points ∷ []
+            → k < satellites → node < points → toldResidual (slantAnswer o k node) .number ≡ 0
+        go (accepted e n) r q h l = there-in e n (was s e n b r .is-entry) q h l
+        go (refused why) r q h l = let z : _≡_ {A = ℕ} 0 2 = at q 0 in absurd (omega arith)
+
+    pub residual-not-there : (satellites ≤ k) ⊎ (points ≤ node) → toldResidual (slantAnswer (readEntry s) k node) .number ≡ 8
+    unfolding toldEntry
+    residual-not-there = go (readEntry s) refl told
+      where
+        go : (o : Outcome entries.Entry) → readEntry s ≡ o → toldEntry (readAnswer o) .numbers ≡ 2 ∷ used ∷ id ∷ bits ∷ t ∷ size ∷ satellites ∷ points ∷ []
+            → (satellites ≤ k) ⊎ (points ≤ node) → toldResidual (slantAnswer o k node) .number ≡ 8
+        go (accepted e n) r q h = not-there-in e n (was s e n b r .is-entry) q h
+        go (refused why) r q h = let z : _≡_ {A = ℕ} 0 2 = at q 0 in absurd (omega arith)

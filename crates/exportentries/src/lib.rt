@@ -27,7 +27,7 @@ use exportviews::floats::put_floats;
 use values::Residual;
 
 // The room for an entry; for a unit with a code, and for a value; for a satellite.
-const ENTRY: usize = 7;
+const ENTRY: usize = 8;
 
 const UNIT: usize = 2;
 
@@ -87,6 +87,7 @@ fn put_placed(area: Placed, used: usize, entry: &mut [u64])
         count_in(troposphere),
         size_in(troposphere),
         area.satellites,
+        area::nodes(area.bits),
     ];
     put(&numbers, entry);
 }

@@ -16,6 +16,9 @@ count-in-requires c κs = search needs
 size-in-requires : tie.Need-size-in-requires
 size-in-requires c κs = search needs
 
+nodes-requires : tie.Need-nodes-requires
+nodes-requires c κs = search needs
+
 slice-aggregate-put : tie.Need-slice-aggregate-put
 slice-aggregate-put c = search needs
 
@@ -36,6 +39,7 @@ put-placed-spec =
     wide-requires
     count-in-requires
     size-in-requires
+    nodes-requires
     slice-aggregate-put
     put-requires
     same-length
