@@ -390,7 +390,9 @@ fn must_be(
 fn as_it_is(rng: &mut Rng, judge: &mut Judge, entry: &Entry, bytes: &[u8]) {
     let behind = rng.pick(&[1, 2, 12]);
     let longer = [bytes, &rng.bytes(behind), &[0x80; 3]].concat();
-    for lent in [bytes, &longer] {
+    // a number not in shortest form, or one beyond 64 bits
+    let faulty = if rng.one_in(2) { vec![0x80, 0] } else { [vec![0xFF; 10], vec![0x7F]].concat() };
+    for lent in [bytes, &longer, &[bytes, &faulty].concat()] {
         let answer = read(rng, judge, lent);
         must_be(judge, lent, &answer, Ok((entry, bytes.len())));
         further(rng, judge, lent, entry, bytes.len());
@@ -494,6 +496,10 @@ pub fn large(rng: &mut Rng, judge: &mut Judge) {
         cut(rng, judge, &bytes, end, all[ends.partition_point(|&after| after <= end)].role);
     }
     let at_satellites: Vec<usize> = (0..all.len()).filter(|&at| all[at].role == Role::Satellite).collect();
+    // the last satellite is the one before it again
+    if let [.., before, last] = at_satellites[..] {
+        change(rng, judge, &all, last, &groups(all[before].number));
+    }
     for _ in 0..6 {
         let any = rng.below(all.len() as u64) as usize;
         let satellite = if at_satellites.is_empty() { any } else { rng.pick(&at_satellites) };
