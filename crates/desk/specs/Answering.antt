@@ -42,11 +42,11 @@ use Rattle.log.specs.Bound.{always-enough}
 use Rattle.log.specs.Pass.{Reads}
 use Rattle.desk.specs.Desk.{deskSound}
 use Rattle.desk.specs.Answers.{answers}
-use Rattle.desk.specs.Take.{Handed, Verdict, refused, defines, continues, opens, byRun, badTag, tagOf, byBook, byMessage, byPayload, ourType, ours, isSealed, byHeader, byFrame, noRoom, verdict, copied, loggedBy, logBy, saidBy, frameTaken, numberOfSaid}
+use Rattle.desk.specs.Take.{Handed, Verdict, refused, defines, continues, opens, byRun, badTag, tagOf, byBook, byMessage, byPayload, ourType, ours, isSealed, byHeader, byFrame, handling, noRoom, verdict, copied, loggedBy, logBy, saidBy, leaving, leavingBy, frameTaken, numberOfSaid}
 use Rattle.desk.specs.Carrying.{carried}
 use Rattle.desk.specs.Payloads.{our-type, our-subtype, our-row, judging-hpac, short-of, hpac-refuses, gad-refuses}
 use Rattle.desk.specs.Copied.{copied-sound}
-use Rattle.desk.specs.Fits.{sound-live, sound-open, has-room, Ready}
+use Rattle.desk.specs.Fits.{sound-live, sound-open, handling-sound, has-room, Ready}
 use Rattle.desk.specs.declared.Desk.{Desk}
 use Rattle.desk.specs.declared.Run.{Run}
 use Rattle.desk.specs.declared.Run.the-variants.{Closed, Open}
@@ -259,21 +259,40 @@ module _ (desk : Desk) (live run : List ℕ) where
   by-frame ready frame (check.Short wanted) short = not-taken refusal.Short refl
   by-frame ready frame (check.Refused why) (bad e) = not-taken why e
 
-pub answered : (handed : Handed) → Answered (handed .desk) (handed .live) (handed .run) (verdict handed)
+-- of the desk from which the verdict leaves what it leaves
+module _ (desk : Desk) (second : ℕ) (live run : List ℕ) where
+  abbrev AnsweredLeft : Verdict → Type 0
+  AnsweredLeft v = Answered (leaving desk second v) live run v
+
+  answered-left : (v : Verdict) → Answered (handling desk second) live run v → AnsweredLeft v
+  unfolding loggedBy
+  answered-left (refused why) a = record { room = a .room; refusal = a .refusal; brings = a .brings }
+  answered-left (defines book bytes) a = record { room = a .room; refusal = a .refusal; brings = a .brings }
+  answered-left (continues book message) a = record { room = a .room; refusal = a .refusal; brings = a .brings }
+  answered-left (opens tag message) a = record { room = a .room; refusal = a .refusal; brings = a .brings }
+
+  stopped-left : (b : Bool) (why : Refusal) → answers why ≡ true → (rest : Verdict) → (b ≡ false → AnsweredLeft rest) → AnsweredLeft (stop b (refused why) rest)
+  stopped-left true why e rest h = not-taken desk live run why e
+  stopped-left false why e rest h = h refl
+
+pub answered : (handed : Handed) → Answered (leavingBy handed) (handed .live) (handed .run) (verdict handed)
 unfolding verdict
 answered handed =
     let desk : Desk = handed .desk in
+    let second : ℕ = handed .second in
     let live : List ℕ = handed .live in
     let run : List ℕ = handed .run in
-    stopped desk live run (noRoom live run (handed .log)) refusal.Room refl _ (λ r.
-    stopped desk live run (not (deskSound desk live run)) refusal.State refl _ (λ s.
-    by-frame desk live run (record { state = not-false (deskSound desk live run) s; room = has-room live run (handed .log) r .run-room }) (handed .frame) (checked (handed .frame))
-    (frame-refuses (handed .frame))))
+    stopped-left desk second live run (noRoom live run (handed .log)) refusal.Room refl _ (λ r.
+    stopped-left desk second live run (not (deskSound desk live run)) refusal.State refl _ (λ s.
+    answered-left desk second live run _
+    (by-frame (handling desk second) live run
+    (record { state = handling-sound desk second live run (not-false (deskSound desk live run) s); room = has-room live run (handed .log) r .run-room })
+    (handed .frame) (checked (handed .frame)) (frame-refuses (handed .frame)))))
 
 -- ---- what that means for the log, and for the answer's number
 
 -- a short buffer: nothing is written
-short-log : (handed : Handed) → noRoom (handed .live) (handed .run) (handed .log) ≡ true → logBy (handed .desk) (handed .live) (handed .run) (handed .log) (verdict handed) ≡ handed .log
+short-log : (handed : Handed) → noRoom (handed .live) (handed .run) (handed .log) ≡ true → logBy (leavingBy handed) (handed .live) (handed .run) (handed .log) (verdict handed) ≡ handed .log
 unfolding verdict loggedBy groupsOfAll
 short-log handed e = rw e
 
@@ -282,7 +301,7 @@ unfolding frameTaken
 log-kept handed = go (noRoom (handed .live) (handed .run) (handed .log)) refl
   where
     l : List ℕ
-    l = loggedBy (handed .desk) (handed .live) (handed .run) (verdict handed)
+    l = loggedBy (leavingBy handed) (handed .live) (handed .run) (verdict handed)
 
     go : (b : Bool) → noRoom (handed .live) (handed .run) (handed .log) ≡ b → length (l ++ drop (length l) (handed .log)) ≡ length (handed .log)
     go true e = ap length (short-log handed e)
@@ -314,7 +333,7 @@ pub number-six : (handed : Handed) → numberOfSaid (frameTaken handed .answer .
 unfolding frameTaken
 number-six handed n = go (verdict handed) (answered handed .refusal) n
   where
-    go : (v : Verdict) → verdictAnswers v ≡ true → numberOfSaid (saidBy v (length (loggedBy (handed .desk) (handed .live) (handed .run) (verdict handed)))) ≡ 6 → ⊥
+    go : (v : Verdict) → verdictAnswers v ≡ true → numberOfSaid (saidBy v (length (loggedBy (leavingBy handed) (handed .live) (handed .run) (verdict handed)))) ≡ 6 → ⊥
     go (refused why) e n = six-not why e n
     go (defines book bytes) e n = omega arith
     go (continues book message) e n = omega arith

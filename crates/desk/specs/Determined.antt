@@ -7,7 +7,7 @@ use Rattle.codes.specs.Tables.{rowOf}
 use Rattle.codes.specs.declared.Constellation.{Constellation}
 use Rattle.desk.specs.Desk.{deskSound, newDesk, numberOfNew}
 use Rattle.desk.specs.Lookup.{Lies, bytesAt, spot-determined, spotOf}
-use Rattle.desk.specs.Take.{bookTaken, byHeader, frameTaken, hands, handsBook, numberOfSaid, resultBy, results, resultsBook}
+use Rattle.desk.specs.Take.{bookTaken, byHeader, frameTaken, handling, hands, handsBook, numberOfSaid, results, resultsBook, settledBy}
 use Rattle.desk.specs.declared.Desk.{Desk}
 use Rattle.desk.specs.declared.NewDesk.{NewDesk}
 use Rattle.desk.specs.declared.Said.{Said}
@@ -62,14 +62,14 @@ pub subtype-of-determined : (constellation : Constellation) (r₁ r₂ : ℕ)
     → r₁ ≡ r₂
 subtype-of-determined constellation r₁ r₂ e0₁ e0₂ = e0₁ ∙ sym e0₂
 
-pub take-header-determined : (desk : Desk) (header : Frame) (payload live run log : List ℕ) (r₁ r₂ : Taken) (live₁ live₂ : List ℕ) (run₁ run₂ : List ℕ) (log₁ log₂ : List ℕ)
-    → results r₁ live₁ run₁ log₁ ≡ resultBy desk live run log (byHeader desk live header payload)
-    → results r₂ live₂ run₂ log₂ ≡ resultBy desk live run log (byHeader desk live header payload)
+pub take-header-determined : (desk : Desk) (header : Frame) (payload : List ℕ) (second : ℕ) (live run log : List ℕ) (r₁ r₂ : Taken) (live₁ live₂ : List ℕ) (run₁ run₂ : List ℕ) (log₁ log₂ : List ℕ)
+    → results r₁ live₁ run₁ log₁ ≡ settledBy desk second live run log (byHeader (handling desk second) live header payload)
+    → results r₂ live₂ run₂ log₂ ≡ settledBy desk second live run log (byHeader (handling desk second) live header payload)
     → (r₁ ≡ r₂) × (live₁ ≡ live₂) × (run₁ ≡ run₂) × (log₁ ≡ log₂)
-take-header-determined desk header payload live run log r₁ r₂ live₁ live₂ run₁ run₂ log₁ log₂ e0₁ e0₂ = (ap (λ x. x .answer) (e0₁ ∙ sym e0₂), ap (λ x. x .live) (e0₁ ∙ sym e0₂), ap (λ x. x .run) (e0₁ ∙ sym e0₂), ap (λ x. x .log) (e0₁ ∙ sym e0₂))
+take-header-determined desk header payload second live run log r₁ r₂ live₁ live₂ run₁ run₂ log₁ log₂ e0₁ e0₂ = (ap (λ x. x .answer) (e0₁ ∙ sym e0₂), ap (λ x. x .live) (e0₁ ∙ sym e0₂), ap (λ x. x .run) (e0₁ ∙ sym e0₂), ap (λ x. x .log) (e0₁ ∙ sym e0₂))
 
-pub take-determined : (desk : Desk) (frame live run log : List ℕ) (r₁ r₂ : Taken) (live₁ live₂ : List ℕ) (run₁ run₂ : List ℕ) (log₁ log₂ : List ℕ)
-    → results r₁ live₁ run₁ log₁ ≡ frameTaken (hands desk frame live run log)
-    → results r₂ live₂ run₂ log₂ ≡ frameTaken (hands desk frame live run log)
+pub take-determined : (desk : Desk) (frame : List ℕ) (second : ℕ) (live run log : List ℕ) (r₁ r₂ : Taken) (live₁ live₂ : List ℕ) (run₁ run₂ : List ℕ) (log₁ log₂ : List ℕ)
+    → results r₁ live₁ run₁ log₁ ≡ frameTaken (hands desk frame second live run log)
+    → results r₂ live₂ run₂ log₂ ≡ frameTaken (hands desk frame second live run log)
     → (r₁ ≡ r₂) × (live₁ ≡ live₂) × (run₁ ≡ run₂) × (log₁ ≡ log₂)
-take-determined desk frame live run log r₁ r₂ live₁ live₂ run₁ run₂ log₁ log₂ e0₁ e0₂ = (ap (λ x. x .answer) (e0₁ ∙ sym e0₂), ap (λ x. x .live) (e0₁ ∙ sym e0₂), ap (λ x. x .run) (e0₁ ∙ sym e0₂), ap (λ x. x .log) (e0₁ ∙ sym e0₂))
+take-determined desk frame second live run log r₁ r₂ live₁ live₂ run₁ run₂ log₁ log₂ e0₁ e0₂ = (ap (λ x. x .answer) (e0₁ ∙ sym e0₂), ap (λ x. x .live) (e0₁ ∙ sym e0₂), ap (λ x. x .run) (e0₁ ∙ sym e0₂), ap (λ x. x .log) (e0₁ ∙ sym e0₂))

@@ -6,7 +6,7 @@ use Prim.Native.Nat.{ℕ, _≤_, _<_}
 use native.Mathlib.Omega.{arith}
 use lib.Dec.{ltb, eqb}
 use lib.ListN.{length}
-use borrow.Author.Tests.{ltb-false, not-false}
+use borrow.Author.Tests.{le-leb, ltb-false, not-false}
 use Rattle.answer.specs.Stop.{stop}
 use Rattle.answer.specs.declared.Refusal.{Refusal}
 use Rattle.answer.specs.declared.Refusal.the-variants as refusal
@@ -20,7 +20,7 @@ use Rattle.frame.specs.declared.Frame.{Frame}
 use Rattle.frame.specs.declared.Checked.{Checked}
 use Rattle.frame.specs.declared.Checked.the-variants as check
 use Rattle.sizes.specs.Sizes.{tags, bookBytes, logRoom}
-use Rattle.book.specs.Book.{sound}
+use Rattle.book.specs.Book.{noBook, headSound, areasSound, sound}
 use Rattle.book.specs.Take.{takenOf, bytesAfter}
 use Rattle.book.specs.Laws.{sound-room}
 use Rattle.book.specs.Theorems.{stays-sound}
@@ -28,7 +28,7 @@ use Rattle.book.specs.declared.Book.{Book}
 use Rattle.book.specs.declared.Taken as took
 use Rattle.book.specs.declared.Taken.the-variants as gad
 use Rattle.desk.specs.Desk.{sourceInRange, runSound, deskSound}
-use Rattle.desk.specs.Take.{Verdict, refused, defines, continues, opens, byRun, badTag, tagOf, byBook, byMessage, byPayload, ours, isSealed, byHeader, byFrame, noRoom, hands, verdict, copied, noBookRoom, handsBook, bookVerdict}
+use Rattle.desk.specs.Take.{Verdict, refused, defines, continues, opens, byRun, badTag, tagOf, byBook, byMessage, byPayload, ours, isSealed, byHeader, byFrame, isGap, handling, noRoom, hands, verdict, copied, leaving, noBookRoom, handsBook, bookVerdict}
 use Rattle.desk.specs.Copied.{copied-sound}
 use Rattle.desk.specs.declared.Desk.{Desk}
 use Rattle.desk.specs.declared.Run.{Run}
@@ -54,6 +54,23 @@ module _ (desk : Desk) (live run : List ℕ) (e : deskSound desk live run ≡ tr
   -- and of its open run
   pub sound-open : (tag : ℕ) (book : Book) → desk .run ≡ Open tag book → sound book run ≡ true
   sound-open tag book o = both-right (ltb tag tags) (sound book run) (sym (ap (λ r. runSound r run) o) ∙ sound-run)
+
+-- ---- a sound desk is sound without its live book, and so is the one that handles a frame
+
+pub all-three : {a b c : Bool} → a ≡ true → b ≡ true → c ≡ true → (a && (b && c)) ≡ true
+all-three p q r = rw (p, q, r)
+
+pub empty-sound : (live : List ℕ) → bookBytes ≤ length live → sound noBook live ≡ true
+unfolding sound headSound areasSound
+empty-sound live h = rw (le-leb bookBytes (length live) h)
+
+pub handling-sound : (desk : Desk) (second : ℕ) (live run : List ℕ) → deskSound desk live run ≡ true → deskSound (handling desk second) live run ≡ true
+unfolding deskSound
+handling-sound desk second live run e = all-three (sound-source desk live run e) (go (isGap (desk .last) second)) (sound-run desk live run e)
+  where
+    go : (b : Bool) → sound (cond b noBook (desk .book)) live ≡ true
+    go true = empty-sound live (sound-room (desk .book) live (sound-live desk live run e))
+    go false = sound-live desk live run e
 
 -- ---- a frame is taken only by a sound desk with room
 
@@ -125,18 +142,10 @@ module _ (desk : Desk) (live run : List ℕ) where
         fits-stop (not (ours desk header)) refusal.NotOurs (stop (isSealed (header .seal)) (refused refusal.Sealed) rest) (λ e.
         fits-stop (isSealed (header .seal)) refusal.Sealed rest (λ f. fits-payload o))
 
-  fits-frame : Ready desk live run → (frame : List ℕ) (c : Checked) → Fits desk live run (byFrame desk live c frame)
+  pub fits-frame : Ready desk live run → (frame : List ℕ) (c : Checked) → Fits desk live run (byFrame desk live c frame)
   fits-frame ready frame (check.Accepted header) = fits-header ready header (payloadIn header frame)
   fits-frame ready frame (check.Short wanted) = not-taken
   fits-frame ready frame (check.Refused why) = not-taken
-
-  pub fits : (frame log : List ℕ) → Fits desk live run (verdict (hands desk frame live run log))
-  unfolding verdict
-  fits frame log =
-      let rest : Verdict = byFrame desk live (checked frame) frame in
-      fits-stop (noRoom live run log) refusal.Room (stop (not (deskSound desk live run)) (refused refusal.State) rest) (λ r.
-      fits-stop (not (deskSound desk live run)) refusal.State rest (λ s.
-      fits-frame (record { state = not-false (deskSound desk live run) s; room = has-room live run log r .run-room }) frame (checked frame)))
 
   -- and a kept book that is taken is sound where it is copied to
   fits-book-in : Ready desk live run → (book : Book) (bytes : List ℕ) → sound book bytes ≡ true → Fits desk live run (defines book (copied book bytes live))
@@ -158,3 +167,31 @@ module _ (desk : Desk) (live run : List ℕ) where
       last-room false false e = ltb-false (length run) bookBytes e
       last-room true b e = let z : _≡_ {A = ℕ} 0 1 = cc in absurd (omega arith)
       last-room false true e = let z : _≡_ {A = ℕ} 0 1 = cc in absurd (omega arith)
+
+-- ---- the same of the desk from which a frame's verdict leaves what it leaves: the one that handled it, or the desk as lent
+
+module _ (desk : Desk) (second : ℕ) (live run : List ℕ) where
+  abbrev FitsLeft : Verdict → Type 0
+  FitsLeft v = Fits (leaving desk second v) live run v
+
+  fits-left : (v : Verdict) → Fits (handling desk second) live run v → FitsLeft v
+  unfolding deskSound
+  fits-left (refused why) f = not-taken
+  fits-left (defines book bytes) (new-areas r w) = new-areas (record { state = r .state; room = r .room }) w
+  fits-left (continues book message) (same-run r e) = same-run (record { state = r .state; room = r .room }) e
+  fits-left (opens tag message) (new-run r h) = new-run (record { state = r .state; room = r .room }) h
+
+  left-stop : (b : Bool) (why : Refusal) (rest : Verdict) → (b ≡ false → FitsLeft rest) → FitsLeft (stop b (refused why) rest)
+  left-stop true why rest h = not-taken
+  left-stop false why rest h = h refl
+
+  pub fits : (frame log : List ℕ) → FitsLeft (verdict (hands desk frame second live run log))
+  unfolding verdict
+  fits frame log =
+      let rest : Verdict = byFrame (handling desk second) live (checked frame) frame in
+      left-stop (noRoom live run log) refusal.Room (stop (not (deskSound desk live run)) (refused refusal.State) rest) (λ r.
+      left-stop (not (deskSound desk live run)) refusal.State rest (λ s.
+      fits-left rest
+      (fits-frame (handling desk second) live run
+      (record { state = handling-sound desk second live run (not-false (deskSound desk live run) s); room = has-room live run log r .run-room })
+      frame (checked frame))))

@@ -8,7 +8,7 @@ use Rattle.book.specs.Book.{found}
 use Rattle.book.specs.declared.Book.{Book}
 use Rattle.log.specs.Log.{opened, logOf}
 use Rattle.desk.specs.Desk.{deskSound}
-use Rattle.desk.specs.Take.{Verdict, refused, defines, continues, opens, hands, verdict, handsBook, bookVerdict, deskBy, liveBy, runBytesBy, entriesBy}
+use Rattle.desk.specs.Take.{Verdict, refused, defines, continues, opens, hands, verdict, leaving, handsBook, bookVerdict, deskBy, liveBy, runBytesBy, entriesBy}
 use Rattle.desk.specs.declared.Desk.{Desk}
 use Rattle.desk.specs.declared.Run.{Run}
 use Rattle.desk.specs.declared.Run.the-variants.{Closed, Open}
@@ -19,17 +19,32 @@ pub record Held : Type 0 where
   pub live : List ℕ
   pub run : List ℕ
 
--- what it is given next: a frame, with what is lent for its log, or a book that was read from its kept form
+-- what it is given next: a frame, with the second it came in and what is lent for its log, or a book that was read from its kept form
 pub data Given : Type 0 where
-  frameWith : (frame log : List ℕ) → Given
+  frameWith : (frame : List ℕ) (second : ℕ) (log : List ℕ) → Given
   keptBook : (book : Book) (bytes : List ℕ) → Given
 
 abbrev pub verdictOn : Held → Given → Verdict
-verdictOn held (frameWith frame log) = verdict (hands (held .desk) frame (held .live) (held .run) log)
+verdictOn held (frameWith frame second log) = verdict (hands (held .desk) frame second (held .live) (held .run) log)
 verdictOn held (keptBook book bytes) = bookVerdict (handsBook (held .desk) book bytes (held .live) (held .run))
+
+-- the desk with its books as a verdict handles with: after a gap an accepted frame is handled with an empty live book (`leaving` of Take.antt)
+abbrev pub handledAt : Held → (second : ℕ) → Verdict → Held
+handledAt held second v = record { desk = leaving (held .desk) second v; live = held .live; run = held .run }
+
+abbrev pub handledBy : Held → Given → Verdict → Held
+handledBy held (frameWith frame second log) v = handledAt held second v
+handledBy held (keptBook book bytes) v = held
+
+abbrev pub handled : Held → Given → Held
+handled held given = handledBy held given (verdictOn held given)
 
 abbrev pub heldBy : Held → Verdict → Held
 heldBy held v = record { desk = deskBy (held .desk) v; live = liveBy (held .live) v; run = runBytesBy (held .desk) (held .live) (held .run) v }
+
+-- what it has after it
+abbrev pub after : Held → Given → Held
+after held given = heldBy (handled held given) (verdictOn held given)
 
 -- a sound desk with its two books
 abbrev pub heldSound : Held → Bool
@@ -44,7 +59,7 @@ pub record Snapshot : Type 0 where
   pub book : Book
   pub bytes : List ℕ
 
--- the live book at the moment when the run was opened: what the auditor asks for. Only a frame that opens a run sets it.
+-- the live book at the moment when the run was opened, as that frame was handled with: what the auditor asks for. Only a frame that opens a run sets it.
 abbrev pub openingBy : Held → Snapshot → Verdict → Snapshot
 openingBy held opening (refused why) = opening
 openingBy held opening (defines book bytes) = opening
@@ -59,8 +74,8 @@ pub record Course : Type 0 where
 abbrev pub onward : Course → Given → Course
 onward course given =
     record {
-      held = heldBy (course .held) (verdictOn (course .held) given);
-      opening = openingBy (course .held) (course .opening) (verdictOn (course .held) given);
+      held = after (course .held) given;
+      opening = openingBy (handled (course .held) given) (course .opening) (verdictOn (course .held) given);
     }
 
 unfoldable pub along : Course → List Given → Course

@@ -12,5 +12,6 @@ pub mod History
 pub mod Continues
 pub mod Entries
 pub mod Theorems
+pub mod Gap
 pub mod Display
 pub mod Determined

@@ -1,7 +1,7 @@
--- Definitions to believe: document 01, "Book and run": what a desk makes of a frame, in the order of its checks, and what it leaves.
+-- Definitions to believe: document 01, "Book and run": what a desk makes of a frame, in the order of its checks, and what it leaves; and document 02, request 1, "Old grid after a radio gap".
 use mathlib.Core.Bool.{Bool, true, false, cond, not, _&&_, _||_}
 use mathlib.Core.List.{List, [], _++_}
-use Prim.Native.Nat.{ℕ, _*_, _%_}
+use Prim.Native.Nat.{ℕ, _-_, _*_, _%_}
 use lib.Dec.{leb, ltb, eqb}
 use lib.ListN.{length, take, drop}
 use Rattle.sizes.specs.Sizes.{tags, bookBytes, logRoom}
@@ -21,7 +21,7 @@ use Rattle.layout.specs.Layout as layout
 use Rattle.hpac.specs.Hpac.{Hpac}
 use Rattle.message.specs.Messages.{Message, ocbMessage, hpacMessage, gadMessage, bpacMessage}
 use Rattle.sheet.specs.Sheet.{judging}
-use Rattle.book.specs.Book.{sound}
+use Rattle.book.specs.Book.{noBook, sound}
 use Rattle.book.specs.Take.{takenOf, bytesAfter}
 use Rattle.book.specs.declared.Book.{Book}
 use Rattle.book.specs.declared.Taken as took
@@ -30,23 +30,26 @@ use Rattle.groups.specs.Groups.{groupsOfAll}
 use Rattle.log.specs.Log.{opened, logOf}
 use Rattle.desk.specs.Desk.{deskWith, deskSound}
 use Rattle.desk.specs.declared.Desk.{Desk}
+use Rattle.desk.specs.declared.Last.{Last}
+use Rattle.desk.specs.declared.Last.the-variants.{Never, At}
 use Rattle.desk.specs.declared.Run.{Run}
 use Rattle.desk.specs.declared.Run.the-variants.{Closed, Open}
 use Rattle.desk.specs.declared.Said.{Said}
 use Rattle.desk.specs.declared.Said.the-variants as said
 use Rattle.desk.specs.declared.Taken.{Taken}
 
--- ---- what a call is given: the desk and the frame, and lent the live book, the run's book and a log
+-- ---- what a call is given: the desk, the frame and "the second it came in", and lent the live book, the run's book and a log
 
 pub record Handed : Type 0 where
   pub desk : Desk
   pub frame : List ℕ
+  pub second : ℕ
   pub live : List ℕ
   pub run : List ℕ
   pub log : List ℕ
 
-abbrev pub hands : Desk → (frame live run log : List ℕ) → Handed
-hands desk frame live run log = record { desk = desk; frame = frame; live = live; run = run; log = log }
+abbrev pub hands : Desk → (frame : List ℕ) → (second : ℕ) → (live run log : List ℕ) → Handed
+hands desk frame second live run log = record { desk = desk; frame = frame; second = second; live = live; run = run; log = log }
 
 -- ---- what a frame is to a desk
 
@@ -118,16 +121,40 @@ byFrame desk live (check.Accepted header) frame = byHeader desk live header (pay
 byFrame desk live (check.Short wanted) frame = refused refusal.Short
 byFrame desk live (check.Refused why) frame = refused why
 
+-- ---- document 02, request 1: "Each frame is now handed to the desk with the second it came in."
+
+-- the seconds of outage after which "an AIOU must be taken as changed" (SF068)
+abbrev pub outage : ℕ
+outage = 450
+
+-- the second as it counts: "A second earlier than the last accepted frame's counts as that one."
+abbrev pub counted : Last → (second : ℕ) → ℕ
+counted Never second = second
+counted (At last) second = cond (ltb second last) last second
+
+-- the seconds that have passed since that frame: "Before the first accepted frame no time counts as passed."
+abbrev pub passed : Last → (second : ℕ) → ℕ
+passed Never second = 0
+passed (At last) second = counted (At last) second - last
+
+-- "If 450 or more have passed since the last accepted frame of ours, .."
+unfoldable pub isGap : Last → (second : ℕ) → Bool
+isGap last second = leb outage (passed last second)
+
+-- ".. this frame is judged and handled with an empty live book": the desk by which that is done. "An open run keeps its copy."
+abbrev pub handling : Desk → (second : ℕ) → Desk
+handling desk second = deskWith desk (cond (isGap (desk .last) second) noBook (desk .book)) (desk .run)
+
 -- ROOM: "lent buffer under its stated size"
 unfoldable pub noRoom : (live run log : List ℕ) → Bool
 noRoom live run log = ltb (length live) bookBytes || (ltb (length run) bookBytes || ltb (length log) logRoom)
 
--- "Order: ROOM, STATE, the frame's own refusals, NOT_OURS, SEALED, payload refusals, then for HPAC TAG, for GAD the book's refusals"
+-- "Order: ROOM, STATE, the frame's own refusals, NOT_OURS, SEALED, payload refusals, then for HPAC TAG, for GAD the book's refusals". ROOM and STATE are asked of the desk as lent.
 unfoldable pub verdict : Handed → Verdict
 verdict handed =
     stop (noRoom (handed .live) (handed .run) (handed .log)) (refused refusal.Room)
     (stop (not (deskSound (handed .desk) (handed .live) (handed .run))) (refused refusal.State)
-    (byFrame (handed .desk) (handed .live) (checked (handed .frame)) (handed .frame)))
+    (byFrame (handling (handed .desk) (handed .second)) (handed .live) (checked (handed .frame)) (handed .frame)))
 
 -- ---- what a verdict leaves: "A refusal returns its number and the old state, .. and alters no lent byte"
 
@@ -205,15 +232,36 @@ abbrev pub resultBy : Desk → (live run log : List ℕ) → Verdict → Result
 resultBy desk live run log v =
     results (takenBy desk live run v) (liveBy live v) (runBytesBy desk live run v) (logBy desk live run log v)
 
+-- the desk that handled a frame which it takes, with the second of this frame, as it counts, for the last accepted one's
+abbrev pub dated : Desk → Last → Desk
+dated desk last =
+    record { solution = desk .solution; processor = desk .processor; constellation = desk .constellation; book = desk .book; run = desk .run; last = last }
+
+abbrev pub accepting : Desk → (second : ℕ) → Desk
+accepting desk second = dated (handling desk second) (At (counted (desk .last) second))
+
+-- the desk from which a verdict leaves what it leaves: "if it is refused, the old book stays", and the old second
+abbrev pub leaving : Desk → (second : ℕ) → Verdict → Desk
+leaving desk second (refused why) = desk
+leaving desk second (defines book bytes) = accepting desk second
+leaving desk second (continues book message) = accepting desk second
+leaving desk second (opens tag message) = accepting desk second
+
+abbrev pub leavingBy : Handed → Desk
+leavingBy handed = leaving (handed .desk) (handed .second) (verdict handed)
+
+abbrev pub settledBy : Desk → (second : ℕ) → (live run log : List ℕ) → Verdict → Result
+settledBy desk second live run log v = resultBy (leaving desk second v) live run log v
+
 unfoldable pub frameTaken : Handed → Result
-frameTaken handed = resultBy (handed .desk) (handed .live) (handed .run) (handed .log) (verdict handed)
+frameTaken handed = settledBy (handed .desk) (handed .second) (handed .live) (handed .run) (handed .log) (verdict handed)
 
 -- the answer's number in document 01
 abbrev pub numberOfSaid : Said → ℕ
 numberOfSaid (said.Accepted log) = 0
 numberOfSaid (said.Refused refusal) = numberOf refusal
 
--- ---- a book that was read from its kept form, in bytes of its own, is taken as the live book; an open run stays as it is
+-- ---- a book that was read from its kept form, in bytes of its own, is taken as the live book; an open run and the last second stay as they are
 
 pub record BookHanded : Type 0 where
   pub desk : Desk
