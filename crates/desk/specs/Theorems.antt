@@ -58,7 +58,7 @@ handled-sound held (frameWith frame second log) e = go (verdictOn held (frameWit
 handled-sound held (keptBook book bytes) e = e
 
 module _ (held : Held) (e : heldSound held ≡ true) where
-  sound-by : (v : Verdict) → Fits (held .desk) (held .live) (held .run) v → heldSound (heldBy held v) ≡ true
+  pub sound-by : (v : Verdict) → Fits (held .desk) (held .live) (held .run) v → heldSound (heldBy held v) ≡ true
   unfolding deskSound
   sound-by (refused why) f = e
   sound-by (defines book bytes) (new-areas r w) = all-three (sound-source (held .desk) (held .live) (held .run) e) w (sound-run (held .desk) (held .live) (held .run) e)

@@ -1,4 +1,4 @@
 pub mod Laws
-pub mod Nine
+pub mod Eleven
 pub mod Telling
 pub mod Finding

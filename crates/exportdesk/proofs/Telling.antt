@@ -60,24 +60,24 @@ module _ (a : Taken) (s : Said) (e : a .said ≡ s) where
   said-numbers lent now p = rw e p
 
 module _ (d : Desk) (desk : List ℕ) (e : d ≡ deskIn desk) (live run : List ℕ) where
-  module _ (frame log : List ℕ) (a : Taken) (live′ run′ log′ : List ℕ)
-      (p : results a live′ run′ log′ ≡ frameTaken (hands d frame live run log)) where
-    all-of : results a live′ run′ log′ ≡ frameTaken (hands (deskIn desk) frame live run log)
-    all-of = p ∙ ap (λ (x : Desk). frameTaken (hands x frame live run log)) e
+  module _ (frame : List ℕ) (second : ℕ) (log : List ℕ) (a : Taken) (live′ run′ log′ : List ℕ)
+      (p : results a live′ run′ log′ ≡ frameTaken (hands d frame second live run log)) where
+    all-of : results a live′ run′ log′ ≡ frameTaken (hands (deskIn desk) frame second live run log)
+    all-of = p ∙ ap (λ (x : Desk). frameTaken (hands x frame second live run log)) e
 
-    pub take-of : a ≡ takeOf frame desk live run log
+    pub take-of : a ≡ takeOf frame second desk live run log
     unfolding takeOf
     take-of = ap (λ r. r .answer) all-of
 
-    pub take-live : live′ ≡ takeLive frame desk live run log
+    pub take-live : live′ ≡ takeLive frame second desk live run log
     unfolding takeLive
     take-live = ap (λ r. r .live) all-of
 
-    pub take-run : run′ ≡ takeRun frame desk live run log
+    pub take-run : run′ ≡ takeRun frame second desk live run log
     unfolding takeRun
     take-run = ap (λ r. r .run) all-of
 
-    pub take-log : log′ ≡ takeLog frame desk live run log
+    pub take-log : log′ ≡ takeLog frame second desk live run log
     unfolding takeLog
     take-log = ap (λ r. r .log) all-of
 

@@ -43,18 +43,18 @@ unfoldable pub logTold : Said → List ℕ
 logTold (said.Accepted log) = log ∷ []
 logTold (said.Refused why) = []
 
--- a frame taken, and the two books and the log afterwards
-unfoldable pub takeOf : (frame desk live run log : List ℕ) → Taken
-takeOf frame desk live run log = frameTaken (hands (deskIn desk) frame live run log) .answer
+-- a frame and its second taken, and the two books and the log afterwards
+unfoldable pub takeOf : (frame : List ℕ) → (second : ℕ) → (desk live run log : List ℕ) → Taken
+takeOf frame second desk live run log = frameTaken (hands (deskIn desk) frame second live run log) .answer
 
-unfoldable pub takeLive : (frame desk live run log : List ℕ) → List ℕ
-takeLive frame desk live run log = frameTaken (hands (deskIn desk) frame live run log) .live
+unfoldable pub takeLive : (frame : List ℕ) → (second : ℕ) → (desk live run log : List ℕ) → List ℕ
+takeLive frame second desk live run log = frameTaken (hands (deskIn desk) frame second live run log) .live
 
-unfoldable pub takeRun : (frame desk live run log : List ℕ) → List ℕ
-takeRun frame desk live run log = frameTaken (hands (deskIn desk) frame live run log) .run
+unfoldable pub takeRun : (frame : List ℕ) → (second : ℕ) → (desk live run log : List ℕ) → List ℕ
+takeRun frame second desk live run log = frameTaken (hands (deskIn desk) frame second live run log) .run
 
-unfoldable pub takeLog : (frame desk live run log : List ℕ) → List ℕ
-takeLog frame desk live run log = frameTaken (hands (deskIn desk) frame live run log) .log
+unfoldable pub takeLog : (frame : List ℕ) → (second : ℕ) → (desk live run log : List ℕ) → List ℕ
+takeLog frame second desk live run log = frameTaken (hands (deskIn desk) frame second live run log) .log
 
 -- a book that was read from its kept form taken, and the live book afterwards
 unfoldable pub takeBookOf : (desk live run book bytes : List ℕ) → Taken

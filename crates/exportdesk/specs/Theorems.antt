@@ -1,6 +1,6 @@
--- Theorems on a desk as nine numbers. A number out of its range makes a desk unsound; numbers that a flag makes meaningless do not count. A sound desk
+-- Theorems on a desk as eleven numbers. A number out of its range makes a desk unsound; numbers that a flag makes meaningless do not count. A sound desk
 -- that is written and read again is the same desk, so calls in a row are what they are to `desk`. Proved; assumes nothing.
-use mathlib.Core.Path.{_≡_, refl, ap, _∙_}
+use mathlib.Core.Path.{_≡_, refl, ap, sym, _∙_}
 use mathlib.Core.Bool.{Bool, true, false, cond, _&&_}
 use mathlib.Core.List.{List, [], _∷_}
 use Prim.Native.Nat.{ℕ, _-_, _≤_, _<_}
@@ -8,6 +8,7 @@ use native.Mathlib.Omega.{arith}
 use lib.Dec.{ltb, leb, eqb}
 use lib.ListN.{getD}
 use borrow.Author.Tests.{le-ltb, ltb-true, le-leb, lt-leb, ne-eqb}
+use Rattle.answer.specs.declared.Refusal.{Refusal}
 use Rattle.area.specs.Laws.{both-left, both-right}
 use Rattle.codes.specs.Tables.{rowOf}
 use Rattle.codes.specs.declared.Constellation.{Constellation}
@@ -17,17 +18,19 @@ use Rattle.book.specs.Book.{sound}
 use Rattle.book.specs.Laws.{sound-head, head-parts}
 use Rattle.book.specs.declared.Book.{Book}
 use Rattle.desk.specs.Desk.{sourceInRange, runSound, deskSound}
-use Rattle.desk.specs.Take.{Verdict, refused, defines, continues, opens, copied, deskBy, takenBy, frameTaken, bookTaken}
+use Rattle.desk.specs.Take.{Verdict, refused, defines, continues, opens, copied, deskBy, takenBy, leaving, frameTaken, bookTaken}
 use Rattle.desk.specs.Fits.{sound-source, sound-live, sound-run, Fits, new-areas, same-run, new-run}
-use Rattle.desk.specs.History.{Held, Given, frameWith, keptBook, verdictOn, heldBy, heldSound}
-use Rattle.desk.specs.Theorems.{fits-on, stays-sound}
+use Rattle.desk.specs.History.{Held, Given, frameWith, keptBook, verdictOn, handled}
+use Rattle.desk.specs.Theorems.{fits-on, sound-by}
 use Rattle.desk.specs.declared.Desk.{Desk}
+use Rattle.desk.specs.declared.Last.{Last}
+use Rattle.desk.specs.declared.Last.the-variants.{Never, At}
 use Rattle.desk.specs.declared.Run.{Run}
 use Rattle.desk.specs.declared.Run.the-variants.{Closed, Open}
 use Rattle.export.specs.Numbers.{laid, atMost}
 use Rattle.export.specs.Books.{bookIn}
 use Rattle.export.specs.Back.{most-under, book-back}
-use Rattle.exportdesk.specs.States.{constellationIn, solutionIn, runIn, deskIn, isOpen, tagOf, runBook, deskOf}
+use Rattle.exportdesk.specs.States.{constellationIn, solutionIn, runIn, lastIn, deskIn, isOpen, tagOf, runBook, isDated, secondOf, deskOf}
 use Rattle.exportdesk.specs.Desks.{toldSaid, toldTaken, takeOf, takeBookOf}
 
 -- ---- a number out of its range
@@ -95,7 +98,7 @@ open-book flag tag aiou areas bytes f e =
 module _ (s live run : List ℕ) where
   pub solution-out : 127 < getD s 0 0 → deskSound (deskIn s) live run ≡ false
   unfolding deskIn solutionIn
-  solution-out h = no-solution (deskIn s) live run (go (leb (getD s 2 0) 4 && leb (getD s 5 0) 1))
+  solution-out h = no-solution (deskIn s) live run (go (leb (getD s 2 0) 4 && (leb (getD s 5 0) 1 && leb (getD s 9 0) 1)))
     where
       go : (b : Bool) → cond b (atMost 128 (getD s 0 0)) 128 ≡ 128
       go true = most-over 128 (getD s 0 0) (omega arith)
@@ -107,13 +110,22 @@ module _ (s live run : List ℕ) where
 
   pub constellation-out : 4 < getD s 2 0 → deskSound (deskIn s) live run ≡ false
   unfolding deskIn solutionIn
-  constellation-out h = no-solution (deskIn s) live run (ap (λ b. cond (b && leb (getD s 5 0) 1) (atMost 128 (getD s 0 0)) 128) (lt-leb (getD s 2 0) 4 h))
+  constellation-out h = no-solution (deskIn s) live run (ap (λ b. cond (b && (leb (getD s 5 0) 1 && leb (getD s 9 0) 1)) (atMost 128 (getD s 0 0)) 128) (lt-leb (getD s 2 0) 4 h))
 
   pub flag-out : 1 < getD s 5 0 → deskSound (deskIn s) live run ≡ false
   unfolding deskIn solutionIn
   flag-out h =
       no-solution (deskIn s) live run
-      (ap (λ b. cond (leb (getD s 2 0) 4 && b) (atMost 128 (getD s 0 0)) 128) (lt-leb (getD s 5 0) 1 h)
+      (ap (λ b. cond (leb (getD s 2 0) 4 && (b && leb (getD s 9 0) 1)) (atMost 128 (getD s 0 0)) 128) (lt-leb (getD s 5 0) 1 h)
+      ∙ ap (λ b. cond b (atMost 128 (getD s 0 0)) 128) (never (leb (getD s 2 0) 4)))
+
+  -- the flag of the last accepted frame
+  pub dated-out : 1 < getD s 9 0 → deskSound (deskIn s) live run ≡ false
+  unfolding deskIn solutionIn
+  dated-out h =
+      no-solution (deskIn s) live run
+      (ap (λ b. cond (leb (getD s 2 0) 4 && (leb (getD s 5 0) 1 && b)) (atMost 128 (getD s 0 0)) 128) (lt-leb (getD s 9 0) 1 h)
+      ∙ ap (λ b. cond (leb (getD s 2 0) 4 && b) (atMost 128 (getD s 0 0)) 128) (never (leb (getD s 5 0) 1))
       ∙ ap (λ b. cond b (atMost 128 (getD s 0 0)) 128) (never (leb (getD s 2 0) 4)))
 
   pub tag-out : getD s 5 0 ≡ 1 → tags ≤ getD s 6 0 → deskSound (deskIn s) live run ≡ false
@@ -148,21 +160,31 @@ module _ (s live run : List ℕ) where
 
 module _ (solution processor constellation : ℕ) where
   -- the AIOU of an empty book
-  pub empty-book : (a b flag tag aiou areas : ℕ)
-      → deskIn (solution ∷ processor ∷ constellation ∷ a ∷ 0 ∷ flag ∷ tag ∷ aiou ∷ areas ∷ []) ≡ deskIn (solution ∷ processor ∷ constellation ∷ b ∷ 0 ∷ flag ∷ tag ∷ aiou ∷ areas ∷ [])
+  pub empty-book : (a b flag tag aiou areas dated second : ℕ)
+      → deskIn (solution ∷ processor ∷ constellation ∷ a ∷ 0 ∷ flag ∷ tag ∷ aiou ∷ areas ∷ dated ∷ second ∷ [])
+      ≡ deskIn (solution ∷ processor ∷ constellation ∷ b ∷ 0 ∷ flag ∷ tag ∷ aiou ∷ areas ∷ dated ∷ second ∷ [])
   unfolding deskIn bookIn
-  empty-book a b flag tag aiou areas = refl
+  empty-book a b flag tag aiou areas dated second = refl
 
-  pub empty-run-book : (aiou areas flag tag a b : ℕ)
-      → deskIn (solution ∷ processor ∷ constellation ∷ aiou ∷ areas ∷ flag ∷ tag ∷ a ∷ 0 ∷ []) ≡ deskIn (solution ∷ processor ∷ constellation ∷ aiou ∷ areas ∷ flag ∷ tag ∷ b ∷ 0 ∷ [])
+  pub empty-run-book : (aiou areas flag tag a b dated second : ℕ)
+      → deskIn (solution ∷ processor ∷ constellation ∷ aiou ∷ areas ∷ flag ∷ tag ∷ a ∷ 0 ∷ dated ∷ second ∷ [])
+      ≡ deskIn (solution ∷ processor ∷ constellation ∷ aiou ∷ areas ∷ flag ∷ tag ∷ b ∷ 0 ∷ dated ∷ second ∷ [])
   unfolding deskIn runIn bookIn
-  empty-run-book aiou areas flag tag a b = refl
+  empty-run-book aiou areas flag tag a b dated second = refl
 
   -- tag and book of a closed run
-  pub closed-run : (aiou areas t a n u b m : ℕ)
-      → deskIn (solution ∷ processor ∷ constellation ∷ aiou ∷ areas ∷ 0 ∷ t ∷ a ∷ n ∷ []) ≡ deskIn (solution ∷ processor ∷ constellation ∷ aiou ∷ areas ∷ 0 ∷ u ∷ b ∷ m ∷ [])
+  pub closed-run : (aiou areas t a n u b m dated second : ℕ)
+      → deskIn (solution ∷ processor ∷ constellation ∷ aiou ∷ areas ∷ 0 ∷ t ∷ a ∷ n ∷ dated ∷ second ∷ [])
+      ≡ deskIn (solution ∷ processor ∷ constellation ∷ aiou ∷ areas ∷ 0 ∷ u ∷ b ∷ m ∷ dated ∷ second ∷ [])
   unfolding deskIn runIn
-  closed-run aiou areas t a n u b m = refl
+  closed-run aiou areas t a n u b m dated second = refl
+
+  -- the second of no accepted frame
+  pub no-second : (aiou areas flag tag a n x y : ℕ)
+      → deskIn (solution ∷ processor ∷ constellation ∷ aiou ∷ areas ∷ flag ∷ tag ∷ a ∷ n ∷ 0 ∷ x ∷ [])
+      ≡ deskIn (solution ∷ processor ∷ constellation ∷ aiou ∷ areas ∷ flag ∷ tag ∷ a ∷ n ∷ 0 ∷ y ∷ [])
+  unfolding deskIn lastIn
+  no-second aiou areas flag tag a n x y = refl
 
 -- ---- a desk that is written and read again
 
@@ -174,12 +196,13 @@ constellation-back Galileo = refl
 constellation-back BeiDou = refl
 constellation-back Qzss = refl
 
-solution-back : (solution : ℕ) (c : Constellation) (run : Run) → solution < 128 → solutionIn solution (rowOf c) (isOpen run) ≡ solution
+solution-back : (solution : ℕ) (c : Constellation) (run : Run) (last : Last) → solution < 128 → solutionIn solution (rowOf c) (isOpen run) (isDated last) ≡ solution
 unfolding solutionIn
-solution-back solution c run h =
+solution-back solution c run last h =
     let y : leb (rowOf c) 4 ≡ true = le-leb _ _ (row c) in
     let z : leb (isOpen run) 1 ≡ true = le-leb _ _ (flag run) in
-    rw (y, z) (most-under 128 solution h)
+    let x : leb (isDated last) 1 ≡ true = le-leb _ _ (dated last) in
+    rw (y, z, x) (most-under 128 solution h)
   where
     row : (c : Constellation) → rowOf c ≤ 4
     row Gps = omega arith
@@ -192,46 +215,63 @@ solution-back solution c run h =
     flag Closed = omega arith
     flag (Open tag book) = omega arith
 
+    dated : (last : Last) → isDated last ≤ 1
+    dated Never = omega arith
+    dated (At second) = omega arith
+
+last-back : (last : Last) → lastIn (isDated last) (secondOf last) ≡ last
+unfolding lastIn
+last-back Never = refl
+last-back (At second) = refl
+
 run-back : (run : Run) (bytes : List ℕ) → runSound run bytes ≡ true → runIn (isOpen run) (tagOf run) (runBook run .«aiou_plus_one» - 1) (runBook run .count) ≡ run
 unfolding runIn
 run-back Closed bytes e = refl
 run-back (Open tag book) bytes e = ap (λ (b : Book). Open tag b) (book-back book (sound-head book bytes (both-right (ltb tag tags) (sound book bytes) e)))
 
--- whatever lies behind the nine numbers
+-- whatever lies behind the eleven numbers
 pub reads-back : (desk : Desk) (live run lent : List ℕ) → deskSound desk live run ≡ true → deskIn (laid (deskOf desk) lent) ≡ desk
 unfolding deskIn deskOf laid
 reads-back desk live run lent e =
     let source = sound-source desk live run e in
-    let a = solution-back (desk .solution) (desk .constellation) (desk .run) (ltb-true (desk .solution) 128 (both-left (ltb (desk .solution) 128) (ltb (desk .processor) 16) source)) in
+    let a = solution-back (desk .solution) (desk .constellation) (desk .run) (desk .last) (ltb-true (desk .solution) 128 (both-left (ltb (desk .solution) 128) (ltb (desk .processor) 16) source)) in
     let b = most-under 16 (desk .processor) (ltb-true (desk .processor) 16 (both-right (ltb (desk .solution) 128) (ltb (desk .processor) 16) source)) in
     let c = constellation-back (desk .constellation) in
     let d = book-back (desk .book) (sound-head (desk .book) live (sound-live desk live run e)) in
     let f = run-back (desk .run) run (sound-run desk live run e) in
-    rw (a, b, c, d, f)
+    rw (a, b, c, d, f, last-back (desk .last))
 
 -- ---- calls one after the other
 
-module _ (s live run : List ℕ) (given : Given) where
-  abbrev held : Held
-  held = record { desk = deskIn s; live = live; run = run }
+module _ (s live run : List ℕ) where
+  abbrev held : Desk → Held
+  held desk = record { desk = desk; live = live; run = run }
 
-  next-by : (v : Verdict) → Fits (deskIn s) live run v → (heldSound held ≡ true → heldSound (heldBy held v) ≡ true)
-      → deskIn (laid (toldTaken (takenBy (deskIn s) live run v) .numbers) s) ≡ deskBy (deskIn s) v
+  -- by the desk that handles what is given; a refusal is by the desk that the numbers say
+  next-by : (desk : Desk) (v : Verdict) → Fits desk live run v → ((why : Refusal) → v ≡ refused why → desk ≡ deskIn s)
+      → deskIn (laid (toldTaken (takenBy desk live run v) .numbers) s) ≡ deskBy desk v
   unfolding toldTaken toldSaid laid
-  next-by (refused why) f h = refl
-  next-by (defines book bytes) (new-areas r w) h = reads-back (deskBy (deskIn s) (defines book bytes)) bytes run s (h (r .state))
-  next-by (continues book message) (same-run r e) h = reads-back (deskBy (deskIn s) (continues book message)) live run s (h (r .state))
-  next-by (opens tag message) (new-run r t) h = reads-back (deskBy (deskIn s) (opens tag message)) live (copied (deskIn s .book) live run) s (h (r .state))
-
-  next : deskIn (laid (toldTaken (takenBy (deskIn s) live run (verdictOn held given)) .numbers) s) ≡ deskBy (deskIn s) (verdictOn held given)
-  next = next-by (verdictOn held given) (fits-on held given) (stays-sound held given)
+  next-by desk (refused why) f q = sym (q why refl)
+  next-by desk (defines book bytes) (new-areas r w) q =
+      reads-back (deskBy desk (defines book bytes)) bytes run s (sound-by (held desk) (r .state) (defines book bytes) (new-areas r w))
+  next-by desk (continues book message) (same-run r e) q =
+      reads-back (deskBy desk (continues book message)) live run s (sound-by (held desk) (r .state) (continues book message) (same-run r e))
+  next-by desk (opens tag message) (new-run r t) q =
+      reads-back (deskBy desk (opens tag message)) live (copied (desk .book) live run) s (sound-by (held desk) (r .state) (opens tag message) (new-run r t))
 
 -- The next call reads the desk that `desk::take` answered, refused frames included: step by step, calls in a row are calls of `desk` in a row.
-pub next-desk : (frame desk live run log : List ℕ) → deskIn (laid (toldTaken (takeOf frame desk live run log) .numbers) desk) ≡ takeOf frame desk live run log .desk
+pub next-desk : (frame : List ℕ) (second : ℕ) (desk live run log : List ℕ)
+    → deskIn (laid (toldTaken (takeOf frame second desk live run log) .numbers) desk) ≡ takeOf frame second desk live run log .desk
 unfolding takeOf frameTaken
-next-desk frame desk live run log = next desk live run (frameWith frame log)
+next-desk frame second desk live run log =
+    let given : Given = frameWith frame second log in
+    let start : Held = held desk live run (deskIn desk) in
+    next-by desk live run (handled start given .desk) (verdictOn start given) (fits-on start given) (λ why e. ap (leaving (deskIn desk) second) e)
 
 -- and the one that `desk::take_book` answered
 pub next-desk-book : (desk live run book bytes : List ℕ) → deskIn (laid (toldTaken (takeBookOf desk live run book bytes) .numbers) desk) ≡ takeBookOf desk live run book bytes .desk
 unfolding takeBookOf bookTaken
-next-desk-book desk live run book bytes = next desk live run (keptBook (bookIn book) bytes)
+next-desk-book desk live run book bytes =
+    let given : Given = keptBook (bookIn book) bytes in
+    let start : Held = held desk live run (deskIn desk) in
+    next-by desk live run (deskIn desk) (verdictOn start given) (fits-on start given) (λ why e. refl)

@@ -104,33 +104,41 @@ fn tell_log(said: Said, written: &mut [u64])
     }
 }
 
-fn take(frame: &[u8], desk: &[u64], live: &mut [u8], run: &mut [u8], log: &mut [u8]) -> Taken
+fn take(
+    frame: &[u8],
+    second: u64,
+    desk: &[u64],
+    live: &mut [u8],
+    run: &mut [u8],
+    log: &mut [u8],
+) -> Taken
     requires { ⌜ deskRoom ≤ length (now desk) ⌝ }
-    ensures { λ r. ⌜ r ≡ takeOf (now (frame .entry)) (now (desk .entry)) (now (live .entry)) (now (run .entry)) (now (log .entry)) ⌝ }
-    ensures { λ _. ⌜ now (live .exit) ≡ takeLive (now (frame .entry)) (now (desk .entry)) (now (live .entry)) (now (run .entry)) (now (log .entry)) ⌝ }
-    ensures { λ _. ⌜ now (run .exit) ≡ takeRun (now (frame .entry)) (now (desk .entry)) (now (live .entry)) (now (run .entry)) (now (log .entry)) ⌝ }
-    ensures { λ _. ⌜ now (log .exit) ≡ takeLog (now (frame .entry)) (now (desk .entry)) (now (live .entry)) (now (run .entry)) (now (log .entry)) ⌝ }
+    ensures { λ r. ⌜ r ≡ takeOf (now (frame .entry)) second (now (desk .entry)) (now (live .entry)) (now (run .entry)) (now (log .entry)) ⌝ }
+    ensures { λ _. ⌜ now (live .exit) ≡ takeLive (now (frame .entry)) second (now (desk .entry)) (now (live .entry)) (now (run .entry)) (now (log .entry)) ⌝ }
+    ensures { λ _. ⌜ now (run .exit) ≡ takeRun (now (frame .entry)) second (now (desk .entry)) (now (live .entry)) (now (run .entry)) (now (log .entry)) ⌝ }
+    ensures { λ _. ⌜ now (log .exit) ≡ takeLog (now (frame .entry)) second (now (desk .entry)) (now (live .entry)) (now (run .entry)) (now (log .entry)) ⌝ }
 {
     let held = desk_in(desk);
-    desk::take(held, frame, live, run, log)
+    desk::take(held, frame, second, live, run, log)
 }
 
-// A frame taken.
+// A frame taken, with the second it came in.
 #[no_mangle]
 pub extern "C" fn homralgyu_desk_take(
     frame: &[u8],
+    second: u64,
     desk: &mut [u64],
     live: &mut [u8],
     run: &mut [u8],
     log: &mut [u8],
     written: &mut [u64],
 ) -> u8
-    ensures { λ r. ⌜ r ≡ bothRooms deskRoom (now (desk .entry)) 1 (now (written .entry)) room (toldTaken (takeOf (now (frame .entry)) (now (desk .entry)) (now (live .entry)) (now (run .entry)) (now (log .entry))) .number) ⌝ }
-    ensures { λ _. ⌜ now (desk .exit) ≡ bothRooms deskRoom (now (desk .entry)) 1 (now (written .entry)) (now (desk .entry)) (laid (toldTaken (takeOf (now (frame .entry)) (now (desk .entry)) (now (live .entry)) (now (run .entry)) (now (log .entry))) .numbers) (now (desk .entry))) ⌝ }
-    ensures { λ _. ⌜ now (live .exit) ≡ bothRooms deskRoom (now (desk .entry)) 1 (now (written .entry)) (now (live .entry)) (takeLive (now (frame .entry)) (now (desk .entry)) (now (live .entry)) (now (run .entry)) (now (log .entry))) ⌝ }
-    ensures { λ _. ⌜ now (run .exit) ≡ bothRooms deskRoom (now (desk .entry)) 1 (now (written .entry)) (now (run .entry)) (takeRun (now (frame .entry)) (now (desk .entry)) (now (live .entry)) (now (run .entry)) (now (log .entry))) ⌝ }
-    ensures { λ _. ⌜ now (log .exit) ≡ bothRooms deskRoom (now (desk .entry)) 1 (now (written .entry)) (now (log .entry)) (takeLog (now (frame .entry)) (now (desk .entry)) (now (live .entry)) (now (run .entry)) (now (log .entry))) ⌝ }
-    ensures { λ _. ⌜ now (written .exit) ≡ bothRooms deskRoom (now (desk .entry)) 1 (now (written .entry)) (now (written .entry)) (laid (logTold (takeOf (now (frame .entry)) (now (desk .entry)) (now (live .entry)) (now (run .entry)) (now (log .entry)) .said)) (now (written .entry))) ⌝ }
+    ensures { λ r. ⌜ r ≡ bothRooms deskRoom (now (desk .entry)) 1 (now (written .entry)) room (toldTaken (takeOf (now (frame .entry)) second (now (desk .entry)) (now (live .entry)) (now (run .entry)) (now (log .entry))) .number) ⌝ }
+    ensures { λ _. ⌜ now (desk .exit) ≡ bothRooms deskRoom (now (desk .entry)) 1 (now (written .entry)) (now (desk .entry)) (laid (toldTaken (takeOf (now (frame .entry)) second (now (desk .entry)) (now (live .entry)) (now (run .entry)) (now (log .entry))) .numbers) (now (desk .entry))) ⌝ }
+    ensures { λ _. ⌜ now (live .exit) ≡ bothRooms deskRoom (now (desk .entry)) 1 (now (written .entry)) (now (live .entry)) (takeLive (now (frame .entry)) second (now (desk .entry)) (now (live .entry)) (now (run .entry)) (now (log .entry))) ⌝ }
+    ensures { λ _. ⌜ now (run .exit) ≡ bothRooms deskRoom (now (desk .entry)) 1 (now (written .entry)) (now (run .entry)) (takeRun (now (frame .entry)) second (now (desk .entry)) (now (live .entry)) (now (run .entry)) (now (log .entry))) ⌝ }
+    ensures { λ _. ⌜ now (log .exit) ≡ bothRooms deskRoom (now (desk .entry)) 1 (now (written .entry)) (now (log .entry)) (takeLog (now (frame .entry)) second (now (desk .entry)) (now (live .entry)) (now (run .entry)) (now (log .entry))) ⌝ }
+    ensures { λ _. ⌜ now (written .exit) ≡ bothRooms deskRoom (now (desk .entry)) 1 (now (written .entry)) (now (written .entry)) (laid (logTold (takeOf (now (frame .entry)) second (now (desk .entry)) (now (live .entry)) (now (run .entry)) (now (log .entry)) .said)) (now (written .entry))) ⌝ }
 {
     if desk.len() < DESK {
         return ROOM;
@@ -138,7 +146,7 @@ pub extern "C" fn homralgyu_desk_take(
     if written.len() < 1 {
         return ROOM;
     }
-    let answer = take(frame, desk, live, run, log);
+    let answer = take(frame, second, desk, live, run, log);
     let said = answer.said;
     tell_log(said, written);
     tell_taken(answer, desk)

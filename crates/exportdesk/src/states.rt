@@ -1,10 +1,11 @@
-// A desk as nine numbers.
+// A desk as eleven numbers.
 ghost use mathlib.Core.Path.{_≡_};
 ghost use Rattle.export.specs.Numbers.{stored, atMost};
-ghost use Rattle.exportdesk.specs.States.{constellationIn, solutionIn, runIn, deskIn, isOpen, tagOf, runBook, deskOf};
+ghost use Rattle.exportdesk.specs.States.{constellationIn, solutionIn, runIn, lastIn, deskIn, isOpen, tagOf, runBook, isDated, secondOf, deskOf};
 use book::Book;
 use codes::Constellation;
 use desk::Desk;
+use desk::Last;
 use desk::Run;
 use export::books::aiou_of;
 use export::books::book_in;
@@ -15,7 +16,7 @@ use export::numbers::wide;
 use message::Subtype;
 
 // The numbers of a desk.
-pub const DESK: usize = 9;
+pub const DESK: usize = 11;
 
 // 128 is no solution, 16 no processor.
 const NO_SOLUTION: u8 = 128;
@@ -41,14 +42,17 @@ fn constellation_in(x: u64) -> Constellation
     }
 }
 
-// The solution, if constellation and flag are in range.
-fn solution_in(solution: u64, constellation: u64, flag: u64) -> u8
-    ensures { λ r. ⌜ r ≡ solutionIn solution constellation flag ⌝ }
+// The solution, if constellation and both flags are in range.
+fn solution_in(solution: u64, constellation: u64, open: u64, dated: u64) -> u8
+    ensures { λ r. ⌜ r ≡ solutionIn solution constellation open dated ⌝ }
 {
     if 4 < constellation {
         return NO_SOLUTION;
     }
-    if 1 < flag {
+    if 1 < open {
+        return NO_SOLUTION;
+    }
+    if 1 < dated {
         return NO_SOLUTION;
     }
     at_most(NO_SOLUTION, solution)
@@ -67,17 +71,27 @@ fn run_in(flag: u64, tag: u64, aiou: u64, areas: u64) -> Run
     }
 }
 
-// The desk that nine numbers say.
+fn last_in(dated: u64, second: u64) -> Last
+    ensures { λ r. ⌜ r ≡ lastIn dated second ⌝ }
+{
+    if dated == 0 {
+        return Last::Never;
+    }
+    Last::At(second)
+}
+
+// The desk that eleven numbers say.
 pub fn desk_in(desk: &[u64]) -> Desk
     ensures { λ r. ⌜ r ≡ deskIn (now (desk .entry)) ⌝ }
 {
     let numbers = [at(desk, 3), at(desk, 4)];
     Desk {
-        solution: solution_in(at(desk, 0), at(desk, 2), at(desk, 5)),
+        solution: solution_in(at(desk, 0), at(desk, 2), at(desk, 5), at(desk, 9)),
         processor: at_most(NO_PROCESSOR, at(desk, 1)),
         constellation: constellation_in(at(desk, 2)),
         book: book_in(&numbers),
         run: run_in(at(desk, 5), at(desk, 6), at(desk, 7), at(desk, 8)),
+        last: last_in(at(desk, 9), at(desk, 10)),
     }
 }
 
@@ -108,12 +122,31 @@ fn run_book(run: Run) -> Book
     }
 }
 
+fn is_dated(last: Last) -> u64
+    ensures { λ r. ⌜ r ≡ isDated last ⌝ }
+{
+    match last {
+        Last::Never => 0,
+        Last::At(_) => 1,
+    }
+}
+
+fn second_of(last: Last) -> u64
+    ensures { λ r. ⌜ r ≡ secondOf last ⌝ }
+{
+    match last {
+        Last::Never => 0,
+        Last::At(second) => second,
+    }
+}
+
 // The numbers of a desk into the places from the start on.
 pub fn put_desk(held: Desk, desk: &mut [u64])
     ensures { λ _. ⌜ now (desk .exit) ≡ stored (deskOf held) (now (desk .entry)) ⌝ }
 {
     let book = held.book;
     let run = held.run;
+    let last = held.last;
     let open = run_book(run);
     let constellation = held.constellation;
     let numbers = [
@@ -126,6 +159,8 @@ pub fn put_desk(held: Desk, desk: &mut [u64])
         tag_of(run),
         aiou_of(open.aiou_plus_one),
         count(open.count),
+        is_dated(last),
+        second_of(last),
     ];
     put(&numbers, desk);
 }

@@ -110,15 +110,16 @@ finish-lies bytes tray = said-lies bytes tray (stream.finished bytes tray) (fini
 -- ---- what the stream's step moves is what is answered
 
 moved-is : (handed : Handed) (o : stream.Outcome) → Settled o
-    → moved (handed .books) (stream.answerOf (handed .tray) o) (stream.answerOf (handed .tray) o .said) (stream.bytesOf (handed .bytes) o) (handed .log)
+    → moved (handed .books) (handed .second) (stream.answerOf (handed .tray) o) (stream.answerOf (handed .tray) o .said) (stream.bytesOf (handed .bytes) o) (handed .log)
     ≡ resultOf handed o
 moved-is handed (stream.refused r) g = refl
 moved-is handed (stream.told (frame f b) c n) g =
     let books = handed .books in
+    let second = handed .second in
     let q : frame f (take (f .length) (stream.laid (handed .bytes) (c .held))) ≡ frame f b = sym (itself (handed .bytes) (handed .tray) (frame f b) c n g) in
     ap (λ e. results
-    (record { said = prepare.saidOf (toldOf books e); used = n; log = length (entriesOf (toldOf books e)); tray = stream.trayOf c; desk = booksAfter books e .desk })
-    (stream.laid (handed .bytes) (c .held)) (booksAfter books e .live) (booksAfter books e .run) (written (entriesOf (toldOf books e)) (handed .log))) q
+    (record { said = prepare.saidOf (toldOf books second e); used = n; log = length (entriesOf (toldOf books second e)); tray = stream.trayOf c; desk = booksAfter books second e .desk })
+    (stream.laid (handed .bytes) (c .held)) (booksAfter books second e .live) (booksAfter books second e .run) (written (entriesOf (toldOf books second e)) (handed .log))) q
 moved-is handed (stream.told (noise k) c n) g = refl
 moved-is handed (stream.hungry c n) g = refl
 moved-is handed (stream.done c) g = refl
@@ -180,9 +181,9 @@ module _ (bytes : List ℕ) (d : Desk) (live run log : List ℕ) (e : testedOf b
 
 -- ---- the answer and every lent byte, of a step that ROOM and STATE guard
 
-module _ (bytes : List ℕ) (tray : Tray) (d : Desk) (live run log : List ℕ) (o : stream.Outcome) where
+module _ (bytes : List ℕ) (tray : Tray) (d : Desk) (live run log : List ℕ) (second : ℕ) (o : stream.Outcome) where
   abbrev handed : Handed
-  handed = hands bytes tray d live run log
+  handed = hands bytes tray d live run log second
 
   left-failed : (r : Answer) (why : Refusal) → r ≡ record { said = said.Refused why; used = 0; log = 0; tray = tray; desk = d }
       → (x : Tested) → x ≡ test.Failed why → x ≡ testedOf bytes (booksIn d live run) log
@@ -216,56 +217,56 @@ module _ (bytes : List ℕ) (tray : Tray) (d : Desk) (live run log : List ℕ) (
 
   left-heard : Steps bytes tray o
       → (r : Answer) (bytes′ live′ run′ log′ : List ℕ) (heard : stream-answer.Answer)
-      → results r bytes′ live′ run′ log′ ≡ moved (booksIn d live run) heard (heard .said) bytes′ log
+      → results r bytes′ live′ run′ log′ ≡ moved (booksIn d live run) second heard (heard .said) bytes′ log
       → heard ≡ stream.answerOf tray o → bytes′ ≡ stream.bytesOf bytes o
       → results r bytes′ live′ run′ log′ ≡ resultOf handed o
   left-heard w r bytes′ live′ run′ log′ heard m a y =
-      m ∙ ap₂ (λ h b. moved (booksIn d live run) h (h .said) b log) a y ∙ moved-is handed o (w .is-settled)
+      m ∙ ap₂ (λ h b. moved (booksIn d live run) second h (h .said) b log) a y ∙ moved-is handed o (w .is-settled)
 
 -- `call` ..
 
-module _ (bytes : List ℕ) (tray : Tray) (d : Desk) (live run log input : List ℕ) where
+module _ (bytes : List ℕ) (tray : Tray) (d : Desk) (live run log input : List ℕ) (second : ℕ) where
   pub call-failed : (r : Answer) (why : Refusal) → r ≡ record { said = said.Refused why; used = 0; log = 0; tray = tray; desk = d }
       → (x : Tested) → x ≡ test.Failed why → x ≡ testedOf bytes (booksIn d live run) log
-      → results r bytes live run log ≡ byCall (hands bytes tray d live run log) input
+      → results r bytes live run log ≡ byCall (hands bytes tray d live run log second) input
   unfolding callOutcome
-  call-failed = left-failed bytes tray d live run log (stream.called bytes tray input)
+  call-failed = left-failed bytes tray d live run log second (stream.called bytes tray input)
 
   pub call-passed : (r : Answer) (bytes′ live′ run′ log′ : List ℕ)
       → results r bytes′ live′ run′ log′
-      ≡ resultOf (hands bytes tray d live run log) (stream.called bytes tray input)
+      ≡ resultOf (hands bytes tray d live run log second) (stream.called bytes tray input)
       → (x : Tested) → x ≡ test.Passed → x ≡ testedOf bytes (booksIn d live run) log
-      → results r bytes′ live′ run′ log′ ≡ byCall (hands bytes tray d live run log) input
+      → results r bytes′ live′ run′ log′ ≡ byCall (hands bytes tray d live run log second) input
   unfolding callOutcome
-  call-passed = left-passed bytes tray d live run log (stream.called bytes tray input) (call-steps bytes tray input)
+  call-passed = left-passed bytes tray d live run log second (stream.called bytes tray input) (call-steps bytes tray input)
 
   pub call-heard : (r : Answer) (bytes′ live′ run′ log′ : List ℕ) (heard : stream-answer.Answer)
-      → results r bytes′ live′ run′ log′ ≡ moved (booksIn d live run) heard (heard .said) bytes′ log
+      → results r bytes′ live′ run′ log′ ≡ moved (booksIn d live run) second heard (heard .said) bytes′ log
       → heard ≡ stream.callAnswer bytes tray input → bytes′ ≡ stream.callBytes bytes tray input
       → results r bytes′ live′ run′ log′
-      ≡ resultOf (hands bytes tray d live run log) (stream.called bytes tray input)
-  call-heard = left-heard bytes tray d live run log (stream.called bytes tray input) (call-steps bytes tray input)
+      ≡ resultOf (hands bytes tray d live run log second) (stream.called bytes tray input)
+  call-heard = left-heard bytes tray d live run log second (stream.called bytes tray input) (call-steps bytes tray input)
 
 -- .. and `finish`
 
-module _ (bytes : List ℕ) (tray : Tray) (d : Desk) (live run log : List ℕ) where
+module _ (bytes : List ℕ) (tray : Tray) (d : Desk) (live run log : List ℕ) (second : ℕ) where
   pub finish-failed : (r : Answer) (why : Refusal) → r ≡ record { said = said.Refused why; used = 0; log = 0; tray = tray; desk = d }
       → (x : Tested) → x ≡ test.Failed why → x ≡ testedOf bytes (booksIn d live run) log
-      → results r bytes live run log ≡ byFinish (hands bytes tray d live run log)
+      → results r bytes live run log ≡ byFinish (hands bytes tray d live run log second)
   unfolding finishOutcome
-  finish-failed = left-failed bytes tray d live run log (stream.finished bytes tray)
+  finish-failed = left-failed bytes tray d live run log second (stream.finished bytes tray)
 
   pub finish-passed : (r : Answer) (bytes′ live′ run′ log′ : List ℕ)
       → results r bytes′ live′ run′ log′
-      ≡ resultOf (hands bytes tray d live run log) (stream.finished bytes tray)
+      ≡ resultOf (hands bytes tray d live run log second) (stream.finished bytes tray)
       → (x : Tested) → x ≡ test.Passed → x ≡ testedOf bytes (booksIn d live run) log
-      → results r bytes′ live′ run′ log′ ≡ byFinish (hands bytes tray d live run log)
+      → results r bytes′ live′ run′ log′ ≡ byFinish (hands bytes tray d live run log second)
   unfolding finishOutcome
-  finish-passed = left-passed bytes tray d live run log (stream.finished bytes tray) (finish-steps bytes tray)
+  finish-passed = left-passed bytes tray d live run log second (stream.finished bytes tray) (finish-steps bytes tray)
 
   pub finish-heard : (r : Answer) (bytes′ live′ run′ log′ : List ℕ) (heard : stream-answer.Answer)
-      → results r bytes′ live′ run′ log′ ≡ moved (booksIn d live run) heard (heard .said) bytes′ log
+      → results r bytes′ live′ run′ log′ ≡ moved (booksIn d live run) second heard (heard .said) bytes′ log
       → heard ≡ stream.finishAnswer bytes tray → bytes′ ≡ stream.finishBytes bytes tray
       → results r bytes′ live′ run′ log′
-      ≡ resultOf (hands bytes tray d live run log) (stream.finished bytes tray)
-  finish-heard = left-heard bytes tray d live run log (stream.finished bytes tray) (finish-steps bytes tray)
+      ≡ resultOf (hands bytes tray d live run log second) (stream.finished bytes tray)
+  finish-heard = left-heard bytes tray d live run log second (stream.finished bytes tray) (finish-steps bytes tray)

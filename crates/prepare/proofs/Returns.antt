@@ -22,7 +22,7 @@ use Rattle.desk.specs.declared.Taken.{Taken}
 use Rattle.desk.specs.declared.Said.the-variants as says
 use Rattle.desk.specs.Desk.{deskSound}
 use Rattle.desk.specs.Take as desk
-use Rattle.desk.specs.History.{heldBy}
+use Rattle.desk.specs.History.{Held, handledAt, heldBy}
 use Rattle.prepare.specs.declared.Answer.{Answer}
 use Rattle.prepare.specs.declared.Said.{Said}
 use Rattle.prepare.specs.declared.Said.the-variants as said
@@ -103,23 +103,26 @@ frame-there f bytes e =
     let h : f .length ≤ length (take (f .length) bytes) = accepted-length (take (f .length) bytes) f e .1 in
     sym (length-take-le (f .length) bytes (omega (arith, length-take (f .length) bytes)))
 
-module _ (d : Desk) (live run log : List ℕ) (heard : stream-answer.Answer) (f : Frame) (b : List ℕ) where
-  abbrev told : desk.Verdict → Told
-  told v = toldBy (booksIn d live run) f b v
+module _ (d : Desk) (second : ℕ) (live run log : List ℕ) (heard : stream-answer.Answer) (f : Frame) (b : List ℕ) where
+  abbrev by : desk.Verdict → Held
+  by v = handledAt (booksIn d live run) second v
 
-  answer-by : (v : desk.Verdict) → taken heard f (desk.takenBy d live run v) ≡ record {
+  abbrev told : desk.Verdict → Told
+  told v = toldBy (by v) f b v
+
+  answer-by : (v : desk.Verdict) → taken heard f (desk.takenBy (by v .desk) live run v) ≡ record {
     said = saidOf (told v);
     used = heard .used;
     log = length (entriesOf (told v));
     tray = heard .tray;
-    desk = heldBy (booksIn d live run) v .desk;
+    desk = heldBy (by v) v .desk;
   }
   answer-by (desk.refused why) = refl
   answer-by (desk.defines book bytes) = refl
   answer-by (desk.continues book message) = refl
   answer-by (desk.opens tag message) = refl
 
-  log-by : (v : desk.Verdict) → desk.logBy d live run log v ≡ written (entriesOf (told v)) log
+  log-by : (v : desk.Verdict) → desk.logBy (by v .desk) live run log v ≡ written (entriesOf (told v)) log
   unfolding desk.loggedBy groupsOfAll
   log-by (desk.refused why) = refl
   log-by (desk.defines book bytes) = refl
@@ -127,26 +130,28 @@ module _ (d : Desk) (live run log : List ℕ) (heard : stream-answer.Answer) (f 
   log-by (desk.opens tag message) = refl
 
 -- what the desk leaves is what is moved
-pub gives : (d : Desk) (live run log bytes : List ℕ) (heard : stream-answer.Answer) (f : Frame) (r : Answer) (t : Taken) (live′ run′ log′ : List ℕ)
+pub gives : (d : Desk) (second : ℕ) (live run log bytes : List ℕ) (heard : stream-answer.Answer) (f : Frame) (r : Answer) (t : Taken) (live′ run′ log′ : List ℕ)
     → r ≡ taken heard f t
     → (p : List ℕ) → p ≡ payloadIn f (take (f .length) bytes)
-    → desk.results t live′ run′ log′ ≡ desk.resultBy d live run log (desk.byHeader d live f p)
+    → desk.results t live′ run′ log′ ≡ desk.settledBy d second live run log (desk.byHeader (desk.handling d second) live f p)
     → checked (take (f .length) bytes) ≡ Accepted f
-    → results r bytes live′ run′ log′ ≡ moved (booksIn d live run) heard (hears.Frame f) bytes log
+    → results r bytes live′ run′ log′ ≡ moved (booksIn d live run) second heard (hears.Frame f) bytes log
 unfolding verdictOn
-gives d live run log bytes heard f r t live′ run′ log′ k p q l e =
+gives d second live run log bytes heard f r t live′ run′ log′ k p q l e =
     let b : List ℕ = take (f .length) bytes in
-    let v : desk.byHeader d live f p ≡ verdictOn (booksIn d live run) b = ap (desk.byHeader d live f) q ∙ ap (λ c. desk.byFrame d live c b) (sym e) in
+    let now : desk.Verdict = verdictOn (booksIn d live run) second b in
+    let v : desk.byHeader (desk.handling d second) live f p ≡ now
+    = ap (desk.byHeader (desk.handling d second) live f) q ∙ ap (λ c. desk.byFrame (desk.handling d second) live c b) (sym e) in
     ap (λ r. results r bytes live′ run′ log′) k
-    ∙ ap (λ left. results (taken heard f (left .answer)) bytes (left .live) (left .run) (left .log)) (l ∙ ap (desk.resultBy d live run log) v)
-    ∙ ap₂ (λ x y. results x bytes (desk.liveBy live (verdictOn (booksIn d live run) b)) (desk.runBytesBy d live run (verdictOn (booksIn d live run) b)) y)
-    (answer-by d live run log heard f b (verdictOn (booksIn d live run) b)) (log-by d live run log heard f b (verdictOn (booksIn d live run) b))
+    ∙ ap (λ left. results (taken heard f (left .answer)) bytes (left .live) (left .run) (left .log)) (l ∙ ap (desk.settledBy d second live run log) v)
+    ∙ ap₂ (λ x y. results x bytes (desk.liveBy live now) (desk.runBytesBy (desk.leaving d second now) live run now) y)
+    (answer-by d second live run log heard f b now) (log-by d second live run log heard f b now)
 
 -- ---- step
 
-module _ (d : Desk) (live run log bytes : List ℕ) (heard : stream-answer.Answer) (r : Answer) where
+module _ (d : Desk) (second : ℕ) (live run log bytes : List ℕ) (heard : stream-answer.Answer) (r : Answer) where
   abbrev moved-by : stream-said.Said → Result
-  moved-by s = moved (booksIn d live run) heard s bytes log
+  moved-by s = moved (booksIn d live run) second heard s bytes log
 
   pub step-frame : (f : Frame) (live′ run′ log′ : List ℕ)
       → results r bytes live′ run′ log′ ≡ moved-by (hears.Frame f)

@@ -15,14 +15,14 @@ pub number-determined : (said : Said) (r₁ r₂ : ℕ)
     → r₁ ≡ r₂
 number-determined said r₁ r₂ e0₁ e0₂ = e0₁ ∙ sym e0₂
 
-pub call-determined : (bytes : List ℕ) (tray : Tray) (desk : Desk) (live run log input : List ℕ) (r₁ r₂ : Answer) (bytes₁ bytes₂ : List ℕ) (live₁ live₂ : List ℕ) (run₁ run₂ : List ℕ) (log₁ log₂ : List ℕ)
-    → results r₁ bytes₁ live₁ run₁ log₁ ≡ byCall (hands bytes tray desk live run log) input
-    → results r₂ bytes₂ live₂ run₂ log₂ ≡ byCall (hands bytes tray desk live run log) input
+pub call-determined : (bytes : List ℕ) (tray : Tray) (desk : Desk) (live run log input : List ℕ) (second : ℕ) (r₁ r₂ : Answer) (bytes₁ bytes₂ : List ℕ) (live₁ live₂ : List ℕ) (run₁ run₂ : List ℕ) (log₁ log₂ : List ℕ)
+    → results r₁ bytes₁ live₁ run₁ log₁ ≡ byCall (hands bytes tray desk live run log second) input
+    → results r₂ bytes₂ live₂ run₂ log₂ ≡ byCall (hands bytes tray desk live run log second) input
     → (r₁ ≡ r₂) × (bytes₁ ≡ bytes₂) × (live₁ ≡ live₂) × (run₁ ≡ run₂) × (log₁ ≡ log₂)
-call-determined bytes tray desk live run log input r₁ r₂ bytes₁ bytes₂ live₁ live₂ run₁ run₂ log₁ log₂ e0₁ e0₂ = (ap (λ x. x .answer) (e0₁ ∙ sym e0₂), ap (λ x. x .bytes) (e0₁ ∙ sym e0₂), ap (λ x. x .live) (e0₁ ∙ sym e0₂), ap (λ x. x .run) (e0₁ ∙ sym e0₂), ap (λ x. x .log) (e0₁ ∙ sym e0₂))
+call-determined bytes tray desk live run log input second r₁ r₂ bytes₁ bytes₂ live₁ live₂ run₁ run₂ log₁ log₂ e0₁ e0₂ = (ap (λ x. x .answer) (e0₁ ∙ sym e0₂), ap (λ x. x .bytes) (e0₁ ∙ sym e0₂), ap (λ x. x .live) (e0₁ ∙ sym e0₂), ap (λ x. x .run) (e0₁ ∙ sym e0₂), ap (λ x. x .log) (e0₁ ∙ sym e0₂))
 
-pub finish-determined : (bytes : List ℕ) (tray : Tray) (desk : Desk) (live run log : List ℕ) (r₁ r₂ : Answer) (bytes₁ bytes₂ : List ℕ) (live₁ live₂ : List ℕ) (run₁ run₂ : List ℕ) (log₁ log₂ : List ℕ)
-    → results r₁ bytes₁ live₁ run₁ log₁ ≡ byFinish (hands bytes tray desk live run log)
-    → results r₂ bytes₂ live₂ run₂ log₂ ≡ byFinish (hands bytes tray desk live run log)
+pub finish-determined : (bytes : List ℕ) (tray : Tray) (desk : Desk) (live run log : List ℕ) (second : ℕ) (r₁ r₂ : Answer) (bytes₁ bytes₂ : List ℕ) (live₁ live₂ : List ℕ) (run₁ run₂ : List ℕ) (log₁ log₂ : List ℕ)
+    → results r₁ bytes₁ live₁ run₁ log₁ ≡ byFinish (hands bytes tray desk live run log second)
+    → results r₂ bytes₂ live₂ run₂ log₂ ≡ byFinish (hands bytes tray desk live run log second)
     → (r₁ ≡ r₂) × (bytes₁ ≡ bytes₂) × (live₁ ≡ live₂) × (run₁ ≡ run₂) × (log₁ ≡ log₂)
-finish-determined bytes tray desk live run log r₁ r₂ bytes₁ bytes₂ live₁ live₂ run₁ run₂ log₁ log₂ e0₁ e0₂ = (ap (λ x. x .answer) (e0₁ ∙ sym e0₂), ap (λ x. x .bytes) (e0₁ ∙ sym e0₂), ap (λ x. x .live) (e0₁ ∙ sym e0₂), ap (λ x. x .run) (e0₁ ∙ sym e0₂), ap (λ x. x .log) (e0₁ ∙ sym e0₂))
+finish-determined bytes tray desk live run log second r₁ r₂ bytes₁ bytes₂ live₁ live₂ run₁ run₂ log₁ log₂ e0₁ e0₂ = (ap (λ x. x .answer) (e0₁ ∙ sym e0₂), ap (λ x. x .bytes) (e0₁ ∙ sym e0₂), ap (λ x. x .live) (e0₁ ∙ sym e0₂), ap (λ x. x .run) (e0₁ ∙ sym e0₂), ap (λ x. x .log) (e0₁ ∙ sym e0₂))

@@ -1,5 +1,5 @@
--- Definitions to believe: the calls of Driver.antt, with the one who lends their logs: what a call is lent may depend on all that was told before it, on the state,
--- and on what the last call left of its log. So one log may be lent again and again.
+-- Definitions to believe: the calls of Driver.antt, with the one who lends their logs and says the second: both may depend on all that was told before the call, on the state,
+-- and on what the last call left of its log. So one log may be lent again and again, and any clock may give the seconds.
 use mathlib.Core.Path.{_≡_}
 use mathlib.Core.List.{List, [], _∷_, _++_}
 use Prim.Native.Nat.{ℕ, _≤_}
@@ -10,7 +10,7 @@ use Rattle.desk.specs.History.{Held}
 use Rattle.prepare.specs.declared.Said.the-variants as said
 use Rattle.prepare.specs.declared.Answer.{Answer}
 use Rattle.prepare.specs.Uncut.{Told}
-use Rattle.prepare.specs.Driver.{State, callSays, callLeaves, callLogs, finishSays, finishLeaves, finishLogs, Tells, start}
+use Rattle.prepare.specs.Driver.{State, Lent, callSays, callLeaves, callLogs, finishSays, finishLeaves, finishLogs, Tells, start}
 
 -- between two calls: all that was told so far, the state, and the log as the last call left it
 pub record Point : Type 0 where
@@ -21,17 +21,17 @@ pub record Point : Type 0 where
 abbrev pub point : (before : List Told) → State → (left : List ℕ) → Point
 point before state left = record { before = before; state = state; left = left }
 
--- what the next call is lent
+-- what the next call is lent, and its second
 abbrev pub Lender : Type 0
-Lender = Point → List ℕ
+Lender = Point → Lent
 
--- one log, lent again and again
-abbrev pub oneLog : Lender
-oneLog x = x .left
+-- one log, lent again and again, and a clock
+abbrev pub oneLog : (clock : Point → ℕ) → Lender
+oneLog clock x = record { log = x .left; second = clock x }
 
 -- where the last call left room, there is room in what is lent next
 abbrev pub LendsRoom : Lender → Type 0
-LendsRoom lends = (x : Point) → logRoom ≤ length (x .left) → logRoom ≤ length (lends x)
+LendsRoom lends = (x : Point) → logRoom ≤ length (x .left) → logRoom ≤ length (lends x .log)
 
 -- ---- a call and finish, lent what the lender lends
 

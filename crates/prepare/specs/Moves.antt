@@ -55,40 +55,40 @@ untaken heard said desk = record { said = said; used = heard .used; log = 0; tra
 abbrev pub lying : Frame → (bytes : List ℕ) → Event
 lying header bytes = frame header (take (header .length) bytes)
 
-abbrev pub framed : Held → stream-answer.Answer → Frame → (bytes : List ℕ) → Answer
-framed books heard header bytes = record {
-  said = saidOf (toldOf books (lying header bytes));
+abbrev pub framed : Held → (second : ℕ) → stream-answer.Answer → Frame → (bytes : List ℕ) → Answer
+framed books second heard header bytes = record {
+  said = saidOf (toldOf books second (lying header bytes));
   used = heard .used;
-  log = length (entriesOf (toldOf books (lying header bytes)));
+  log = length (entriesOf (toldOf books second (lying header bytes)));
   tray = heard .tray;
-  desk = booksAfter books (lying header bytes) .desk;
+  desk = booksAfter books second (lying header bytes) .desk;
 }
 
-abbrev pub movedAnswer : Held → stream-answer.Answer → stream-said.Said → (bytes : List ℕ) → Answer
-movedAnswer books heard (hears.Frame header) bytes = framed books heard header bytes
-movedAnswer books heard (hears.Noise count) bytes = untaken heard (said.Noise count) (books .desk)
-movedAnswer books heard hears.Hungry bytes = untaken heard said.Hungry (books .desk)
-movedAnswer books heard hears.Done bytes = untaken heard said.Done (books .desk)
-movedAnswer books heard (hears.Refused why) bytes = untaken heard (said.Refused why) (books .desk)
+abbrev pub movedAnswer : Held → (second : ℕ) → stream-answer.Answer → stream-said.Said → (bytes : List ℕ) → Answer
+movedAnswer books second heard (hears.Frame header) bytes = framed books second heard header bytes
+movedAnswer books second heard (hears.Noise count) bytes = untaken heard (said.Noise count) (books .desk)
+movedAnswer books second heard hears.Hungry bytes = untaken heard said.Hungry (books .desk)
+movedAnswer books second heard hears.Done bytes = untaken heard said.Done (books .desk)
+movedAnswer books second heard (hears.Refused why) bytes = untaken heard (said.Refused why) (books .desk)
 
-abbrev pub movedBooks : Held → stream-said.Said → (bytes : List ℕ) → Held
-movedBooks books (hears.Frame header) bytes = booksAfter books (lying header bytes)
-movedBooks books (hears.Noise count) bytes = books
-movedBooks books hears.Hungry bytes = books
-movedBooks books hears.Done bytes = books
-movedBooks books (hears.Refused why) bytes = books
+abbrev pub movedBooks : Held → (second : ℕ) → stream-said.Said → (bytes : List ℕ) → Held
+movedBooks books second (hears.Frame header) bytes = booksAfter books second (lying header bytes)
+movedBooks books second (hears.Noise count) bytes = books
+movedBooks books second hears.Hungry bytes = books
+movedBooks books second hears.Done bytes = books
+movedBooks books second (hears.Refused why) bytes = books
 
-abbrev pub movedLog : Held → stream-said.Said → (bytes log : List ℕ) → List ℕ
-movedLog books (hears.Frame header) bytes log = written (entriesOf (toldOf books (lying header bytes))) log
-movedLog books (hears.Noise count) bytes log = log
-movedLog books hears.Hungry bytes log = log
-movedLog books hears.Done bytes log = log
-movedLog books (hears.Refused why) bytes log = log
+abbrev pub movedLog : Held → (second : ℕ) → stream-said.Said → (bytes log : List ℕ) → List ℕ
+movedLog books second (hears.Frame header) bytes log = written (entriesOf (toldOf books second (lying header bytes))) log
+movedLog books second (hears.Noise count) bytes log = log
+movedLog books second hears.Hungry bytes log = log
+movedLog books second hears.Done bytes log = log
+movedLog books second (hears.Refused why) bytes log = log
 
 -- the answer and every lent byte are these
-abbrev pub moved : Held → stream-answer.Answer → stream-said.Said → (bytes log : List ℕ) → Result
-moved books heard s bytes log =
-    results (movedAnswer books heard s bytes) bytes (movedBooks books s bytes .live) (movedBooks books s bytes .run) (movedLog books s bytes log)
+abbrev pub moved : Held → (second : ℕ) → stream-answer.Answer → stream-said.Said → (bytes log : List ℕ) → Result
+moved books second heard s bytes log =
+    results (movedAnswer books second heard s bytes) bytes (movedBooks books second s bytes .live) (movedBooks books second s bytes .run) (movedLog books second s bytes log)
 
 -- a frame that is told was checked, and lies first
 abbrev pub Lies : stream-said.Said → (bytes : List ℕ) → Type 0

@@ -19,19 +19,20 @@ use Rattle.prepare.specs.declared.Said.the-variants as said
 use Rattle.prepare.specs.declared.Answer.{Answer}
 use Rattle.prepare.specs.Uncut as uncut
 
--- ---- what a call is given besides the input: the tray's bytes and the tray, a desk with its books, and a log
+-- ---- what a call is given besides the input: the tray's bytes and the tray, a desk with its books, a log, and the second, which counts for the frame that is told by the call
 
 pub record Handed : Type 0 where
   pub bytes : List ℕ
   pub tray : Tray
   pub books : Held
   pub log : List ℕ
+  pub second : ℕ
 
 abbrev pub booksIn : Desk → (live run : List ℕ) → Held
 booksIn desk live run = record { desk = desk; live = live; run = run }
 
-abbrev pub hands : (bytes : List ℕ) → Tray → Desk → (live run log : List ℕ) → Handed
-hands bytes tray desk live run log = record { bytes = bytes; tray = tray; books = booksIn desk live run; log = log }
+abbrev pub hands : (bytes : List ℕ) → Tray → Desk → (live run log : List ℕ) → (second : ℕ) → Handed
+hands bytes tray desk live run log second = record { bytes = bytes; tray = tray; books = booksIn desk live run; log = log; second = second }
 
 -- ---- ROOM of every lent buffer, then STATE of tray and desk, then the step (DECISIONS)
 
@@ -68,11 +69,11 @@ saidOf (uncut.noise count) = said.Noise count
 abbrev pub answerOf : Handed → Outcome → Answer
 answerOf handed (refused why) = record { said = said.Refused why; used = 0; log = 0; tray = handed .tray; desk = handed .books .desk }
 answerOf handed (told event contents used) = record {
-  said = saidOf (uncut.toldOf (handed .books) event);
+  said = saidOf (uncut.toldOf (handed .books) (handed .second) event);
   used = used;
-  log = length (uncut.entriesOf (uncut.toldOf (handed .books) event));
+  log = length (uncut.entriesOf (uncut.toldOf (handed .books) (handed .second) event));
   tray = trayOf contents;
-  desk = uncut.booksAfter (handed .books) event .desk;
+  desk = uncut.booksAfter (handed .books) (handed .second) event .desk;
 }
 answerOf handed (hungry contents used) = record { said = said.Hungry; used = used; log = 0; tray = trayOf contents; desk = handed .books .desk }
 answerOf handed (done contents) = record { said = said.Done; used = 0; log = 0; tray = trayOf contents; desk = handed .books .desk }
@@ -81,7 +82,7 @@ answerOf handed (done contents) = record { said = said.Done; used = 0; log = 0; 
 
 abbrev pub booksOf : Handed → Outcome → Held
 booksOf handed (refused why) = handed .books
-booksOf handed (told event contents used) = uncut.booksAfter (handed .books) event
+booksOf handed (told event contents used) = uncut.booksAfter (handed .books) (handed .second) event
 booksOf handed (hungry contents used) = handed .books
 booksOf handed (done contents) = handed .books
 
@@ -91,7 +92,7 @@ written entries log = entries ++ drop (length entries) log
 
 abbrev pub logOf : Handed → Outcome → List ℕ
 logOf handed (refused why) = handed .log
-logOf handed (told event contents used) = written (uncut.entriesOf (uncut.toldOf (handed .books) event)) (handed .log)
+logOf handed (told event contents used) = written (uncut.entriesOf (uncut.toldOf (handed .books) (handed .second) event)) (handed .log)
 logOf handed (hungry contents used) = handed .log
 logOf handed (done contents) = handed .log
 

@@ -17,60 +17,59 @@ use Rattle.message.specs.Messages.{constellationFor}
 use Rattle.message.specs.declared.Subtype.{Subtype}
 use Rattle.message.specs.declared.Subtype.the-variants as subtype
 use Rattle.desk.specs.declared.Desk.{Desk}
+use Rattle.desk.specs.declared.Last.the-variants.{Never}
 use Rattle.desk.specs.declared.Run.the-variants.{Closed}
 use Rattle.desk.specs.declared.NewDesk.the-variants.{Made, Refused}
-use Rattle.desk.specs.Desk.{sourceInRange, madeFor, newDesk, deskSound}
+use Rattle.desk.specs.Desk.{sourceInRange, madeFor, newDesk}
 use Rattle.desk.specs.Take as desk
 use Rattle.desk.specs.Fits.{sound-live, sound-run}
 use Rattle.desk.specs.History as history
-use Rattle.desk.specs.History.{Held, Given, frameWith, heldBy}
+use Rattle.desk.specs.History.{Held, Given, frameWith, handledAt, heldBy, heldSound}
 use Rattle.desk.specs.Theorems.{stays-sound}
-use Rattle.prepare.specs.Uncut.{booksAfter, verdictOn}
+use Rattle.prepare.specs.Uncut.{booksAfter, verdictOn, handledOn}
 use Rattle.prepare.specs.Driver.{Sound}
 
 -- a frame as the desk is given it, with some log that has room
 abbrev someLog : List ℕ
 someLog = replicate logRoom 0
 
-abbrev pub given : (bytes : List ℕ) → Given
-given bytes = frameWith bytes someLog
+abbrev pub given : (bytes : List ℕ) → (second : ℕ) → Given
+given bytes second = frameWith bytes second someLog
 
 -- past ROOM and STATE the desk's own definition of taking a frame is what it makes of the frame
-pub verdict-past : (books : Held) → Sound books → (bytes log : List ℕ) → logRoom ≤ length log
-    → desk.verdict (desk.hands (books .desk) bytes (books .live) (books .run) log) ≡ verdictOn books bytes
+pub verdict-past : (books : Held) → Sound books → (bytes : List ℕ) (second : ℕ) (log : List ℕ) → logRoom ≤ length log
+    → desk.verdict (desk.hands (books .desk) bytes second (books .live) (books .run) log) ≡ verdictOn books second bytes
 unfolding verdictOn desk.verdict desk.noRoom
-verdict-past books s bytes log h =
+verdict-past books s bytes second log h =
     let b : ltb (length (books .live)) bookBytes ≡ false = le-ltb (length (books .live)) bookBytes (s .live-room) in
     let c : ltb (length (books .run)) bookBytes ≡ false = le-ltb (length (books .run)) bookBytes (s .run-room) in
     let d : ltb (length log) logRoom ≡ false = le-ltb (length log) logRoom h in
     rw (b, c, d, s .is-sound)
 
-pub verdict-is : (books : Held) → Sound books → (bytes : List ℕ) → history.verdictOn books (given bytes) ≡ verdictOn books bytes
-verdict-is books s bytes = verdict-past books s bytes someLog (omega (arith, length-replicate {A = ℕ} logRoom 0))
+pub verdict-is : (books : Held) → Sound books → (second : ℕ) (bytes : List ℕ) → history.verdictOn books (given bytes second) ≡ verdictOn books second bytes
+verdict-is books s second bytes = verdict-past books s bytes second someLog (omega (arith, length-replicate {A = ℕ} logRoom 0))
 
-verdict-sound : (books : Held) → Sound books → (bytes : List ℕ) → Sound (heldBy books (verdictOn books bytes))
-verdict-sound books s bytes =
-    go (verdictOn books bytes)
-    (ap (λ v. deskSound (heldBy books v .desk) (heldBy books v .live) (heldBy books v .run)) (sym (verdict-is books s bytes)) ∙ stays-sound books (given bytes) (s .is-sound))
+-- what a verdict leaves has room
+rooms-by : (books : Held) → bookBytes ≤ length (books .live) → bookBytes ≤ length (books .run) → (v : desk.Verdict) → heldSound (heldBy books v) ≡ true → Sound (heldBy books v)
+rooms-by books hl hr v e =
+    record { live-room = sound-room _ _ (sound-live (heldBy books v .desk) (heldBy books v .live) (heldBy books v .run) e); run-room = go v e; is-sound = e }
   where
-    live-room : (v : desk.Verdict) → deskSound (heldBy books v .desk) (heldBy books v .live) (heldBy books v .run) ≡ true → bookBytes ≤ length (heldBy books v .live)
-    live-room v e = sound-room _ _ (sound-live (heldBy books v .desk) (heldBy books v .live) (heldBy books v .run) e)
-
-    go : (v : desk.Verdict) → deskSound (heldBy books v .desk) (heldBy books v .live) (heldBy books v .run) ≡ true → Sound (heldBy books v)
-    go (desk.refused why) e = s
-    go (desk.defines book live) e = record { live-room = live-room (desk.defines book live) e; run-room = s .run-room; is-sound = e }
-    go (desk.continues book message) e = record { live-room = s .live-room; run-room = s .run-room; is-sound = e }
+    go : (v : desk.Verdict) → heldSound (heldBy books v) ≡ true → bookBytes ≤ length (heldBy books v .run)
+    go (desk.refused why) e = hr
+    go (desk.defines book live) e = hr
+    go (desk.continues book message) e = hr
     go (desk.opens tag message) e =
         let d = heldBy books (desk.opens tag message) in
-        record {
-          live-room = s .live-room;
-          run-room = sound-room _ _ (both-right (ltb tag tags) (sound (books .desk .book) (d .run)) (sound-run (d .desk) (d .live) (d .run) e));
-          is-sound = e;
-        }
+        sound-room _ _ (both-right (ltb tag tags) (sound (books .desk .book) (d .run)) (sound-run (d .desk) (d .live) (d .run) e))
 
-pub sound-after : {books : Held} → Sound books → (e : Event) → Sound (booksAfter books e)
-sound-after {books} s (frame f bytes) = verdict-sound books s bytes
-sound-after s (noise n) = s
+verdict-sound : (books : Held) → Sound books → (second : ℕ) (bytes : List ℕ) → Sound (heldBy (handledOn books second bytes) (verdictOn books second bytes))
+verdict-sound books s second bytes =
+    rooms-by (handledOn books second bytes) (s .live-room) (s .run-room) (verdictOn books second bytes)
+    (ap (λ v. heldSound (heldBy (handledAt books second v) v)) (sym (verdict-is books s second bytes)) ∙ stays-sound books (given bytes second) (s .is-sound))
+
+pub sound-after : {books : Held} → Sound books → (second : ℕ) (e : Event) → Sound (booksAfter books second e)
+sound-after {books} s second (frame f bytes) = verdict-sound books s second bytes
+sound-after s second (noise n) = s
 
 -- a new desk has no open run
 pub new-closed : (solution processor constellation : ℕ) (made : Desk) → newDesk solution processor constellation ≡ Made made → made .run ≡ Closed
@@ -81,5 +80,5 @@ new-closed solution processor constellation made e = go (sourceInRange solution 
     go false t e = let z : _≡_ {A = ℕ} 0 1 = cc in absurd (omega arith)
     go true subtype.Unknown e = let z : _≡_ {A = ℕ} 0 1 = cc in absurd (omega arith)
     go true (subtype.Known c) e =
-        let m : made ≡ record { solution = solution; processor = processor; constellation = c; book = noBook; run = Closed } = cc in
+        let m : made ≡ record { solution = solution; processor = processor; constellation = c; book = noBook; run = Closed; last = Never } = cc in
         ap (λ d. d .run) m

@@ -23,7 +23,7 @@ use Rattle.desk.specs.History.{Held}
 use Rattle.prepare.specs.declared.Said.{Said}
 use Rattle.prepare.specs.declared.Said.the-variants as said
 use Rattle.prepare.specs.Uncut as uncut
-use Rattle.prepare.specs.Uncut.{Told, toldOf, toldBy, booksAfter, verdictOn, entriesOf}
+use Rattle.prepare.specs.Uncut.{Told, toldOf, toldBy, booksAfter, verdictOn, handledOn, entriesOf}
 use Rattle.prepare.specs.Prepare.{Handed, guarded, answerOf, booksOf, logOf, saidOf, written}
 use Rattle.prepare.specs.Driver.{Sound, Tells}
 
@@ -65,11 +65,11 @@ not-said books f b (desk.defines book live) (inr q) = let z : _≡_ {A = ℕ} 0 
 not-said books f b (desk.continues book message) (inr q) = let z : _≡_ {A = ℕ} 0 1 = cc in omega arith
 not-said books f b (desk.opens tag message) (inr q) = let z : _≡_ {A = ℕ} 0 1 = cc in omega arith
 
-never : (books : Held) (e : Event)
-    → (saidOf (toldOf books e) ≡ said.Hungry) ⊎ (saidOf (toldOf books e) ≡ said.Done) → ⊥
-never books (frame f b) q = not-said books f b (verdictOn books b) q
-never books (noise n) (inl q) = let z : _≡_ {A = ℕ} 0 1 = cc in omega arith
-never books (noise n) (inr q) = let z : _≡_ {A = ℕ} 0 1 = cc in omega arith
+never : (books : Held) (second : ℕ) (e : Event)
+    → (saidOf (toldOf books second e) ≡ said.Hungry) ⊎ (saidOf (toldOf books second e) ≡ said.Done) → ⊥
+never books second (frame f b) q = not-said (handledOn books second b) f b (verdictOn books second b) q
+never books second (noise n) (inl q) = let z : _≡_ {A = ℕ} 0 1 = cc in omega arith
+never books second (noise n) (inr q) = let z : _≡_ {A = ℕ} 0 1 = cc in omega arith
 
 -- what is told is one thing
 same-told : (w : Said) (n : ℕ) (bytes log : List ℕ) (t t′ : Told) → Tells w n bytes log t
@@ -102,18 +102,18 @@ module _ (bytes : List ℕ) (tray : Tray) where
 
 module _ (handed : Handed) where
   told-itself : (e : Event) (c : stream.Contents) (n : ℕ) → Good (stream.told e c n)
-      → Says handed (stream.told e c n) (toldOf (handed .books) e)
+      → Says handed (stream.told e c n) (toldOf (handed .books) (handed .second) e)
   told-itself (frame f b) c n g =
       let q : frame f b ≡ frame f (take (f .length) (stream.laid (handed .bytes) (c .held))) = itself (handed .bytes) (handed .tray) (frame f b) c n g in
-      by-verdict (handed .books) (handed .log) (stream.laid (handed .bytes) (c .held)) f b (verdictOn (handed .books) b) cc
+      by-verdict (handledOn (handed .books) (handed .second) b) (handed .log) (stream.laid (handed .bytes) (c .held)) f b (verdictOn (handed .books) (handed .second) b) cc
   told-itself (noise k) c n g = refl
 
   says : (o : stream.Outcome) → Good o → (e : Event) → Hears (handed .bytes) (handed .tray) o e
-      → (Says handed o (toldOf (handed .books) e)) × (booksOf handed o ≡ booksAfter (handed .books) e)
+      → (Says handed o (toldOf (handed .books) (handed .second) e)) × (booksOf handed o ≡ booksAfter (handed .books) (handed .second) e)
   says (stream.refused r) g e k = absurd g
   says (stream.told e c n) g e′ k =
       let q = the-event (handed .bytes) (handed .tray) e c n g e′ k in
-      (subst (λ e′. Says handed (stream.told e c n) (toldOf (handed .books) e′)) q (told-itself e c n g), ap (booksAfter (handed .books)) q)
+      (subst (λ e′. Says handed (stream.told e c n) (toldOf (handed .books) (handed .second) e′)) q (told-itself e c n g), ap (booksAfter (handed .books) (handed .second)) q)
   says (stream.hungry c n) g e k = absurd k
   says (stream.done c) g e k = absurd k
 
@@ -128,14 +128,14 @@ module _ (handed : Handed) where
   hungry-so : (o : stream.Outcome) → answerOf handed o .said ≡ said.Hungry
       → (stream.answerOf (handed .tray) o .said ≡ heard.Hungry) × (booksOf handed o ≡ handed .books)
   hungry-so (stream.refused r) q = let z : _≡_ {A = ℕ} 0 1 = cc in absurd (omega arith)
-  hungry-so (stream.told e c n) q = absurd (never (handed .books) e (inl q))
+  hungry-so (stream.told e c n) q = absurd (never (handed .books) (handed .second) e (inl q))
   hungry-so (stream.hungry c n) q = (refl, refl)
   hungry-so (stream.done c) q = let z : _≡_ {A = ℕ} 0 1 = cc in absurd (omega arith)
 
   done-so : (o : stream.Outcome) → answerOf handed o .said ≡ said.Done
       → (stream.answerOf (handed .tray) o .said ≡ heard.Done) × (booksOf handed o ≡ handed .books)
   done-so (stream.refused r) q = let z : _≡_ {A = ℕ} 0 1 = cc in absurd (omega arith)
-  done-so (stream.told e c n) q = absurd (never (handed .books) e (inr q))
+  done-so (stream.told e c n) q = absurd (never (handed .books) (handed .second) e (inr q))
   done-so (stream.hungry c n) q = let z : _≡_ {A = ℕ} 0 1 = cc in absurd (omega arith)
   done-so (stream.done c) q = (refl, refl)
 
@@ -184,22 +184,22 @@ module _ (handed : Handed) (o o′ : stream.Outcome) (q : o ≡ o′) where
 
   -- what is told is what the desk makes of the stream's event
   pub is-told : Good o′ → (t : Told) → Says handed o t
-      → (e : Event) × (Hears (handed .bytes) (handed .tray) o′ e) × (t ≡ toldOf (handed .books) e) × (booksOf handed o′ ≡ booksAfter (handed .books) e)
+      → (e : Event) × (Hears (handed .bytes) (handed .tray) o′ e) × (t ≡ toldOf (handed .books) (handed .second) e) × (booksOf handed o′ ≡ booksAfter (handed .books) (handed .second) e)
   is-told g t k =
       let k′ : Says handed o′ t = subst (λ o. Says handed o t) q k in
       let e = hears handed o′ g t k′ in
       let w = says handed o′ g (e .0) (e .1) in (
         e .0,
         e .1,
-        same-told (answerOf handed o′ .said) (answerOf handed o′ .log) (stream.bytesOf (handed .bytes) o′) (logOf handed o′) t (toldOf (handed .books) (e .0)) k′ (w .0),
+        same-told (answerOf handed o′ .said) (answerOf handed o′ .log) (stream.bytesOf (handed .bytes) o′) (logOf handed o′) t (toldOf (handed .books) (handed .second) (e .0)) k′ (w .0),
         w .1,
       )
 
   pub tells-so : Good o′ → (e : Event) → Hears (handed .bytes) (handed .tray) o′ e
-      → (Says handed o (toldOf (handed .books) e)) × (booksOf handed o′ ≡ booksAfter (handed .books) e)
+      → (Says handed o (toldOf (handed .books) (handed .second) e)) × (booksOf handed o′ ≡ booksAfter (handed .books) (handed .second) e)
   tells-so g e k =
       let w = says handed o′ g e k in
-      (subst (λ o. Says handed o (toldOf (handed .books) e)) (sym q) (w .0), w .1)
+      (subst (λ o. Says handed o (toldOf (handed .books) (handed .second) e)) (sym q) (w .0), w .1)
 
   -- hungry and done are the stream's
   pub is-hungry : answerOf handed o .said ≡ said.Hungry

@@ -1,13 +1,13 @@
--- Definitions to believe: document 01, "The stream" and "Book and run" together, for a whole stream, uncut: what is told of it, its run log, and the desk
--- with its two books that it leaves.
+-- Definitions to believe: document 01, "The stream" and "Book and run" together, for a whole stream, uncut, and the seconds that its frames came in: what is told of it, its
+-- run log, and the desk with its two books that it leaves.
 use mathlib.Core.List.{List, [], _∷_, _++_}
-use Prim.Native.Nat.{ℕ}
+use Prim.Native.Nat.{ℕ, suc}
 use Rattle.answer.specs.declared.Refusal.{Refusal}
 use Rattle.frame.specs.declared.Frame.{Frame}
 use Rattle.frame.specs.Check.{checked}
 use Rattle.stream.specs.Scan as stream
 use Rattle.desk.specs.Take as desk
-use Rattle.desk.specs.History.{Held, heldBy}
+use Rattle.desk.specs.History.{Held, handledAt, heldBy}
 
 -- what is told of an event. Of a frame: its header, its bytes, and what the desk said of it: taken, with the bytes of the entries that it adds to the run
 -- log, or refused
@@ -18,9 +18,13 @@ pub data Told : Type 0 where
 
 -- ---- "Each frame event goes to the desk in order"
 
--- what the desk makes of a frame's bytes, past ROOM and STATE: "the frame's own refusals, NOT_OURS, SEALED, .."
-unfoldable pub verdictOn : Held → (bytes : List ℕ) → desk.Verdict
-verdictOn books bytes = desk.byFrame (books .desk) (books .live) (checked bytes) bytes
+-- what the desk makes of a frame's bytes, past ROOM and STATE: "the frame's own refusals, NOT_OURS, SEALED, .."; after a gap "with an empty live book"
+unfoldable pub verdictOn : Held → (second : ℕ) → (bytes : List ℕ) → desk.Verdict
+verdictOn books second bytes = desk.byFrame (desk.handling (books .desk) second) (books .live) (checked bytes) bytes
+
+-- the desk with its books as the frame is handled with
+abbrev pub handledOn : Held → (second : ℕ) → (bytes : List ℕ) → Held
+handledOn books second bytes = handledAt books second (verdictOn books second bytes)
 
 abbrev pub entriesBy : Held → desk.Verdict → List ℕ
 entriesBy books verdict = desk.loggedBy (books .desk) (books .live) (books .run) verdict
@@ -32,24 +36,33 @@ toldBy books header bytes (desk.defines book live) = accepted header bytes (entr
 toldBy books header bytes (desk.continues book message) = accepted header bytes (entriesBy books (desk.continues book message))
 toldBy books header bytes (desk.opens tag message) = accepted header bytes (entriesBy books (desk.opens tag message))
 
-abbrev pub toldOf : Held → stream.Event → Told
-toldOf books (stream.frame header bytes) = toldBy books header bytes (verdictOn books bytes)
-toldOf books (stream.noise count) = noise count
+abbrev pub toldOf : Held → (second : ℕ) → stream.Event → Told
+toldOf books second (stream.frame header bytes) = toldBy (handledOn books second bytes) header bytes (verdictOn books second bytes)
+toldOf books second (stream.noise count) = noise count
 
 -- the desk and the books then; noise does not reach the desk
-abbrev pub booksAfter : Held → stream.Event → Held
-booksAfter books (stream.frame header bytes) = heldBy books (verdictOn books bytes)
-booksAfter books (stream.noise count) = books
+abbrev pub booksAfter : Held → (second : ℕ) → stream.Event → Held
+booksAfter books second (stream.frame header bytes) = heldBy (handledOn books second bytes) (verdictOn books second bytes)
+booksAfter books second (stream.noise count) = books
 
--- ---- events in order
+-- ---- events in order, each frame with its second
 
-unfoldable pub toldAll : Held → List stream.Event → List Told
-toldAll books [] = []
-toldAll books (event ∷ events) = toldOf books event ∷ toldAll (booksAfter books event) events
+-- frame i of the stream, counted from 0, came in at `seconds i`
+abbrev pub Seconds : Type 0
+Seconds = ℕ → ℕ
 
-unfoldable pub booksAll : Held → List stream.Event → Held
-booksAll books [] = books
-booksAll books (event ∷ events) = booksAll (booksAfter books event) events
+-- the seconds of the frames behind an event; noise has none
+abbrev pub later : stream.Event → Seconds → Seconds
+later (stream.frame header bytes) seconds = λ i. seconds (suc i)
+later (stream.noise count) seconds = seconds
+
+unfoldable pub toldAll : Held → Seconds → List stream.Event → List Told
+toldAll books seconds [] = []
+toldAll books seconds (event ∷ events) = toldOf books (seconds 0) event ∷ toldAll (booksAfter books (seconds 0) event) (later event seconds) events
+
+unfoldable pub booksAll : Held → Seconds → List stream.Event → Held
+booksAll books seconds [] = books
+booksAll books seconds (event ∷ events) = booksAll (booksAfter books (seconds 0) event) (later event seconds) events
 
 -- "the run log is its entries joined, and a refused frame adds none"
 abbrev pub entriesOf : Told → List ℕ
@@ -63,11 +76,11 @@ runLog (told ∷ rest) = entriesOf told ++ runLog rest
 
 -- ---- the uncut stream, from a desk with its books
 
-abbrev pub uncutTold : Held → (bytes : List ℕ) → List Told
-uncutTold books bytes = toldAll books (stream.scan bytes)
+abbrev pub uncutTold : Held → Seconds → (bytes : List ℕ) → List Told
+uncutTold books seconds bytes = toldAll books seconds (stream.scan bytes)
 
-abbrev pub uncutLog : Held → (bytes : List ℕ) → List ℕ
-uncutLog books bytes = runLog (uncutTold books bytes)
+abbrev pub uncutLog : Held → Seconds → (bytes : List ℕ) → List ℕ
+uncutLog books seconds bytes = runLog (uncutTold books seconds bytes)
 
-abbrev pub uncutBooks : Held → (bytes : List ℕ) → Held
-uncutBooks books bytes = booksAll books (stream.scan bytes)
+abbrev pub uncutBooks : Held → Seconds → (bytes : List ℕ) → Held
+uncutBooks books seconds bytes = booksAll books seconds (stream.scan bytes)

@@ -150,7 +150,7 @@ fn payload_first<'a>(bytes: &'a [u8], header: Frame) -> &'a [u8]
     frame::payload_in(&bytes[..length], header)
 }
 
-// A frame event goes to the desk. It was checked in the tray, so it is not checked again.
+// A frame event goes to the desk with the call's second. It was checked in the tray, so it is not checked again.
 fn give(
     heard: stream::Answer,
     header: Frame,
@@ -159,13 +159,14 @@ fn give(
     live: &mut [u8],
     run: &mut [u8],
     log: &mut [u8],
+    second: u64,
 ) -> Answer
     requires { ⌜ (deskSound desk (now live) (now run) ≡ true) × (takes.noRoom (now live) (now run) (now log) ≡ false) ⌝ }
     requires { ⌜ checked (take (header .length) (now bytes)) ≡ Accepted header ⌝ }
-    ensures { λ r. ⌜ results r (now (bytes .entry)) (now (live .exit)) (now (run .exit)) (now (log .exit)) ≡ moved (booksIn desk (now (live .entry)) (now (run .entry))) heard (hears.Frame header) (now (bytes .entry)) (now (log .entry)) ⌝ }
+    ensures { λ r. ⌜ results r (now (bytes .entry)) (now (live .exit)) (now (run .exit)) (now (log .exit)) ≡ moved (booksIn desk (now (live .entry)) (now (run .entry))) second heard (hears.Frame header) (now (bytes .entry)) (now (log .entry)) ⌝ }
 {
     let payload = payload_first(bytes, header);
-    let given = desk::take_header(desk, header, payload, live, run, log);
+    let given = desk::take_header(desk, header, payload, second, live, run, log);
     answered(heard, header, given)
 }
 
@@ -177,14 +178,15 @@ fn step(
     live: &mut [u8],
     run: &mut [u8],
     log: &mut [u8],
+    second: u64,
 ) -> Answer
     requires { ⌜ (deskSound desk (now live) (now run) ≡ true) × (takes.noRoom (now live) (now run) (now log) ≡ false) ⌝ }
     requires { ⌜ Lies (heard .said) (now bytes) ⌝ }
-    ensures { λ r. ⌜ results r (now (bytes .entry)) (now (live .exit)) (now (run .exit)) (now (log .exit)) ≡ moved (booksIn desk (now (live .entry)) (now (run .entry))) heard (heard .said) (now (bytes .entry)) (now (log .entry)) ⌝ }
+    ensures { λ r. ⌜ results r (now (bytes .entry)) (now (live .exit)) (now (run .exit)) (now (log .exit)) ≡ moved (booksIn desk (now (live .entry)) (now (run .entry))) second heard (heard .said) (now (bytes .entry)) (now (log .entry)) ⌝ }
 {
     let said = heard.said;
     match said {
-        stream::Said::Frame(header) => give(heard, header, bytes, desk, live, run, log),
+        stream::Said::Frame(header) => give(heard, header, bytes, desk, live, run, log, second),
         stream::Said::Noise(count) => beside(heard, Said::Noise(count), desk),
         stream::Said::Hungry => beside(heard, Said::Hungry, desk),
         stream::Said::Done => beside(heard, Said::Done, desk),
@@ -201,12 +203,13 @@ fn hear_call(
     run: &mut [u8],
     log: &mut [u8],
     input: &[u8],
+    second: u64,
 ) -> Answer
     requires { ⌜ testedOf (now bytes) (booksIn desk (now live) (now run)) (now log) ≡ test.Passed ⌝ }
-    ensures { λ r. ⌜ results r (now (bytes .exit)) (now (live .exit)) (now (run .exit)) (now (log .exit)) ≡ resultOf (hands (now (bytes .entry)) tray desk (now (live .entry)) (now (run .entry)) (now (log .entry))) (called (now (bytes .entry)) tray (now (input .entry))) ⌝ }
+    ensures { λ r. ⌜ results r (now (bytes .exit)) (now (live .exit)) (now (run .exit)) (now (log .exit)) ≡ resultOf (hands (now (bytes .entry)) tray desk (now (live .entry)) (now (run .entry)) (now (log .entry)) second) (called (now (bytes .entry)) tray (now (input .entry))) ⌝ }
 {
     let heard = stream::call(bytes, tray, input);
-    step(heard, bytes, desk, live, run, log)
+    step(heard, bytes, desk, live, run, log, second)
 }
 
 // The same at the stream's end.
@@ -217,15 +220,16 @@ fn hear_finish(
     live: &mut [u8],
     run: &mut [u8],
     log: &mut [u8],
+    second: u64,
 ) -> Answer
     requires { ⌜ testedOf (now bytes) (booksIn desk (now live) (now run)) (now log) ≡ test.Passed ⌝ }
-    ensures { λ r. ⌜ results r (now (bytes .exit)) (now (live .exit)) (now (run .exit)) (now (log .exit)) ≡ resultOf (hands (now (bytes .entry)) tray desk (now (live .entry)) (now (run .entry)) (now (log .entry))) (finished (now (bytes .entry)) tray) ⌝ }
+    ensures { λ r. ⌜ results r (now (bytes .exit)) (now (live .exit)) (now (run .exit)) (now (log .exit)) ≡ resultOf (hands (now (bytes .entry)) tray desk (now (live .entry)) (now (run .entry)) (now (log .entry)) second) (finished (now (bytes .entry)) tray) ⌝ }
 {
     let heard = stream::finish(bytes, tray);
-    step(heard, bytes, desk, live, run, log)
+    step(heard, bytes, desk, live, run, log, second)
 }
 
-// Takes a portion and moves stream and desk one event on. Where the tray is not sound the stream refuses with the same number as the desk would, so
+// Takes a portion and the second, and moves stream and desk one event on: a frame that is told comes in at that second. Where the tray is not sound the stream refuses with the same number as the desk would, so
 // neither is tested twice.
 pub fn call(
     bytes: &mut [u8],
@@ -235,16 +239,17 @@ pub fn call(
     run: &mut [u8],
     log: &mut [u8],
     input: &[u8],
+    second: u64,
 ) -> Answer
-    ensures { λ r. ⌜ results r (now (bytes .exit)) (now (live .exit)) (now (run .exit)) (now (log .exit)) ≡ byCall (hands (now (bytes .entry)) tray desk (now (live .entry)) (now (run .entry)) (now (log .entry))) (now (input .entry)) ⌝ }
+    ensures { λ r. ⌜ results r (now (bytes .exit)) (now (live .exit)) (now (run .exit)) (now (log .exit)) ≡ byCall (hands (now (bytes .entry)) tray desk (now (live .entry)) (now (run .entry)) (now (log .entry)) second) (now (input .entry)) ⌝ }
 {
     match test_lent(bytes, desk, live, run, log) {
         Tested::Failed(why) => refused(tray, desk, why),
-        Tested::Passed => hear_call(bytes, tray, desk, live, run, log, input),
+        Tested::Passed => hear_call(bytes, tray, desk, live, run, log, input, second),
     }
 }
 
-// Finishes a stream, an event a call: called until it says done.
+// Finishes a stream, an event a call: called until it says done. The second counts for a frame told by the call.
 pub fn finish(
     bytes: &mut [u8],
     tray: Tray,
@@ -252,11 +257,12 @@ pub fn finish(
     live: &mut [u8],
     run: &mut [u8],
     log: &mut [u8],
+    second: u64,
 ) -> Answer
-    ensures { λ r. ⌜ results r (now (bytes .exit)) (now (live .exit)) (now (run .exit)) (now (log .exit)) ≡ byFinish (hands (now (bytes .entry)) tray desk (now (live .entry)) (now (run .entry)) (now (log .entry))) ⌝ }
+    ensures { λ r. ⌜ results r (now (bytes .exit)) (now (live .exit)) (now (run .exit)) (now (log .exit)) ≡ byFinish (hands (now (bytes .entry)) tray desk (now (live .entry)) (now (run .entry)) (now (log .entry)) second) ⌝ }
 {
     match test_lent(bytes, desk, live, run, log) {
         Tested::Failed(why) => refused(tray, desk, why),
-        Tested::Passed => hear_finish(bytes, tray, desk, live, run, log),
+        Tested::Passed => hear_finish(bytes, tray, desk, live, run, log, second),
     }
 }
