@@ -33,28 +33,28 @@ module _ (x k : ℕ) (v : Subtype) (p : k ≡ atMost 5 x) (q : v ≡ constellati
   pub constellation-unknown : v ≡ subtype.Unknown → Gps ≡ constellationIn x
   constellation-unknown e = sym (ap known e) ∙ said
 
-module _ (solution constellation open dated : ℕ) where
-  pub no-constellation : 4 < constellation → 128 ≡ solutionIn solution constellation open dated
+module _ (solution constellation running dated : ℕ) where
+  pub no-constellation : 4 < constellation → 128 ≡ solutionIn solution constellation running dated
   unfolding solutionIn
   no-constellation h = let z : leb constellation 4 ≡ false = lt-leb _ _ h in rw z
 
-  pub no-flag : constellation ≤ 4 → 1 < open → 128 ≡ solutionIn solution constellation open dated
+  pub no-flag : constellation ≤ 4 → 1 < running → 128 ≡ solutionIn solution constellation running dated
   unfolding solutionIn
-  no-flag g h = let y : leb constellation 4 ≡ true = le-leb _ _ g in let z : leb open 1 ≡ false = lt-leb _ _ h in rw (y, z)
+  no-flag g h = let y : leb constellation 4 ≡ true = le-leb _ _ g in let z : leb running 1 ≡ false = lt-leb _ _ h in rw (y, z)
 
-  pub no-dated : constellation ≤ 4 → open ≤ 1 → 1 < dated → 128 ≡ solutionIn solution constellation open dated
+  pub no-dated : constellation ≤ 4 → running ≤ 1 → 1 < dated → 128 ≡ solutionIn solution constellation running dated
   unfolding solutionIn
   no-dated g h k =
       let y : leb constellation 4 ≡ true = le-leb _ _ g in
-      let z : leb open 1 ≡ true = le-leb _ _ h in
+      let z : leb running 1 ≡ true = le-leb _ _ h in
       let x : leb dated 1 ≡ false = lt-leb _ _ k in
       rw (y, z, x)
 
-  pub solution-is : (r : ℕ) → constellation ≤ 4 → open ≤ 1 → dated ≤ 1 → r ≡ atMost 128 solution → r ≡ solutionIn solution constellation open dated
+  pub solution-is : (r : ℕ) → constellation ≤ 4 → running ≤ 1 → dated ≤ 1 → r ≡ atMost 128 solution → r ≡ solutionIn solution constellation running dated
   unfolding solutionIn
   solution-is r g h k p =
       let y : leb constellation 4 ≡ true = le-leb _ _ g in
-      let z : leb open 1 ≡ true = le-leb _ _ h in
+      let z : leb running 1 ≡ true = le-leb _ _ h in
       let x : leb dated 1 ≡ true = le-leb _ _ k in
       rw (y, z, x) p
 
@@ -78,13 +78,25 @@ module _ (dated second : ℕ) where
   unfolding lastIn
   last-at h = let z : eqb dated 0 ≡ false = ne-eqb _ _ h in rw z
 
-pub desk-in : (s : List ℕ) (a b : ℕ) (c : Constellation) (book : Book) (run : Run) (last : Last) (n0 n1 n2 n2′ n3 n4 n5 n5′ n6 n7 n8 n9 n9′ n10 : ℕ)
-    → a ≡ solutionIn n0 n2 n5 n9 → n0 ≡ getD s 0 0 → n2 ≡ getD s 2 0 → n5 ≡ getD s 5 0 → n9 ≡ getD s 9 0
-    → b ≡ atMost 16 n1 → n1 ≡ getD s 1 0
-    → c ≡ constellationIn n2′ → n2′ ≡ getD s 2 0
-    → book ≡ bookIn (n3 ∷ n4 ∷ []) → n3 ≡ getD s 3 0 → n4 ≡ getD s 4 0
-    → run ≡ runIn n5′ n6 n7 n8 → n5′ ≡ getD s 5 0 → n6 ≡ getD s 6 0 → n7 ≡ getD s 7 0 → n8 ≡ getD s 8 0
-    → last ≡ lastIn n9′ n10 → n9′ ≡ getD s 9 0 → n10 ≡ getD s 10 0
-    → record { solution = a; processor = b; constellation = c; book = book; run = run; last = last } ≡ deskIn s
-unfolding deskIn
-desk-in s a b c book run last n0 n1 n2 n2′ n3 n4 n5 n5′ n6 n7 n8 n9 n9′ n10 p e0 e2 e5 e9 q e1 t e2′ u e3 e4 v e5′ e6 e7 e8 w e9′ e10 = cc
+module _ (s : List ℕ) where
+  pub solution-at : (a n0 n2 n5 n9 : ℕ) → a ≡ solutionIn n0 n2 n5 n9 → n0 ≡ getD s 0 0 → n2 ≡ getD s 2 0 → n5 ≡ getD s 5 0 → n9 ≡ getD s 9 0
+      → a ≡ solutionIn (getD s 0 0) (getD s 2 0) (getD s 5 0) (getD s 9 0)
+  solution-at a n0 n2 n5 n9 p e0 e2 e5 e9 = cc
+
+  pub run-at : (run : Run) (n5 n6 n7 n8 : ℕ) → run ≡ runIn n5 n6 n7 n8 → n5 ≡ getD s 5 0 → n6 ≡ getD s 6 0 → n7 ≡ getD s 7 0 → n8 ≡ getD s 8 0
+      → run ≡ runIn (getD s 5 0) (getD s 6 0) (getD s 7 0) (getD s 8 0)
+  run-at run n5 n6 n7 n8 p e5 e6 e7 e8 = cc
+
+  pub second-at : (last : Last) (n9 n10 : ℕ) → last ≡ lastIn n9 n10 → n9 ≡ getD s 9 0 → n10 ≡ getD s 10 0 → last ≡ lastIn (getD s 9 0) (getD s 10 0)
+  second-at last n9 n10 p e9 e10 = cc
+
+  pub desk-in : (a b : ℕ) (c : Constellation) (book : Book) (run : Run) (last : Last) (n1 n2 n3 n4 : ℕ)
+      → a ≡ solutionIn (getD s 0 0) (getD s 2 0) (getD s 5 0) (getD s 9 0)
+      → b ≡ atMost 16 n1 → n1 ≡ getD s 1 0
+      → c ≡ constellationIn n2 → n2 ≡ getD s 2 0
+      → book ≡ bookIn (n3 ∷ n4 ∷ []) → n3 ≡ getD s 3 0 → n4 ≡ getD s 4 0
+      → run ≡ runIn (getD s 5 0) (getD s 6 0) (getD s 7 0) (getD s 8 0)
+      → last ≡ lastIn (getD s 9 0) (getD s 10 0)
+      → record { solution = a; processor = b; constellation = c; book = book; run = run; last = last } ≡ deskIn s
+  unfolding deskIn
+  desk-in a b c book run last n1 n2 n3 n4 p q e1 t e2 u e3 e4 v w = cc

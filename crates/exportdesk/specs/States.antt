@@ -37,8 +37,8 @@ constellationIn x = known (constellationFor (atMost 5 x))
 
 -- "Solution, processor, constellation, AIOU and tag are in range": a number out of its range is not sound, whatever it is. "A flag out of range is
 -- STATE". A desk whose constellation or one of whose flags is out of range is read as one of solution 128, which no desk has.
-unfoldable pub solutionIn : (solution constellation open dated : ℕ) → ℕ
-solutionIn solution constellation open dated = cond (leb constellation 4 && (leb open 1 && leb dated 1)) (atMost 128 solution) 128
+unfoldable pub solutionIn : (solution constellation running dated : ℕ) → ℕ
+solutionIn solution constellation running dated = cond (leb constellation 4 && (leb running 1 && leb dated 1)) (atMost 128 solution) 128
 
 -- "Numbers that a flag makes meaningless (the tag of a closed run, ..) do not count."
 unfoldable pub runIn : (flag tag aiou areas : ℕ) → Run

@@ -1,5 +1,6 @@
 // A desk as eleven numbers.
 ghost use mathlib.Core.Path.{_≡_};
+ghost use lib.ListN.{getD};
 ghost use Rattle.export.specs.Numbers.{stored, atMost};
 ghost use Rattle.exportdesk.specs.States.{constellationIn, solutionIn, runIn, lastIn, deskIn, isOpen, tagOf, runBook, isDated, secondOf, deskOf};
 use book::Book;
@@ -43,19 +44,25 @@ fn constellation_in(x: u64) -> Constellation
 }
 
 // The solution, if constellation and both flags are in range.
-fn solution_in(solution: u64, constellation: u64, open: u64, dated: u64) -> u8
-    ensures { λ r. ⌜ r ≡ solutionIn solution constellation open dated ⌝ }
+fn solution_in(solution: u64, constellation: u64, running: u64, dated: u64) -> u8
+    ensures { λ r. ⌜ r ≡ solutionIn solution constellation running dated ⌝ }
 {
     if 4 < constellation {
         return NO_SOLUTION;
     }
-    if 1 < open {
+    if 1 < running {
         return NO_SOLUTION;
     }
     if 1 < dated {
         return NO_SOLUTION;
     }
     at_most(NO_SOLUTION, solution)
+}
+
+fn solution_at(desk: &[u64]) -> u8
+    ensures { λ r. ⌜ r ≡ solutionIn (getD (now (desk .entry)) 0 0) (getD (now (desk .entry)) 2 0) (getD (now (desk .entry)) 5 0) (getD (now (desk .entry)) 9 0) ⌝ }
+{
+    solution_in(at(desk, 0), at(desk, 2), at(desk, 5), at(desk, 9))
 }
 
 fn run_in(flag: u64, tag: u64, aiou: u64, areas: u64) -> Run
@@ -71,6 +78,12 @@ fn run_in(flag: u64, tag: u64, aiou: u64, areas: u64) -> Run
     }
 }
 
+fn run_at(desk: &[u64]) -> Run
+    ensures { λ r. ⌜ r ≡ runIn (getD (now (desk .entry)) 5 0) (getD (now (desk .entry)) 6 0) (getD (now (desk .entry)) 7 0) (getD (now (desk .entry)) 8 0) ⌝ }
+{
+    run_in(at(desk, 5), at(desk, 6), at(desk, 7), at(desk, 8))
+}
+
 fn last_in(dated: u64, second: u64) -> Last
     ensures { λ r. ⌜ r ≡ lastIn dated second ⌝ }
 {
@@ -80,18 +93,24 @@ fn last_in(dated: u64, second: u64) -> Last
     Last::At(second)
 }
 
+fn last_at(desk: &[u64]) -> Last
+    ensures { λ r. ⌜ r ≡ lastIn (getD (now (desk .entry)) 9 0) (getD (now (desk .entry)) 10 0) ⌝ }
+{
+    last_in(at(desk, 9), at(desk, 10))
+}
+
 // The desk that eleven numbers say.
 pub fn desk_in(desk: &[u64]) -> Desk
     ensures { λ r. ⌜ r ≡ deskIn (now (desk .entry)) ⌝ }
 {
     let numbers = [at(desk, 3), at(desk, 4)];
     Desk {
-        solution: solution_in(at(desk, 0), at(desk, 2), at(desk, 5), at(desk, 9)),
+        solution: solution_at(desk),
         processor: at_most(NO_PROCESSOR, at(desk, 1)),
         constellation: constellation_in(at(desk, 2)),
         book: book_in(&numbers),
-        run: run_in(at(desk, 5), at(desk, 6), at(desk, 7), at(desk, 8)),
-        last: last_in(at(desk, 9), at(desk, 10)),
+        run: run_at(desk),
+        last: last_at(desk),
     }
 }
 

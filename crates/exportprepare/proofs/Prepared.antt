@@ -56,14 +56,14 @@ event-as event used noise number log m n lent now p e f = p ∙ ap₂ (λ m n. l
 
 -- ---- call and finish: the tray and the desk are those that the numbers say
 
-module _ (bytes live run log bytes′ live′ run′ log′ ts ds : List ℕ) (t : Tray) (d : Desk) (p : t ≡ trayIn ts) (q : d ≡ deskIn ds) (r : Answer) where
-  pub called : (input : List ℕ) → results r bytes′ live′ run′ log′ ≡ byCall (hands bytes t d live run log) input
-      → results r bytes′ live′ run′ log′ ≡ byCall (hands bytes (trayIn ts) (deskIn ds) live run log) input
-  called input e = e ∙ ap₂ (λ t d. byCall (hands bytes t d live run log) input) p q
+module _ (bytes live run log bytes′ live′ run′ log′ ts ds : List ℕ) (second : ℕ) (t : Tray) (d : Desk) (p : t ≡ trayIn ts) (q : d ≡ deskIn ds) (r : Answer) where
+  pub called : (input : List ℕ) → results r bytes′ live′ run′ log′ ≡ byCall (hands bytes t d live run log second) input
+      → results r bytes′ live′ run′ log′ ≡ byCall (hands bytes (trayIn ts) (deskIn ds) live run log second) input
+  called input e = e ∙ ap₂ (λ t d. byCall (hands bytes t d live run log second) input) p q
 
-  pub finished : results r bytes′ live′ run′ log′ ≡ byFinish (hands bytes t d live run log)
-      → results r bytes′ live′ run′ log′ ≡ byFinish (hands bytes (trayIn ts) (deskIn ds) live run log)
-  finished e = e ∙ ap₂ (λ t d. byFinish (hands bytes t d live run log)) p q
+  pub finished : results r bytes′ live′ run′ log′ ≡ byFinish (hands bytes t d live run log second)
+      → results r bytes′ live′ run′ log′ ≡ byFinish (hands bytes (trayIn ts) (deskIn ds) live run log second)
+  finished e = e ∙ ap₂ (λ t d. byFinish (hands bytes t d live run log second)) p q
 
 -- ---- the calls for other languages
 
@@ -86,9 +86,9 @@ module _ (tray desk told header : List ℕ) (b : Bool) (e : Judged b tray desk t
   states-there = record { tray-room = all-there .tray-room; desk-room = all-there .desk-room }
 
 -- a call or a finish: what it comes to by what the call below leaves
-module _ (bytes tray desk live run log told header : List ℕ) (result : Result) (b : Bool) (e : Judged b tray desk told header) where
+module _ (bytes tray desk live run log told header : List ℕ) (second : ℕ) (result : Result) (b : Bool) (e : Judged b tray desk told header) where
   abbrev lent : Lent
-  lent = lends bytes tray desk live run log told header
+  lent = lends bytes tray desk live run log told header second
 
   pub short-number : b ≡ true → 9 ≡ numberBy lent result
   unfolding numberBy
@@ -104,7 +104,7 @@ module _ (bytes tray desk live run log told header : List ℕ) (result : Result)
     unfolding numberBy
     told-number = let z : noRoom tray desk told header ≡ false = sym (e .is-judged) ∙ h in rw (z, ← q) (t .number-is)
 
-    pub told-leaves : lends bytes′ tray′ desk′ live′ run′ log′ told′ header′ ≡ lentBy lent result
+    pub told-leaves : lends bytes′ tray′ desk′ live′ run′ log′ told′ header′ second ≡ lentBy lent result
     unfolding lentBy
     told-leaves =
         let z : noRoom tray desk told header ≡ false = sym (e .is-judged) ∙ h in

@@ -20,6 +20,7 @@ use Rattle.desk.specs.Take as desk
 use Rattle.desk.specs.History.{Held}
 use Rattle.prepare.specs.declared.Said.{Said}
 use Rattle.prepare.specs.declared.Said.the-variants as said
+use Rattle.prepare.specs.Uncut.{Seconds}
 use Rattle.prepare.specs.Prepare.{Handed, answerOf, booksOf, callOutcome, finishOutcome}
 use Rattle.prepare.specs.Driver.{Sound}
 use Rattle.prepare.specs.Steps.{guarded-is, back}
@@ -57,7 +58,7 @@ fit-zero l f =
 
 stays-books : (handed : Handed) → Sound (handed .books) → (o : Outcome) → Sound (booksOf handed o)
 stays-books handed s (refused why) = s
-stays-books handed s (told e c n) = sound-after s e
+stays-books handed s (told e c n) = sound-after s (handed .second) e
 stays-books handed s (hungry c n) = s
 stays-books handed s (done c) = s
 
@@ -104,8 +105,8 @@ module _ (l : Lent) (f : Fit l) where
   pub finish-is-zero : finishNumber l ≡ 0
   finish-is-zero = finish-number l ∙ fit-zero l f
 
-pub fit-anew : {l : Lent} {log told header : List ℕ} → Rooms log told header → Fit l → Fit (lentAnew l log told header)
-fit-anew r f = record {
+pub fit-anew : {l : Lent} {log told header : List ℕ} (second : ℕ) → Rooms log told header → Fit l → Fit (lentAnew l log told header second)
+fit-anew second r f = record {
   there = record { tray-room = f .there .tray-room; desk-room = f .there .desk-room; told-room = r .told-room; header-room = r .header-room };
   log-room = r .log-room;
   ready = f .ready;
@@ -115,20 +116,20 @@ pub called-fit : {lent l : Lent} → Called lent l → Fit lent → Fit l
 called-fit Called.none-yet f = f
 called-fit (Called.a-call {l} k p) f = call-fit l (called-fit k f) p
 called-fit (Called.a-finish {l} k) f = finish-fit l (called-fit k f)
-called-fit (Called.lent-anew {l} r k) f = fit-anew r (called-fit k f)
+called-fit (Called.lent-anew {l} second r k) f = fit-anew second r (called-fit k f)
 
 -- the calls that are heard are such calls
-pub feeds-called : {lent l l₁ : Lent} {c : Caller} {ps : List (List ℕ)} {hs : List Heard} → Feeds c l ps hs l₁ → Called lent l → Called lent l₁
+pub feeds-called : {lent l l₁ : Lent} {c : Caller} {seconds : Seconds} {ps : List (List ℕ)} {hs : List Heard} → Feeds c seconds l ps hs l₁ → Called lent l → Called lent l₁
 feeds-called Feeds.no-more k = k
-feeds-called (Feeds.an-event {p = p} q w f) k = feeds-called f (Called.a-call k p)
+feeds-called (Feeds.an-event {p = p} q w i f) k = feeds-called f (Called.a-call k p)
 feeds-called (Feeds.all-used {p = p} q w f) k = feeds-called f (Called.a-call k p)
 feeds-called (Feeds.passed-over g f) k = feeds-called f k
-feeds-called (Feeds.lent-anew r f) k = feeds-called f (Called.lent-anew r k)
+feeds-called (Feeds.lent-anew {second = second} r f) k = feeds-called f (Called.lent-anew second r k)
 
-pub closes-called : {lent l l₁ : Lent} {hs : List Heard} → Closes l hs l₁ → Called lent l → Called lent l₁
-closes-called (Closes.an-event q w f) k = closes-called f (Called.a-finish k)
+pub closes-called : {lent l l₁ : Lent} {seconds : Seconds} {hs : List Heard} → Closes seconds l hs l₁ → Called lent l → Called lent l₁
+closes-called (Closes.an-event q w i f) k = closes-called f (Called.a-finish k)
 closes-called (Closes.is-done q w) k = Called.a-finish k
-closes-called (Closes.lent-anew r f) k = closes-called f (Called.lent-anew r k)
+closes-called (Closes.lent-anew {second = second} r f) k = closes-called f (Called.lent-anew second r k)
 
 -- ---- the start is fit
 
@@ -225,24 +226,24 @@ module _ (l : Lent) where
         ap (λ x. drop deskRoom (x .desk)) e ∙ beyond-desk (a .said) (a .desk) (l .desk),
       )
 
-pub feeds-beyond : {c : Caller} {l l₁ : Lent} {ps : List (List ℕ)} {hs : List Heard} → Feeds c l ps hs l₁
+pub feeds-beyond : {c : Caller} {seconds : Seconds} {l l₁ : Lent} {ps : List (List ℕ)} {hs : List Heard} → Feeds c seconds l ps hs l₁
     → (drop trayRoom (l₁ .tray) ≡ drop trayRoom (l .tray)) × (drop deskRoom (l₁ .desk) ≡ drop deskRoom (l .desk))
 feeds-beyond Feeds.no-more = (refl, refl)
-feeds-beyond (Feeds.an-event {l} {p = p} q k f) = let x = feeds-beyond f in let y = call-beyond l p q in (x .0 ∙ y .0, x .1 ∙ y .1)
-feeds-beyond (Feeds.all-used {l} {p = p} q k f) = let x = feeds-beyond f in let y = call-beyond l p q in (x .0 ∙ y .0, x .1 ∙ y .1)
+feeds-beyond (Feeds.an-event {l = l} {p = p} q k i f) = let x = feeds-beyond f in let y = call-beyond l p q in (x .0 ∙ y .0, x .1 ∙ y .1)
+feeds-beyond (Feeds.all-used {l = l} {p = p} q k f) = let x = feeds-beyond f in let y = call-beyond l p q in (x .0 ∙ y .0, x .1 ∙ y .1)
 feeds-beyond (Feeds.passed-over g f) = feeds-beyond f
 feeds-beyond (Feeds.lent-anew r f) = feeds-beyond f
 
 -- the last finish writes the numbers of both states
-pub closes-numbers : {l l₁ : Lent} {hs : List Heard} → Closes l hs l₁
+pub closes-numbers : {seconds : Seconds} {l l₁ : Lent} {hs : List Heard} → Closes seconds l hs l₁
     → (l₁ .tray ≡ trayOf (stateIn l₁ .tray) ++ drop trayRoom (l .tray)) × (l₁ .desk ≡ deskOf (booksLent l₁ .desk) ++ drop deskRoom (l .desk))
 unfolding laid stateSaid trayOf deskOf
-closes-numbers (Closes.an-event {l} {l₁} q k f) =
+closes-numbers (Closes.an-event {l = l} {l₁} q k i f) =
     let x = closes-numbers f in
     let y = finish-beyond l q in
     (x .0 ∙ ap (λ r. trayOf (stateIn l₁ .tray) ++ r) (y .0), x .1 ∙ ap (λ r. deskOf (booksLent l₁ .desk) ++ r) (y .1))
 closes-numbers (Closes.lent-anew r f) = closes-numbers f
-closes-numbers (Closes.is-done {l} q k) =
+closes-numbers (Closes.is-done {l = l} q k) =
     let z = finish-parts l q in
     let e = finish-left l (z .0) in
     let n = sym (next-finish l (z .0)) in

@@ -16,11 +16,12 @@ use Rattle.stream.specs.Driver.{hurries}
 use Rattle.prepare.specs.declared.Said.{Said}
 use Rattle.prepare.specs.declared.Said.the-variants as said
 use Rattle.prepare.specs.Uncut as uncut
+use Rattle.prepare.specs.Uncut.{Seconds}
 use Rattle.prepare.specs.Prepare.{Handed, noRoom, isSound, saidOf, answerOf, resultOf, callOutcome}
 use Rattle.prepare.specs.Steps.{Says}
 use Rattle.export.specs.Numbers.{laid}
 use Rattle.exportprepare.specs.Prepares.{Lent, handedIn, callResult, eventOf, toldSaid, toldAnswer, numberBy, lentBy, callNumber, callLeaves}
-use Rattle.exportprepare.specs.Driver.{Heard, eventIn, usedIn, Hears, Feeds, FeedsStream}
+use Rattle.exportprepare.specs.Driver.{Heard, eventIn, usedIn, Hears, InTime, laterBy, Feeds, FeedsStream}
 use Rattle.exportprepare.specs.Driving.{counts, call-left, call-parts, hears-says, hungry-said}
 
 -- an event comes as well of the bytes used alone; hungry: all bytes are used
@@ -109,7 +110,7 @@ not-hungry (uncut.noise count) q = let z : _≡_ {A = ℕ} 0 1 = cc in omega ari
 
 hungry-used : (handed : Handed) (F : List ℕ → Outcome) (p : List ℕ) (o : Outcome) → Cut F p o → answerOf handed o .said ≡ said.Hungry → answerOf handed o .used ≡ length p
 hungry-used handed F p (refused why) m q = let z : _≡_ {A = ℕ} 0 1 = cc in absurd (omega arith)
-hungry-used handed F p (told e c u) m q = absurd (not-hungry (uncut.toldOf (handed .books) e) q)
+hungry-used handed F p (told e c u) m q = absurd (not-hungry (uncut.toldOf (handed .books) (handed .second) e) q)
 hungry-used handed F p (hungry c u) m q = m
 hungry-used handed F p (done c) m q = let z : _≡_ {A = ℕ} 0 1 = cc in absurd (omega arith)
 
@@ -150,21 +151,22 @@ module _ (l : Lent) (p : List ℕ) (q : callNumber l p ≡ 0) where
     same-left = ap (λ o. lentBy l (resultOf (handedIn l) o)) (on-used .0)
 
     -- the event on the bytes used, and the next portion
-    on-portion : {l₁ : Lent} {ps : List (List ℕ)} {hs : List Heard} → Feeds hurries (callLeaves l p) ps hs l₁ → Feeds hurries l (take used p ∷ ps) (h ∷ hs) l₁
-    on-portion {l₁} {ps} {hs} f =
-        let none-left = subst (λ r. Feeds hurries (callLeaves l p) (r ∷ ps) hs l₁) (sym (left-over used p)) (Feeds.passed-over tt f) in
-        Feeds.an-event (same-number ∙ q) (subst (λ x. Hears x h) (sym same-left) k)
-        (subst (λ x. Feeds hurries x (drop (usedIn x) (take used p) ∷ ps) hs l₁) (sym same-left) none-left)
+    on-portion : {seconds : Seconds} {l₁ : Lent} {ps : List (List ℕ)} {hs : List Heard} → InTime h (l .second) seconds → Feeds hurries (laterBy h seconds) (callLeaves l p) ps hs l₁
+        → Feeds hurries seconds l (take used p ∷ ps) (h ∷ hs) l₁
+    on-portion {seconds} {l₁} {ps} {hs} i f =
+        let none-left = subst (λ r. Feeds hurries (laterBy h seconds) (callLeaves l p) (r ∷ ps) hs l₁) (sym (left-over used p)) (Feeds.passed-over tt f) in
+        Feeds.an-event (same-number ∙ q) (subst (λ x. Hears x h) (sym same-left) k) i
+        (subst (λ x. Feeds hurries (laterBy h seconds) x (drop (usedIn x) (take used p) ∷ ps) hs l₁) (sym same-left) none-left)
 
-pub into-portions : {l l₁ : Lent} {left : List ℕ} {hs : List Heard} → FeedsStream l left hs l₁
-    → (portions : List (List ℕ)) × (Feeds hurries l portions hs l₁) × (flatten portions ≡ left)
+pub into-portions : {seconds : Seconds} {l l₁ : Lent} {left : List ℕ} {hs : List Heard} → FeedsStream seconds l left hs l₁
+    → (portions : List (List ℕ)) × (Feeds hurries seconds l portions hs l₁) × (flatten portions ≡ left)
 unfolding flatten
 into-portions FeedsStream.no-more = ([], Feeds.no-more, refl)
-into-portions (FeedsStream.an-event {l} {left = left} {h} n q k f) =
+into-portions (FeedsStream.an-event {l = l} {left = left} {h} n q k i f) =
     let p = take n left in
     let x = into-portions f in
-    (take (used l p q) p ∷ x .0, on-portion l p q h k (x .1), ap (λ r. take (used l p q) p ++ r) (x .2) ∙ cut-at (used l p q) n left (on-used l p q h k .1))
-into-portions (FeedsStream.all-used {l} {left = left} n q k f) =
+    (take (used l p q) p ∷ x .0, on-portion l p q h k i (x .1), ap (λ r. take (used l p q) p ++ r) (x .2) ∙ cut-at (used l p q) n left (on-used l p q h k .1))
+into-portions (FeedsStream.all-used {l = l} {left = left} n q k f) =
     let p = take n left in
     let x = into-portions f in
     let u = all-of-it l p q k in

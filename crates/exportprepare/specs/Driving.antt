@@ -17,6 +17,7 @@ use Rattle.desk.specs.Take as desk
 use Rattle.prepare.specs.declared.Said.{Said}
 use Rattle.prepare.specs.declared.Said.the-variants as said
 use Rattle.prepare.specs.Uncut as uncut
+use Rattle.prepare.specs.Uncut.{Seconds}
 use Rattle.prepare.specs.Prepare.{answerOf, saidOf, resultOf, callOutcome, finishOutcome}
 use Rattle.prepare.specs.Driver as driver
 use Rattle.prepare.specs.Steps.{Says}
@@ -28,15 +29,15 @@ use Rattle.exportprepare.specs.Prepares as prepares
 use Rattle.exportprepare.specs.Prepares.{Lent, toldRoom, handedIn, noRoom, callResult, finishResult, eventOf, toldSaid, toldAnswer, headerSaid, stateSaid, numberBy, lentBy, callNumber, callLeaves, finishNumber, finishLeaves}
 use Rattle.exportprepare.specs.Puts.{AllThere}
 use Rattle.exportprepare.specs.Refusals.{isShort, refusalOf, neither, told-zero, call-number, finish-number}
-use Rattle.exportprepare.specs.NextState.{stateIn, next-call, next-finish}
-use Rattle.exportprepare.specs.Driver.{Heard, eventIn, usedIn, Hears, a-frame, some-noise, Feeds, Closes, heardOf, heardAll}
+use Rattle.exportprepare.specs.NextState.{stateIn, givenIn, next-call, next-finish}
+use Rattle.exportprepare.specs.Driver.{Heard, eventIn, usedIn, Hears, a-frame, some-noise, InTime, laterBy, laterAll, Feeds, Closes, heardOf, heardAll}
 
 -- ---- an event of the call in numbers, and read from them
 
-module _ (bytes tray desk live run log told₀ header₀ : List ℕ) (used : ℕ) where
+module _ (bytes tray desk live run log told₀ header₀ : List ℕ) (second₀ used : ℕ) where
   abbrev heardLent : uncut.Told → Lent
   heardLent t =
-      prepares.lends bytes tray desk live run log (laid (toldSaid (saidOf t) used (length (uncut.entriesOf t)) .numbers) told₀) (laid (headerSaid (saidOf t)) header₀)
+      prepares.lends bytes tray desk live run log (laid (toldSaid (saidOf t) used (length (uncut.entriesOf t)) .numbers) told₀) (laid (headerSaid (saidOf t)) header₀) second₀
 
   abbrev TellsOf : uncut.Told → uncut.Told → Type 0
   TellsOf t u = driver.Tells (saidOf t) (length (uncut.entriesOf t)) bytes log u
@@ -124,10 +125,10 @@ module _ (l : Lent) where
   unfolding toldAnswer toldSaid eventOf laid
   hears-says (refused why) q h k = absurd (omega (arith, counts why))
   hears-says (told e c n) q h k =
-      let t = uncut.toldOf (handedIn l .books) e in
+      let t = uncut.toldOf (handedIn l .books) (l .second) e in
       let o = told e c n in
-      let w = hears-told (leftBy o .bytes) (leftBy o .tray) (leftBy o .desk) (leftBy o .live) (leftBy o .run) (leftBy o .log) (l .told) (l .header) n t h k in
-      (w .0, w .1, w .2, used-told (leftBy o .bytes) (leftBy o .tray) (leftBy o .desk) (leftBy o .live) (leftBy o .run) (leftBy o .log) (l .told) (l .header) n t)
+      let w = hears-told (leftBy o .bytes) (leftBy o .tray) (leftBy o .desk) (leftBy o .live) (leftBy o .run) (leftBy o .log) (l .told) (l .header) (l .second) n t h k in
+      (w .0, w .1, w .2, used-told (leftBy o .bytes) (leftBy o .tray) (leftBy o .desk) (leftBy o .live) (leftBy o .run) (leftBy o .log) (l .told) (l .header) (l .second) n t)
   hears-says (hungry c n) q h (a-frame e) = absurd (omega arith)
   hears-says (hungry c n) q h (some-noise e) = absurd (omega arith)
   hears-says (done c) q h (a-frame e) = absurd (omega arith)
@@ -138,10 +139,10 @@ module _ (l : Lent) where
   says-hears (refused why) t k = absurd k
   says-hears (told e c n) t k =
       let o = told e c n in
-      let u = uncut.toldOf (handedIn l .books) e in (
+      let u = uncut.toldOf (handedIn l .books) (l .second) e in (
         told-zero u n (length (uncut.entriesOf u)),
-        told-hears (leftBy o .bytes) (leftBy o .tray) (leftBy o .desk) (leftBy o .live) (leftBy o .run) (leftBy o .log) (l .told) (l .header) n u t k,
-        used-told (leftBy o .bytes) (leftBy o .tray) (leftBy o .desk) (leftBy o .live) (leftBy o .run) (leftBy o .log) (l .told) (l .header) n u,
+        told-hears (leftBy o .bytes) (leftBy o .tray) (leftBy o .desk) (leftBy o .live) (leftBy o .run) (leftBy o .log) (l .told) (l .header) (l .second) n u t k,
+        used-told (leftBy o .bytes) (leftBy o .tray) (leftBy o .desk) (leftBy o .live) (leftBy o .run) (leftBy o .log) (l .told) (l .header) (l .second) n u,
       )
   says-hears (hungry c n) t k = absurd k
   says-hears (done c) t k = absurd k
@@ -237,39 +238,66 @@ module _ (l : Lent) where
 
 -- ---- from calls as they are heard to calls of `prepare`
 
-pub feeds-so : {c : Caller} {l l₁ : Lent} {ps : List (List ℕ)} {hs : List Heard} → Feeds c l ps hs l₁
-    → (ts : List uncut.Told) × (driver.Feeds c (stateIn l) ps ts (stateIn l₁)) × (hs ≡ heardAll ts)
+-- what is heard in time is told in time
+in-time : (t : uncut.Told) (second : ℕ) (seconds : Seconds) → InTime (heardOf t) second seconds → driver.InTime t second seconds
+in-time (uncut.accepted header bytes entries) second seconds i = i
+in-time (uncut.refused header bytes why) second seconds i = i
+in-time (uncut.noise count) second seconds i = tt
+
+later-told : (t : uncut.Told) (seconds : Seconds) → laterBy (heardOf t) seconds ≡ driver.laterBy t seconds
+later-told (uncut.accepted header bytes entries) seconds = refl
+later-told (uncut.refused header bytes why) seconds = refl
+later-told (uncut.noise count) seconds = refl
+
+pub later-all : (ts : List uncut.Told) (seconds : Seconds) → laterAll (heardAll ts) seconds ≡ driver.laterAll ts seconds
+unfolding heardAll laterAll driver.laterAll
+later-all [] seconds = refl
+later-all (t ∷ ts) seconds = ap (laterAll (heardAll ts)) (later-told t seconds) ∙ later-all ts (driver.laterBy t seconds)
+
+module _ (h : Heard) (t : uncut.Told) (e : h ≡ heardOf t) (second : ℕ) (seconds : Seconds) where
+  told-in-time : InTime h second seconds → driver.InTime t second seconds
+  told-in-time i = in-time t second seconds (subst (λ h. InTime h second seconds) e i)
+
+  later-so : laterBy h seconds ≡ driver.laterBy t seconds
+  later-so = ap (λ h. laterBy h seconds) e ∙ later-told t seconds
+
+pub feeds-so : {c : Caller} {seconds : Seconds} {l l₁ : Lent} {ps : List (List ℕ)} {hs : List Heard} → Feeds c seconds l ps hs l₁
+    → (ts : List uncut.Told) × (driver.Feeds c seconds (stateIn l) ps ts (stateIn l₁)) × (hs ≡ heardAll ts)
 unfolding heardAll
 feeds-so Feeds.no-more = ([], driver.Feeds.no-more, refl)
-feeds-so {c} (Feeds.an-event {l} {l₁} {p} {ps} {h} {hs} q k f) =
+feeds-so {c} (Feeds.an-event {seconds} {l} {l₁} {p} {ps} {h} {hs} q k i f) =
     let z = call-parts l p q in
     let o = callOutcome (handedIn l) p in
     let w = hears-says l o (z .1) h (subst (λ x. Hears x h) (call-left l (z .0) p) k) in
     let x = feeds-so f in
-    let y = subst (λ s. driver.Feeds c s (drop (usedIn (callLeaves l p)) p ∷ ps) (x .0) (stateIn l₁)) (next-call l (z .0) p) (x .1) in
-    let u = subst (λ n. driver.Feeds c (driver.callLeaves (stateIn l) (l .log) p) (drop n p ∷ ps) (x .0) (stateIn l₁)) (ap (λ x. usedIn x) (call-left l (z .0) p) ∙ w .3) y in
-    (w .0 ∷ x .0, driver.Feeds.an-event (l .log) (number-room l (sym (call-number l p) ∙ q)) (w .1) u, ap₂ (λ h hs. h ∷ hs) (w .2) (x .2))
-feeds-so {c} (Feeds.all-used {l} {l₁} {p} {ps} {hs} q k f) =
+    let y = subst (λ s. driver.Feeds c (laterBy h seconds) s (drop (usedIn (callLeaves l p)) p ∷ ps) (x .0) (stateIn l₁)) (next-call l (z .0) p) (x .1) in
+    let u = subst (λ n. driver.Feeds c (laterBy h seconds) (driver.callLeaves (stateIn l) (givenIn l) p) (drop n p ∷ ps) (x .0) (stateIn l₁)) (ap (λ x. usedIn x) (call-left l (z .0) p) ∙ w .3) y in
+    let v = subst (λ n. driver.Feeds c n (driver.callLeaves (stateIn l) (givenIn l) p) (drop (driver.callSays (stateIn l) (givenIn l) p .used) p ∷ ps) (x .0) (stateIn l₁))
+    (later-so h (w .0) (w .2) (l .second) seconds) u in
+    (w .0 ∷ x .0, driver.Feeds.an-event (givenIn l) (number-room l (sym (call-number l p) ∙ q)) (w .1) (told-in-time h (w .0) (w .2) (l .second) seconds i) v, ap₂ (λ h hs. h ∷ hs) (w .2) (x .2))
+feeds-so {c} (Feeds.all-used {seconds} {l} {l₁} {p} {ps} {hs} q k f) =
     let z = call-parts l p q in
     let o = callOutcome (handedIn l) p in
     let w = hungry-said l o (z .1) (ap (λ x. eventIn x) (sym (call-left l (z .0) p)) ∙ k) in
     let x = feeds-so f in
-    let y = subst (λ s. driver.Feeds c s ps (x .0) (stateIn l₁)) (next-call l (z .0) p) (x .1) in
-    (x .0, driver.Feeds.all-used (l .log) (number-room l (sym (call-number l p) ∙ q)) w y, x .2)
+    let y = subst (λ s. driver.Feeds c seconds s ps (x .0) (stateIn l₁)) (next-call l (z .0) p) (x .1) in
+    (x .0, driver.Feeds.all-used (givenIn l) (number-room l (sym (call-number l p) ∙ q)) w y, x .2)
 feeds-so (Feeds.passed-over g f) = let x = feeds-so f in (x .0, driver.Feeds.passed-over g (x .1), x .2)
 feeds-so (Feeds.lent-anew r f) = feeds-so f
 
-pub closes-so : {l l₁ : Lent} {hs : List Heard} → Closes l hs l₁ → (ts : List uncut.Told) × (driver.Closes (stateIn l) ts (stateIn l₁)) × (hs ≡ heardAll ts)
+pub closes-so : {seconds : Seconds} {l l₁ : Lent} {hs : List Heard} → Closes seconds l hs l₁
+    → (ts : List uncut.Told) × (driver.Closes seconds (stateIn l) ts (stateIn l₁)) × (hs ≡ heardAll ts)
 unfolding heardAll
-closes-so (Closes.an-event {l} {l₁} {h} {hs} q k f) =
+closes-so (Closes.an-event {seconds} {l} {l₁} {h} {hs} q k i f) =
     let z = finish-parts l q in
     let o = finishOutcome (handedIn l) in
     let w = hears-says l o (z .1) h (subst (λ x. Hears x h) (finish-left l (z .0)) k) in
     let x = closes-so f in
-    let y = subst (λ s. driver.Closes s (x .0) (stateIn l₁)) (next-finish l (z .0)) (x .1) in
-    (w .0 ∷ x .0, driver.Closes.an-event (l .log) (number-room l (sym (finish-number l) ∙ q)) (w .1) y, ap₂ (λ h hs. h ∷ hs) (w .2) (x .2))
-closes-so (Closes.is-done {l} q k) =
+    let y = subst (λ s. driver.Closes (laterBy h seconds) s (x .0) (stateIn l₁)) (next-finish l (z .0)) (x .1) in
+    let v = subst (λ n. driver.Closes n (driver.finishLeaves (stateIn l) (givenIn l)) (x .0) (stateIn l₁)) (later-so h (w .0) (w .2) (l .second) seconds) y in
+    (w .0 ∷ x .0, driver.Closes.an-event (givenIn l) (number-room l (sym (finish-number l) ∙ q)) (w .1) (told-in-time h (w .0) (w .2) (l .second) seconds i) v, ap₂ (λ h hs. h ∷ hs) (w .2) (x .2))
+closes-so (Closes.is-done {seconds} {l} q k) =
     let z = finish-parts l q in
     let w = done-said l (finishOutcome (handedIn l)) (z .1) (ap (λ x. eventIn x) (sym (finish-left l (z .0))) ∙ k) in
-    ([], subst (λ s. driver.Closes (stateIn l) [] s) (sym (next-finish l (z .0))) (driver.Closes.is-done (l .log) (number-room l (sym (finish-number l) ∙ q)) w), refl)
+    ([], subst (λ s. driver.Closes seconds (stateIn l) [] s) (sym (next-finish l (z .0))) (driver.Closes.is-done (givenIn l) (number-room l (sym (finish-number l) ∙ q)) w), refl)
 closes-so (Closes.lent-anew r f) = closes-so f

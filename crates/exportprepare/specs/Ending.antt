@@ -17,6 +17,7 @@ use Rattle.stream.specs.Machine.{Fed, onList, scan-reading}
 use Rattle.stream.specs.Kept.{Good}
 use Rattle.stream.specs.Steps.{liveOf, called-is, call-kept, end-kept, call-fed, end-ended, event-step, hungry-step, call-says, end-says}
 use Rattle.prepare.specs.Uncut as uncut
+use Rattle.prepare.specs.Uncut.{Seconds}
 use Rattle.prepare.specs.Prepare.{answerOf, callOutcome, finishOutcome}
 use Rattle.prepare.specs.Steps.{guarded-is, back, tells-so, hungry-is, done-is}
 use Rattle.export.specs.Numbers.{laid}
@@ -24,7 +25,7 @@ use Rattle.export.specs.Streams.{trayIn}
 use Rattle.export.specs.Back.{tray-back}
 use Rattle.exportprepare.specs.Prepares.{Lent, handedIn, noRoom, eventOf, toldSaid, toldAnswer, stateSaid, callLeaves, finishLeaves}
 use Rattle.exportprepare.specs.NextState.{next-call, next-finish}
-use Rattle.exportprepare.specs.Driver.{Heard, eventIn, usedIn, Hears, a-frame, some-noise, Feeds, FeedsStream, Closes, heardOf}
+use Rattle.exportprepare.specs.Driver.{Heard, frame, noise, eventIn, usedIn, Hears, a-frame, some-noise, InTime, laterBy, laterAll, Feeds, FeedsStream, Closes, heardOf}
 use Rattle.exportprepare.specs.Lender.{Point, point, Lender, LendsRoom, HasRoom, Cutter, GivesMore, MayStop, lentAt, called, finished, FeedsBy, FeedsStreamBy, ClosesBy}
 use Rattle.exportprepare.specs.Driving.{leftBy, there-room, call-left, finish-left, says-hears, said-hungry, said-done}
 use Rattle.exportprepare.specs.Cutting.{all-of-it, on-used}
@@ -79,7 +80,7 @@ module _ (l : Lent) (f : Fit l) where
         ⊎-elim
         (λ w.
         let e = w .0 in
-        let t = uncut.toldOf (handedIn l .books) e in
+        let t = uncut.toldOf (handedIn l .books) (l .second) e in
         let s = says-hears l o t (tells-so (handedIn l) o o′ the-stream's good e (w .1) .0) in
         let u : usedIn (callLeaves l p) ≡ answerOf (handedIn l) o .used = ap (λ x. usedIn x) (call-left l room p) ∙ s .2 in
         an-event (heardOf t) (subst (λ x. Hears x (heardOf t)) (sym (call-left l room p)) (s .1))
@@ -110,7 +111,7 @@ module _ (l : Lent) (f : Fit l) where
       ⊎-elim
       (λ w.
       let e = w .0 in
-      let t = uncut.toldOf (handedIn l .books) e in
+      let t = uncut.toldOf (handedIn l .books) (l .second) e in
       let s = says-hears l end t (tells-so (handedIn l) end end′ the-stream's-end (end-kept (l .bytes) tray (f .ready .tray-ready)) e (w .1) .0) in
       let m = back (handedIn l) end end′ the-stream's-end (λ b t u d. length (toTell l []) ≡ suc (length (left b t [])))
       (ap length (finish-event (f .ready .tray-ready) e (w .1))) in
@@ -164,7 +165,7 @@ module _ (lends : Lender) (rooms : LendsRoom lends) where
   has-room x f = rooms x (record { log-room = f .log-room; told-room = f .there .told-room; header-room = f .there .header-room })
 
   fit-lent : (x : Point) → Fit (x .left) → Fit (lentAt lends x)
-  fit-lent x f = fit-anew (has-room x f) f
+  fit-lent x f = fit-anew (lends x .second) (has-room x f) f
 
   pub record FedTo (c : Caller) (x : Point) (ps : List (List ℕ)) : Type 0 where
     pub heard : List Heard
@@ -297,34 +298,93 @@ module _ (lends : Lender) (rooms : LendsRoom lends) where
       let y = idle (lentAt lends x) g t in
       goes-on d (call-fit (lentAt lends x) g []) (y .2) (omega (arith, some, y .1, length-drop (usedIn (called lends x [])) rest))
 
--- ---- such calls are calls of Driver.antt: before each of them the slices are lent anew
+-- ---- such calls are calls of Driver.antt, for some seconds: before each of them the slices are lent anew, and each frame is heard at the second that its call was handed
+
+abbrev first : ℕ → Seconds → Seconds
+first second seconds zero = second
+first second seconds (suc i) = seconds i
+
+abbrev earlier : Heard → ℕ → Seconds → Seconds
+earlier (frame header bytes number entries) second seconds = first second seconds
+earlier (noise count) second seconds = seconds
+
+earlier-time : (h : Heard) (second : ℕ) (seconds : Seconds) → InTime h second (earlier h second seconds)
+earlier-time (frame header bytes number entries) second seconds = refl
+earlier-time (noise count) second seconds = tt
+
+earlier-later : (h : Heard) (second : ℕ) (seconds : Seconds) → laterBy h (earlier h second seconds) ≡ seconds
+earlier-later (frame header bytes number entries) second seconds = refl
+earlier-later (noise count) second seconds = refl
+
+pub record FedAny (c : Caller) (l l₁ : Lent) (ps : List (List ℕ)) (hs : List Heard) (rest : Seconds) : Type 0 where
+  pub seconds : Seconds
+  pub feeds : Feeds c seconds l ps hs l₁
+  pub behind : laterAll hs seconds ≡ rest
+
+pub record FedStreamAny (l l₁ : Lent) (left : List ℕ) (hs : List Heard) (rest : Seconds) : Type 0 where
+  pub seconds : Seconds
+  pub feeds : FeedsStream seconds l left hs l₁
+  pub behind : laterAll hs seconds ≡ rest
+
+pub record ClosedAny (l l₁ : Lent) (hs : List Heard) : Type 0 where
+  pub seconds : Seconds
+  pub closes : Closes seconds l hs l₁
 
 module _ (lends : Lender) (rooms : LendsRoom lends) where
-  pub feeds-any : {c : Caller} {x x₁ : Point} {ps : List (List ℕ)} {hs : List Heard} → FeedsBy c lends x ps hs x₁ → Fit (x .left)
-      → (Feeds c (x .left) ps hs (x₁ .left)) × Fit (x₁ .left)
-  feeds-any FeedsBy.no-more f = (Feeds.no-more, f)
-  feeds-any (FeedsBy.an-event {x} {p = p} q k d) f =
-      let y = feeds-any d (call-fit (lentAt lends x) (fit-lent lends rooms x f) p) in
-      (Feeds.lent-anew (has-room lends rooms x f) (Feeds.an-event q k (y .0)), y .1)
-  feeds-any (FeedsBy.all-used {x} {p = p} q k d) f =
-      let y = feeds-any d (call-fit (lentAt lends x) (fit-lent lends rooms x f) p) in
-      (Feeds.lent-anew (has-room lends rooms x f) (Feeds.all-used q k (y .0)), y .1)
-  feeds-any (FeedsBy.passed-over g d) f = let y = feeds-any d f in (Feeds.passed-over g (y .0), y .1)
+  pub feeds-fit : {c : Caller} {x x₁ : Point} {ps : List (List ℕ)} {hs : List Heard} → FeedsBy c lends x ps hs x₁ → Fit (x .left) → Fit (x₁ .left)
+  feeds-fit FeedsBy.no-more f = f
+  feeds-fit (FeedsBy.an-event {x} {p = p} q k d) f = feeds-fit d (call-fit (lentAt lends x) (fit-lent lends rooms x f) p)
+  feeds-fit (FeedsBy.all-used {x} {p = p} q k d) f = feeds-fit d (call-fit (lentAt lends x) (fit-lent lends rooms x f) p)
+  feeds-fit (FeedsBy.passed-over g d) f = feeds-fit d f
 
-  pub stream-any : {c : Caller} {cuts : Cutter} {x x₁ : Point} {rest : List ℕ} {hs : List Heard} → FeedsStreamBy c lends cuts x rest hs x₁ → Fit (x .left)
-      → (FeedsStream (x .left) rest hs (x₁ .left)) × Fit (x₁ .left)
-  stream-any (FeedsStreamBy.no-more m) f = (FeedsStream.no-more, f)
-  stream-any {cuts = cuts} (FeedsStreamBy.an-event {x} {rest = rest} q k d) f =
-      let y = stream-any d (call-fit (lentAt lends x) (fit-lent lends rooms x f) (take (cuts x rest) rest)) in
-      (FeedsStream.lent-anew (has-room lends rooms x f) (FeedsStream.an-event (cuts x rest) q k (y .0)), y .1)
-  stream-any {cuts = cuts} (FeedsStreamBy.all-used {x} {rest = rest} q k d) f =
-      let y = stream-any d (call-fit (lentAt lends x) (fit-lent lends rooms x f) (take (cuts x rest) rest)) in
-      (FeedsStream.lent-anew (has-room lends rooms x f) (FeedsStream.all-used (cuts x rest) q k (y .0)), y .1)
+  pub feeds-any : {c : Caller} {x x₁ : Point} {ps : List (List ℕ)} {hs : List Heard} → FeedsBy c lends x ps hs x₁ → Fit (x .left) → (rest : Seconds)
+      → FedAny c (x .left) (x₁ .left) ps hs rest
+  unfolding laterAll
+  feeds-any FeedsBy.no-more f rest = record { seconds = rest; feeds = Feeds.no-more; behind = refl }
+  feeds-any {c} (FeedsBy.an-event {x} {x₁} {p} {ps} {h} {hs} q k d) f rest =
+      let y = feeds-any d (call-fit (lentAt lends x) (fit-lent lends rooms x f) p) rest in
+      let n = lends x .second in
+      let z = subst (λ z. Feeds c z (called lends x p) (drop (usedIn (called lends x p)) p ∷ ps) hs (x₁ .left)) (sym (earlier-later h n (y .seconds))) (y .feeds) in
+      record {
+        seconds = earlier h n (y .seconds);
+        feeds = Feeds.lent-anew (has-room lends rooms x f) (Feeds.an-event q k (earlier-time h n (y .seconds)) z);
+        behind = ap (laterAll hs) (earlier-later h n (y .seconds)) ∙ y .behind;
+      }
+  feeds-any (FeedsBy.all-used {x} {p = p} q k d) f rest =
+      let y = feeds-any d (call-fit (lentAt lends x) (fit-lent lends rooms x f) p) rest in
+      record { seconds = y .seconds; feeds = Feeds.lent-anew (has-room lends rooms x f) (Feeds.all-used q k (y .feeds)); behind = y .behind }
+  feeds-any (FeedsBy.passed-over g d) f rest = let y = feeds-any d f rest in record { seconds = y .seconds; feeds = Feeds.passed-over g (y .feeds); behind = y .behind }
 
-  pub closes-any : {x x₁ : Point} {hs : List Heard} → ClosesBy lends x hs x₁ → Fit (x .left) → Closes (x .left) hs (x₁ .left)
-  closes-any (ClosesBy.an-event {x} q k d) f =
-      Closes.lent-anew (has-room lends rooms x f) (Closes.an-event q k (closes-any d (finish-fit (lentAt lends x) (fit-lent lends rooms x f))))
-  closes-any (ClosesBy.is-done {x} q k) f = Closes.lent-anew (has-room lends rooms x f) (Closes.is-done q k)
+  pub stream-fit : {c : Caller} {cuts : Cutter} {x x₁ : Point} {rest : List ℕ} {hs : List Heard} → FeedsStreamBy c lends cuts x rest hs x₁ → Fit (x .left) → Fit (x₁ .left)
+  stream-fit (FeedsStreamBy.no-more m) f = f
+  stream-fit {cuts = cuts} (FeedsStreamBy.an-event {x} {rest = rest} q k d) f = stream-fit d (call-fit (lentAt lends x) (fit-lent lends rooms x f) (take (cuts x rest) rest))
+  stream-fit {cuts = cuts} (FeedsStreamBy.all-used {x} {rest = rest} q k d) f = stream-fit d (call-fit (lentAt lends x) (fit-lent lends rooms x f) (take (cuts x rest) rest))
+
+  pub stream-any : {c : Caller} {cuts : Cutter} {x x₁ : Point} {left : List ℕ} {hs : List Heard} → FeedsStreamBy c lends cuts x left hs x₁ → Fit (x .left) → (rest : Seconds)
+      → FedStreamAny (x .left) (x₁ .left) left hs rest
+  unfolding laterAll
+  stream-any (FeedsStreamBy.no-more m) f rest = record { seconds = rest; feeds = FeedsStream.no-more; behind = refl }
+  stream-any {cuts = cuts} (FeedsStreamBy.an-event {x} {x₁} {left} {h} {hs} q k d) f rest =
+      let p = take (cuts x left) left in
+      let y = stream-any d (call-fit (lentAt lends x) (fit-lent lends rooms x f) p) rest in
+      let n = lends x .second in
+      let z = subst (λ z. FeedsStream z (called lends x p) (drop (usedIn (called lends x p)) left) hs (x₁ .left)) (sym (earlier-later h n (y .seconds))) (y .feeds) in
+      record {
+        seconds = earlier h n (y .seconds);
+        feeds = FeedsStream.lent-anew (has-room lends rooms x f) (FeedsStream.an-event (cuts x left) q k (earlier-time h n (y .seconds)) z);
+        behind = ap (laterAll hs) (earlier-later h n (y .seconds)) ∙ y .behind;
+      }
+  stream-any {cuts = cuts} (FeedsStreamBy.all-used {x} {rest = left} q k d) f rest =
+      let y = stream-any d (call-fit (lentAt lends x) (fit-lent lends rooms x f) (take (cuts x left) left)) rest in
+      record { seconds = y .seconds; feeds = FeedsStream.lent-anew (has-room lends rooms x f) (FeedsStream.all-used (cuts x left) q k (y .feeds)); behind = y .behind }
+
+  pub closes-any : {x x₁ : Point} {hs : List Heard} → ClosesBy lends x hs x₁ → Fit (x .left) → ClosedAny (x .left) (x₁ .left) hs
+  closes-any (ClosesBy.an-event {x} {x₁} {h} {hs} q k d) f =
+      let y = closes-any d (finish-fit (lentAt lends x) (fit-lent lends rooms x f)) in
+      let n = lends x .second in
+      let z = subst (λ z. Closes z (finished lends x) hs (x₁ .left)) (sym (earlier-later h n (y .seconds))) (y .closes) in
+      record { seconds = earlier h n (y .seconds); closes = Closes.lent-anew (has-room lends rooms x f) (Closes.an-event q k (earlier-time h n (y .seconds)) z) }
+  closes-any (ClosesBy.is-done {x} q k) f = record { seconds = λ i. 0; closes = Closes.lent-anew (has-room lends rooms x f) (Closes.is-done q k) }
 
 -- ---- what a lender may look at is all that was heard
 

@@ -1,5 +1,6 @@
--- Definitions to believe: the calls of Driver.antt, with the one who lends the slices where only results are put, and the one who cuts what is left of a stream. What a
--- call is lent and handed may depend on all that was heard before it, and on all that the last call left. So the same slices may be lent again and again.
+-- Definitions to believe: the calls of Driver.antt, with the one who lends the slices where only results are put and says the second, and the one who cuts what is left of a
+-- stream. What a call is lent and handed may depend on all that was heard before it, and on all that the last call left. So the same slices may be lent again and again, and any
+-- clock may give the seconds.
 use mathlib.Core.Path.{_≡_}
 use mathlib.Core.List.{List, [], _∷_, _++_}
 use Prim.Native.Nat.{ℕ, _≤_}
@@ -16,12 +17,13 @@ pub record Point : Type 0 where
 abbrev pub point : (heard : List Heard) → (left : Lent) → Point
 point heard left = record { heard = heard; left = left }
 
--- ---- who lends the log, the places for what is told, and those for a header
+-- ---- who lends the log, the places for what is told, and those for a header, and says the second
 
 pub record Slices : Type 0 where
   pub log : List ℕ
   pub told : List ℕ
   pub header : List ℕ
+  pub second : ℕ
 
 abbrev pub HasRoom : Slices → Type 0
 HasRoom slices = Rooms (slices .log) (slices .told) (slices .header)
@@ -30,13 +32,13 @@ HasRoom slices = Rooms (slices .log) (slices .told) (slices .header)
 abbrev pub Lender : Type 0
 Lender = Point → Slices
 
--- the same slices, lent again and again
-abbrev pub sameAgain : Lender
-sameAgain x = record { log = x .left .log; told = x .left .told; header = x .left .header }
+-- the same slices, lent again and again, and a clock
+abbrev pub sameAgain : (clock : Point → ℕ) → Lender
+sameAgain clock x = record { log = x .left .log; told = x .left .told; header = x .left .header; second = clock x }
 
 -- where the last call left room, there is room in what is lent next
 abbrev pub LendsRoom : Lender → Type 0
-LendsRoom lends = (x : Point) → HasRoom (sameAgain x) → HasRoom (lends x)
+LendsRoom lends = (x : Point) → Rooms (x .left .log) (x .left .told) (x .left .header) → HasRoom (lends x)
 
 -- ---- who cuts the stream: how many of the bytes that are left the next call is handed
 
@@ -61,7 +63,7 @@ portionAt cuts x rest = take (cuts x rest) rest
 
 module _ (lends : Lender) (x : Point) where
   abbrev pub lentAt : Lent
-  lentAt = lentAnew (x .left) (lends x .log) (lends x .told) (lends x .header)
+  lentAt = lentAnew (x .left) (lends x .log) (lends x .told) (lends x .header) (lends x .second)
 
   module _ (input : List ℕ) where
     abbrev pub callAnswers : ℕ

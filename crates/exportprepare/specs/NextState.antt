@@ -41,6 +41,10 @@ state bytes tray books = record { bytes = bytes; tray = tray; books = books }
 abbrev pub stateIn : Lent → State
 stateIn lent = state (lent .bytes) (trayIn (lent .tray)) (handedIn lent .books)
 
+-- and the log and the second beside it
+abbrev pub givenIn : Lent → driver.Lent
+givenIn lent = record { log = lent .log; second = lent .second }
+
 -- ---- an event, hungry or done leaves the states in numbers
 
 state-told : (t : uncut.Told) (numbers : List ℕ) → stateSaid (saidOf t) numbers ≡ numbers
@@ -65,10 +69,10 @@ module _ (lent : Lent) where
   unfolding stateSaid
   next-by s (refused why) g = absurd g
   next-by s (told event contents used) g =
-      let t : uncut.Told = uncut.toldOf (handedIn lent .books) event in
-      let books : Held = uncut.booksAfter (handedIn lent .books) event in
+      let t : uncut.Told = uncut.toldOf (handedIn lent .books) (lent .second) event in
+      let books : Held = uncut.booksAfter (handedIn lent .books) (lent .second) event in
       states-back (stream.laid (lent .bytes) (contents .held)) _ _ contents books (state-told t (trayOf (stream.trayOf contents))) (state-told t (deskOf (books .desk)))
-      (event-noise event contents g) (sound-after s event .is-sound)
+      (event-noise event contents g) (sound-after s (lent .second) event .is-sound)
   next-by s (hungry contents used) g = states-back (stream.laid (lent .bytes) (contents .held)) _ _ contents (handedIn lent .books) refl refl (g .noise-less) (s .is-sound)
   next-by s (done contents) g =
       states-back (stream.laid (lent .bytes) (contents .held)) _ _ contents (handedIn lent .books) refl refl (omega (arith, ap (λ c. c .noise) g)) (s .is-sound)
@@ -94,14 +98,14 @@ module _ (lent : Lent) where
 -- ---- the theorems, refusals included; where a slice of numbers is short, nothing changes (specs/Refusals.antt)
 
 module _ (lent : Lent) (room : noRoom (lent .tray) (lent .desk) (lent .told) (lent .header) ≡ false) where
-  pub next-call : (input : List ℕ) → stateIn (callLeaves lent input) ≡ driver.callLeaves (stateIn lent) (lent .log) input
+  pub next-call : (input : List ℕ) → stateIn (callLeaves lent input) ≡ driver.callLeaves (stateIn lent) (givenIn lent) input
   unfolding callLeaves lentBy callResult callOutcome
   next-call input =
       rw room
       (next-guarded lent (called (lent .bytes) (trayIn (lent .tray)) input)
       (λ h s. call-kept (lent .bytes) (trayIn (lent .tray)) input (record { room = h; is-sound = s })))
 
-  pub next-finish : stateIn (finishLeaves lent) ≡ driver.finishLeaves (stateIn lent) (lent .log)
+  pub next-finish : stateIn (finishLeaves lent) ≡ driver.finishLeaves (stateIn lent) (givenIn lent)
   unfolding finishLeaves lentBy finishResult finishOutcome
   next-finish =
       rw room

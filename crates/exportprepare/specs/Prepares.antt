@@ -14,7 +14,7 @@ use Rattle.prepare.specs.declared.Answer.{Answer}
 use Rattle.prepare.specs.Prepare.{Handed, hands, Result, byCall, byFinish}
 use Rattle.exportdesk.specs.States.{deskRoom, deskIn, deskOf}
 
--- the tray's bytes and numbers, the desk's numbers, the bytes of its two books, the log, and places for what is told and for a header
+-- the tray's bytes and numbers, the desk's numbers, the bytes of its two books, the log, and places for what is told and for a header; and the second that is handed over with them
 pub record Lent : Type 0 where
   pub bytes : List ℕ
   pub tray : List ℕ
@@ -24,10 +24,11 @@ pub record Lent : Type 0 where
   pub log : List ℕ
   pub told : List ℕ
   pub header : List ℕ
+  pub second : ℕ
 
-abbrev pub lends : (bytes tray desk live run log told header : List ℕ) → Lent
-lends bytes tray desk live run log told header =
-    record { bytes = bytes; tray = tray; desk = desk; live = live; run = run; log = log; told = told; header = header }
+abbrev pub lends : (bytes tray desk live run log told header : List ℕ) → (second : ℕ) → Lent
+lends bytes tray desk live run log told header second =
+    record { bytes = bytes; tray = tray; desk = desk; live = live; run = run; log = log; told = told; header = header; second = second }
 
 -- the places of what is told
 abbrev pub toldRoom : ℕ
@@ -41,7 +42,7 @@ noRoom tray desk told header =
 -- ---- the call below, on the tray and the desk that the numbers say: its answer, and the four slices of bytes then
 
 abbrev pub handedIn : Lent → Handed
-handedIn lent = hands (lent .bytes) (trayIn (lent .tray)) (deskIn (lent .desk)) (lent .live) (lent .run) (lent .log)
+handedIn lent = hands (lent .bytes) (trayIn (lent .tray)) (deskIn (lent .desk)) (lent .live) (lent .run) (lent .log) (lent .second)
 
 unfoldable pub callResult : Lent → (input : List ℕ) → Result
 callResult lent input = byCall (handedIn lent) input
@@ -100,6 +101,7 @@ leaves lent result = record {
   log = result .log;
   told = laid (toldAnswer (result .answer) .numbers) (lent .told);
   header = laid (headerSaid (result .answer .said)) (lent .header);
+  second = lent .second;
 }
 
 unfoldable pub lentBy : Lent → Result → Lent

@@ -50,7 +50,7 @@ module _ (lent : Lent) where
   good-zero : (o : Outcome) → Good o → toldAnswer (resultOf (handedIn lent) o .answer) .number ≡ 0
   unfolding toldAnswer toldSaid
   good-zero (refused why) g = absurd g
-  good-zero (told event contents used) g = told-zero (uncut.toldOf (handedIn lent .books) event) used _
+  good-zero (told event contents used) g = told-zero (uncut.toldOf (handedIn lent .books) (lent .second) event) used _
   good-zero (hungry contents used) g = refl
   good-zero (done contents) g = refl
 
@@ -74,7 +74,7 @@ module _ (lent : Lent) where
       go : (a : Bool) (o : Outcome) → (cond a 9 (toldAnswer (resultOf (handedIn lent) o .answer) .number) ≡ 0 → ⊥) → cond a lent (prepares.leaves lent (resultOf (handedIn lent) o)) ≡ lent
       go true o h = refl
       go false (refused why) h = refl
-      go false (told event contents used) h = absurd (h (told-zero (uncut.toldOf (handedIn lent .books) event) used _))
+      go false (told event contents used) h = absurd (h (told-zero (uncut.toldOf (handedIn lent .books) (lent .second) event) used _))
       go false (hungry contents used) h = absurd (h refl)
       go false (done contents) h = absurd (h refl)
 

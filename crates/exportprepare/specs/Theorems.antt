@@ -1,6 +1,6 @@
 -- The theorems of crate prepare for calls of `prepare` for other languages in a row, on what is lent and as it is heard: "A byte stream cut into portions anywhere, some
 -- empty, gives the frames, noise counts, run log and closing state that document 01 lays down for the uncut stream. Each residual is placed by the area definition in
--- force when its run opened." They are about the definitions that the contracts of homralgyu_prepare_call and homralgyu_prepare_finish cite. Proved; assumes nothing.
+-- force when its run opened", "for equal frames with equal seconds". They are about the definitions that the contracts of homralgyu_prepare_call and homralgyu_prepare_finish cite. Proved; assumes nothing.
 use mathlib.Core.Path.{_≡_, refl, sym, ap, ap₂, _∙_, subst}
 use mathlib.Core.Bool.{false}
 use mathlib.Core.List.{List, [], _∷_, _++_, flatten}
@@ -21,7 +21,7 @@ use Rattle.desk.specs.Desk.{newDesk, deskSound}
 use Rattle.desk.specs.History.{Held, Snapshot, KeptOn}
 use Rattle.desk.specs.Theorems.{new-sound}
 use Rattle.prepare.specs.Uncut as uncut
-use Rattle.prepare.specs.Uncut.{uncutTold, uncutLog, uncutBooks, runLog}
+use Rattle.prepare.specs.Uncut.{Seconds, uncutTold, uncutLog, uncutBooks, runLog}
 use Rattle.prepare.specs.Prepare.{booksIn}
 use Rattle.prepare.specs.Driver.{start}
 use Rattle.prepare.specs.Driver as driver
@@ -34,12 +34,12 @@ use Rattle.exportdesk.specs.Desks.{toldNew, soundOf}
 use Rattle.exportdesk.specs.Theorems.{reads-back}
 use Rattle.exportprepare.specs.Prepares.{Lent, callNumber, finishNumber}
 use Rattle.exportprepare.specs.NextState.{state, stateIn}
-use Rattle.exportprepare.specs.Driver.{Heard, Feeds, FeedsStream, Closes, Whole, Called, none-yet, Starts, booksLent, Ends, heardOf, heardAll, entriesOf, logHeard}
-use Rattle.exportprepare.specs.Lender.{point, Lender, sameAgain, LendsRoom, Cutter, GivesMore, WholeBy, WholeStreamBy}
-use Rattle.exportprepare.specs.Driving.{counts, no-number, longer, feeds-so, closes-so}
+use Rattle.exportprepare.specs.Driver.{Heard, laterAll, Feeds, FeedsStream, Closes, Whole, Called, none-yet, Starts, booksLent, Ends, heardOf, heardAll, entriesOf, logHeard}
+use Rattle.exportprepare.specs.Lender.{Point, point, Lender, sameAgain, LendsRoom, Cutter, GivesMore, WholeBy, WholeStreamBy}
+use Rattle.exportprepare.specs.Driving.{counts, no-number, longer, later-all, feeds-so, closes-so}
 use Rattle.exportprepare.specs.Cutting.{into-portions}
 use Rattle.exportprepare.specs.Along.{fresh-tray, sound-whole, starts-sound, starts-fit, call-is-zero, finish-is-zero, called-fit, feeds-called, closes-called, feeds-beyond, closes-numbers}
-use Rattle.exportprepare.specs.Ending.{feeds-end, closes-end, stream-end, goes-on, feeds-any, stream-any, closes-any, feeds-before, stream-before, closes-before}
+use Rattle.exportprepare.specs.Ending.{feeds-end, closes-end, stream-end, goes-on, feeds-fit, feeds-any, stream-fit, stream-any, closes-any, feeds-before, stream-before, closes-before}
 
 -- ---- what is heard, one behind the other, and its log
 
@@ -61,43 +61,44 @@ log-heard (t ∷ ts) = ap₂ (λ x y. x ++ y) (entries-heard t) (log-heard ts)
 -- ---- what the theorems say of a stream
 
 -- what is heard is what document 01 lays down for the uncut stream, in numbers; the entries heard are the uncut stream's run log; the tray's numbers and bytes are left as
--- they were lent; and the desk's numbers and the bytes of its books are those of the uncut stream, and read as them
-abbrev pub LaidDown : Lent → (stream : List ℕ) → (heard : List Heard) → (end : Lent) → Type 0
-LaidDown lent stream heard end =
-    (heard ≡ heardAll (uncutTold (booksLent lent) stream))
-    × (logHeard heard ≡ uncutLog (booksLent lent) stream)
-    × (Ends lent (uncutBooks (booksLent lent) stream) end)
-    × (booksLent end ≡ uncutBooks (booksLent lent) stream)
+-- they were lent; and the desk's numbers and the bytes of its books are those of the uncut stream, and read as them. The uncut stream's frame i has the second at which frame i
+-- was heard.
+abbrev pub LaidDown : Lent → Seconds → (stream : List ℕ) → (heard : List Heard) → (end : Lent) → Type 0
+LaidDown lent seconds stream heard end =
+    (heard ≡ heardAll (uncutTold (booksLent lent) seconds stream))
+    × (logHeard heard ≡ uncutLog (booksLent lent) seconds stream)
+    × (Ends lent (uncutBooks (booksLent lent) seconds stream) end)
+    × (booksLent end ≡ uncutBooks (booksLent lent) seconds stream)
 
 -- the entries heard are those in which each message is told by the live book as it was at the moment when its run opened, and the desk that is left keeps to the same
 -- (`in-force` of crate prepare)
-abbrev pub PlacedBy : Lent → Snapshot → (stream : List ℕ) → (heard : List Heard) → (end : Lent) → Type 0
-PlacedBy lent opening stream heard end =
-    (logHeard heard ≡ placedLog (booksLent lent) opening (scan stream))
-    × KeptOn (record { held = booksLent end; opening = openingAll (booksLent lent) opening (scan stream) })
+abbrev pub PlacedBy : Lent → Seconds → Snapshot → (stream : List ℕ) → (heard : List Heard) → (end : Lent) → Type 0
+PlacedBy lent seconds opening stream heard end =
+    (logHeard heard ≡ placedLog (booksLent lent) seconds opening (scan stream))
+    × KeptOn (record { held = booksLent end; opening = openingAll (booksLent lent) seconds opening (scan stream) })
 
 module _ {lent : Lent} (s : Starts lent) where
   starts-state : stateIn lent ≡ start (lent .bytes) (booksLent lent)
   starts-state = ap (λ t. state (lent .bytes) t (booksLent lent)) (fresh-tray (lent .tray) (s .tray-fresh) .1)
 
   -- the calls of `prepare` that they are
-  abbrev below : {c : Caller} {portions : List (List ℕ)} → Whole c lent portions → driver.Whole c (lent .bytes) (booksLent lent) portions
-  below {c} {portions} w =
+  abbrev below : {c : Caller} {seconds : Seconds} {portions : List (List ℕ)} → Whole c seconds lent portions → driver.Whole c seconds (lent .bytes) (booksLent lent) portions
+  below {c} {seconds} {portions} w =
       let f = feeds-so (w .feeds) in
       let g = closes-so (w .closes) in
       record {
         before = f .0;
         between = stateIn (w .between);
-        feeds = subst (λ s. driver.Feeds c s portions (f .0) (stateIn (w .between))) starts-state (f .1);
+        feeds = subst (λ s. driver.Feeds c seconds s portions (f .0) (stateIn (w .between))) starts-state (f .1);
         after = g .0;
         end = stateIn (w .end);
-        closes = g .1;
+        closes = subst (λ n. driver.Closes n (stateIn (w .between)) (g .0) (stateIn (w .end))) (ap (λ hs. laterAll hs seconds) (f .2) ∙ later-all (f .0) seconds) (g .1);
       }
 
-  heard-below : {c : Caller} {portions : List (List ℕ)} (w : Whole c lent portions) → w .before ++ w .after ≡ heardAll (below w .before ++ below w .after)
+  heard-below : {c : Caller} {seconds : Seconds} {portions : List (List ℕ)} (w : Whole c seconds lent portions) → w .before ++ w .after ≡ heardAll (below w .before ++ below w .after)
   heard-below w = ap₂ (λ x y. x ++ y) (feeds-so (w .feeds) .2) (closes-so (w .closes) .2) ∙ sym (heard-append (below w .before) (below w .after))
 
-  ends-so : {c : Caller} {portions : List (List ℕ)} (w : Whole c lent portions) (books : Held) → stateIn (w .end) ≡ start (lent .bytes) books → Ends lent books (w .end)
+  ends-so : {c : Caller} {seconds : Seconds} {portions : List (List ℕ)} (w : Whole c seconds lent portions) (books : Held) → stateIn (w .end) ≡ start (lent .bytes) books → Ends lent books (w .end)
   unfolding laid trayOf deskOf
   ends-so w books e =
       let x = feeds-beyond (w .feeds) in
@@ -111,23 +112,24 @@ module _ {lent : Lent} (s : Starts lent) where
       }
 
   -- However a stream is cut into portions, some of them empty.
-  pub prepared : {c : Caller} {portions : List (List ℕ)} (w : Whole c lent portions) → LaidDown lent (flatten portions) (w .before ++ w .after) (w .end)
-  prepared {portions = portions} w =
+  pub prepared : {c : Caller} {seconds : Seconds} {portions : List (List ℕ)} (w : Whole c seconds lent portions)
+      → LaidDown lent seconds (flatten portions) (w .before ++ w .after) (w .end)
+  prepared {seconds = seconds} {portions} w =
       let x = prepare.prepared (s .bytes-clear) (starts-sound s) (below w) in
       let h = heard-below w ∙ ap heardAll (x .0) in
-      (h, ap logHeard h ∙ log-heard (uncutTold (booksLent lent) (flatten portions)), ends-so w (uncutBooks (booksLent lent) (flatten portions)) (x .2), ap (λ s. s .books) (x .2))
+      (h, ap logHeard h ∙ log-heard (uncutTold (booksLent lent) seconds (flatten portions)), ends-so w (uncutBooks (booksLent lent) seconds (flatten portions)) (x .2), ap (λ s. s .books) (x .2))
 
-  -- And the calls end, whatever the portions are and whoever lends the log and the places: what is lent may depend on all that was heard before, and on all that the last
-  -- call left.
+  -- And the calls end, whatever the portions are and whoever lends the log and the places and says the seconds: what is lent and said may depend on all that was heard before, and
+  -- on all that the last call left.
   pub prepared-ends : {c : Caller} (lends : Lender) → LendsRoom lends → (portions : List (List ℕ)) → WholeBy c lends lent portions
   prepared-ends lends rooms portions =
       let f = feeds-end lends rooms portions (point [] lent) (starts-fit s) in
       let g = closes-end lends rooms (f .end₁) (f .fit) in
       record { before = f .heard; between = f .end₁; feeds = f .feeds; after = g .heard; end = g .end₁; closes = g .closes }
 
-  -- So they end with the same slices lent again and again.
-  pub same-again-ends : {c : Caller} (portions : List (List ℕ)) → WholeBy c sameAgain lent portions
-  same-again-ends portions = prepared-ends sameAgain (λ _ r. r) portions
+  -- So they end with the same slices lent again and again, and any clock.
+  pub same-again-ends : {c : Caller} (clock : Point → ℕ) (portions : List (List ℕ)) → WholeBy c (sameAgain clock) lent portions
+  same-again-ends clock portions = prepared-ends (sameAgain clock) (λ _ r. r) portions
 
   -- And so they do for one who hands over what is left of a stream, however it is cut, if a call that said hungry is followed by one that is handed some while bytes are
   -- left; the call behind an event may be handed none.
@@ -141,67 +143,74 @@ module _ {lent : Lent} (s : Starts lent) where
   pub nothing-handed : {c : Caller} {lends : Lender} {stream : List ℕ} → LendsRoom lends → 1 ≤ length stream → WholeStreamBy c lends (λ _ _. 0) lent stream → ⊥
   nothing-handed {lends = lends} rooms some w = goes-on lends rooms (w .feeds) (starts-fit s) (fresh-tray (lent .tray) (s .tray-fresh) .1) some
 
-  -- Whoever lends and whoever cuts, such calls are calls of Driver.antt: so all that is said here of `Whole`, `FeedsStream` and `Closes` holds of them.
-  pub any-lender : {c : Caller} {lends : Lender} {portions : List (List ℕ)} → LendsRoom lends → WholeBy c lends lent portions → Whole c lent portions
+  -- Whoever lends and whoever cuts, and whatever the clock is, such calls are calls of Driver.antt, where the second of frame i is the one that the call by which it was heard was
+  -- handed: so all that is said here of `Whole`, `FeedsStream` and `Closes` holds of them.
+  pub any-lender : {c : Caller} {lends : Lender} {portions : List (List ℕ)} → LendsRoom lends → (w : WholeBy c lends lent portions)
+      → (seconds : Seconds) × (Feeds c seconds lent portions (w .before) (w .between .left)) × (Closes (laterAll (w .before) seconds) (w .between .left) (w .after) (w .end .left))
   any-lender {lends = lends} rooms w =
-      let f = feeds-any lends rooms (w .feeds) (starts-fit s) in
-      record { before = w .before; between = w .between .left; feeds = f .0; after = w .after; end = w .end .left; closes = closes-any lends rooms (w .closes) (f .1) }
+      let g = closes-any lends rooms (w .closes) (feeds-fit lends rooms (w .feeds) (starts-fit s)) in
+      let f = feeds-any lends rooms (w .feeds) (starts-fit s) (g .seconds) in
+      (f .seconds, f .feeds, subst (λ n. Closes n (w .between .left) (w .after) (w .end .left)) (sym (f .behind)) (g .closes))
 
   pub any-cutter : {c : Caller} {lends : Lender} {cuts : Cutter} {stream : List ℕ} → LendsRoom lends → (w : WholeStreamBy c lends cuts lent stream)
-      → (FeedsStream lent stream (w .before) (w .between .left)) × (Closes (w .between .left) (w .after) (w .end .left))
-  any-cutter {lends = lends} rooms w = let f = stream-any lends rooms (w .feeds) (starts-fit s) in (f .0, closes-any lends rooms (w .closes) (f .1))
+      → (seconds : Seconds) × (FeedsStream seconds lent stream (w .before) (w .between .left)) × (Closes (laterAll (w .before) seconds) (w .between .left) (w .after) (w .end .left))
+  any-cutter {lends = lends} rooms w =
+      let g = closes-any lends rooms (w .closes) (stream-fit lends rooms (w .feeds) (starts-fit s)) in
+      let f = stream-any lends rooms (w .feeds) (starts-fit s) (g .seconds) in
+      (f .seconds, f .feeds, subst (λ n. Closes n (w .between .left) (w .after) (w .end .left)) (sym (f .behind)) (g .closes))
 
-  -- Each of these calls has the number 0, as has every call and every finish, in any order and on any input, whatever log and places are lent.
+  -- Each of these calls has the number 0, as has every call and every finish, in any order and on any input, whatever log and places are lent and whatever the seconds are.
   pub never-refused : {l : Lent} → Called lent l → ((input : List ℕ) → callNumber l input ≡ 0) × (finishNumber l ≡ 0)
   never-refused k = let f = called-fit k (starts-fit s) in (λ input. call-is-zero _ f input, finish-is-zero _ f)
 
   -- "Each residual is placed by the area definition in force when its run opened", if that holds of the run that is open at the start.
-  pub in-force : (opening : Snapshot) → KeptOn (record { held = booksLent lent; opening = opening }) → {c : Caller} {portions : List (List ℕ)} (w : Whole c lent portions)
-      → PlacedBy lent opening (flatten portions) (w .before ++ w .after) (w .end)
+  pub in-force : (opening : Snapshot) → KeptOn (record { held = booksLent lent; opening = opening }) → {c : Caller} {seconds : Seconds} {portions : List (List ℕ)}
+      (w : Whole c seconds lent portions) → PlacedBy lent seconds opening (flatten portions) (w .before ++ w .after) (w .end)
   in-force opening k w =
       let x = prepare.in-force (s .bytes-clear) (starts-sound s) opening k (below w) in
       (ap logHeard (heard-below w) ∙ log-heard (below w .before ++ below w .after) ∙ x .0, x .1)
 
   -- Both hold of a caller who hands over each time as much as it likes of what is left of the stream: it cuts the stream into portions all the same.
-  module _ {stream : List ℕ} {before after : List Heard} {between end : Lent} (f : FeedsStream lent stream before between) (g : Closes between after end) where
-    pub recut : (portions : List (List ℕ)) × (Feeds hurries lent portions before between) × (flatten portions ≡ stream)
+  module _ {seconds : Seconds} {stream : List ℕ} {before after : List Heard} {between end : Lent} (f : FeedsStream seconds lent stream before between)
+      (g : Closes (laterAll before seconds) between after end) where
+    pub recut : (portions : List (List ℕ)) × (Feeds hurries seconds lent portions before between) × (flatten portions ≡ stream)
     recut = into-portions f
 
-    abbrev portioned : Whole hurries lent (recut .0)
+    abbrev portioned : Whole hurries seconds lent (recut .0)
     portioned = record { before = before; between = between; feeds = recut .1; after = after; end = end; closes = g }
 
-    pub prepared-stream : LaidDown lent stream (before ++ after) end
-    prepared-stream = subst (λ stream. LaidDown lent stream (before ++ after) end) (recut .2) (prepared portioned)
+    pub prepared-stream : LaidDown lent seconds stream (before ++ after) end
+    prepared-stream = subst (λ stream. LaidDown lent seconds stream (before ++ after) end) (recut .2) (prepared portioned)
 
-    pub in-force-stream : (opening : Snapshot) → KeptOn (record { held = booksLent lent; opening = opening }) → PlacedBy lent opening stream (before ++ after) end
-    in-force-stream opening k = subst (λ stream. PlacedBy lent opening stream (before ++ after) end) (recut .2) (in-force opening k portioned)
+    pub in-force-stream : (opening : Snapshot) → KeptOn (record { held = booksLent lent; opening = opening }) → PlacedBy lent seconds opening stream (before ++ after) end
+    in-force-stream opening k = subst (λ stream. PlacedBy lent seconds opening stream (before ++ after) end) (recut .2) (in-force opening k portioned)
 
-  -- Before finish, once the last call has said hungry, what is heard and the states as the next call reads them depend on the joined bytes alone.
-  pub cut : {portions portions′ : List (List ℕ)} {hs hs′ : List Heard} {l l′ : Lent}
-      → Feeds waits lent portions hs l → Feeds waits lent portions′ hs′ l′ → flatten portions ≡ flatten portions′
+  -- Before finish, once the last call has said hungry, what is heard and the states as the next call reads them depend on the joined bytes and the frames' seconds alone.
+  pub cut : {seconds : Seconds} {portions portions′ : List (List ℕ)} {hs hs′ : List Heard} {l l′ : Lent}
+      → Feeds waits seconds lent portions hs l → Feeds waits seconds lent portions′ hs′ l′ → flatten portions ≡ flatten portions′
       → (hs ≡ hs′) × (stateIn l ≡ stateIn l′)
-  cut {portions} {portions′} {l = l} {l′} f f′ q =
+  cut {seconds} {portions} {portions′} {l = l} {l′} f f′ q =
       let x = feeds-so f in
       let y = feeds-so f′ in
       let z = prepare.cut (s .bytes-clear) (starts-sound s)
-      (subst (λ s. driver.Feeds waits s portions (x .0) (stateIn l)) starts-state (x .1))
-      (subst (λ s. driver.Feeds waits s portions′ (y .0) (stateIn l′)) starts-state (y .1)) q in
+      (subst (λ s. driver.Feeds waits seconds s portions (x .0) (stateIn l)) starts-state (x .1))
+      (subst (λ s. driver.Feeds waits seconds s portions′ (y .0) (stateIn l′)) starts-state (y .1)) q in
       (x .2 ∙ ap heardAll (z .0) ∙ sym (y .2), z .1)
 
-  -- What is heard before finish on a stream is heard first on every longer stream that begins with it.
-  pub prefix : {c : Caller} {portions portions′ : List (List ℕ)} {hs hs′ : List Heard} {l l′ : Lent}
-      → Feeds c lent portions hs l → Feeds waits lent portions′ hs′ l′ → (more : List ℕ) → flatten portions′ ≡ flatten portions ++ more
+  -- What is heard before finish on a stream is heard first on every longer stream that begins with it, where the frames of both have equal seconds.
+  pub prefix : {c : Caller} {seconds : Seconds} {portions portions′ : List (List ℕ)} {hs hs′ : List Heard} {l l′ : Lent}
+      → Feeds c seconds lent portions hs l → Feeds waits seconds lent portions′ hs′ l′ → (more : List ℕ) → flatten portions′ ≡ flatten portions ++ more
       → (rest : List Heard) × (hs′ ≡ hs ++ rest)
-  prefix {c} {portions} {portions′} {l = l} {l′} f f′ more q =
+  prefix {c} {seconds} {portions} {portions′} {l = l} {l′} f f′ more q =
       let x = feeds-so f in
       let y = feeds-so f′ in
       let z = prepare.prefix (s .bytes-clear) (starts-sound s)
-      (subst (λ s. driver.Feeds c s portions (x .0) (stateIn l)) starts-state (x .1))
-      (subst (λ s. driver.Feeds waits s portions′ (y .0) (stateIn l′)) starts-state (y .1)) more q in
+      (subst (λ s. driver.Feeds c seconds s portions (x .0) (stateIn l)) starts-state (x .1))
+      (subst (λ s. driver.Feeds waits seconds s portions′ (y .0) (stateIn l′)) starts-state (y .1)) more q in
       (heardAll (z .0), y .2 ∙ ap heardAll (z .1) ∙ heard-append (x .0) (z .0) ∙ ap (λ hs. hs ++ heardAll (z .0)) (sym (x .2)))
 
   -- A further stream may follow: what is lent at the end may start.
-  pub starts-again : {c : Caller} {portions : List (List ℕ)} (w : Whole c lent portions) → Starts (w .end)
+  pub starts-again : {c : Caller} {seconds : Seconds} {portions : List (List ℕ)} (w : Whole c seconds lent portions) → Starts (w .end)
   starts-again w =
       let e = prepared w .2 in
       let f = called-fit (closes-called (w .closes) (feeds-called (w .feeds) none-yet)) (starts-fit s) in

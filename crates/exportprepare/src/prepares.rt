@@ -125,13 +125,14 @@ fn call(
     run: &mut [u8],
     log: &mut [u8],
     input: &[u8],
+    second: u64,
 ) -> Answer
     requires { ⌜ StatesThere (now tray) (now desk) ⌝ }
-    ensures { λ r. ⌜ results r (now (bytes .exit)) (now (live .exit)) (now (run .exit)) (now (log .exit)) ≡ byCall (hands (now (bytes .entry)) (trayIn (now (tray .entry))) (deskIn (now (desk .entry))) (now (live .entry)) (now (run .entry)) (now (log .entry))) (now (input .entry)) ⌝ }
+    ensures { λ r. ⌜ results r (now (bytes .exit)) (now (live .exit)) (now (run .exit)) (now (log .exit)) ≡ byCall (hands (now (bytes .entry)) (trayIn (now (tray .entry))) (deskIn (now (desk .entry))) (now (live .entry)) (now (run .entry)) (now (log .entry)) second) (now (input .entry)) ⌝ }
 {
     let held = tray_in(tray);
     let kept = desk_in(desk);
-    prepare::call(bytes, held, kept, live, run, log, input)
+    prepare::call(bytes, held, kept, live, run, log, input, second)
 }
 
 fn finish(
@@ -141,16 +142,17 @@ fn finish(
     live: &mut [u8],
     run: &mut [u8],
     log: &mut [u8],
+    second: u64,
 ) -> Answer
     requires { ⌜ StatesThere (now tray) (now desk) ⌝ }
-    ensures { λ r. ⌜ results r (now (bytes .exit)) (now (live .exit)) (now (run .exit)) (now (log .exit)) ≡ byFinish (hands (now (bytes .entry)) (trayIn (now (tray .entry))) (deskIn (now (desk .entry))) (now (live .entry)) (now (run .entry)) (now (log .entry))) ⌝ }
+    ensures { λ r. ⌜ results r (now (bytes .exit)) (now (live .exit)) (now (run .exit)) (now (log .exit)) ≡ byFinish (hands (now (bytes .entry)) (trayIn (now (tray .entry))) (deskIn (now (desk .entry))) (now (live .entry)) (now (run .entry)) (now (log .entry)) second) ⌝ }
 {
     let held = tray_in(tray);
     let kept = desk_in(desk);
-    prepare::finish(bytes, held, kept, live, run, log)
+    prepare::finish(bytes, held, kept, live, run, log, second)
 }
 
-// A portion of the stream, whose frames go to the desk; one event a call.
+// A portion of the stream, whose frames go to the desk at this second; one event a call.
 #[no_mangle]
 pub extern "C" fn homralgyu_prepare_call(
     bytes: &mut [u8],
@@ -160,16 +162,17 @@ pub extern "C" fn homralgyu_prepare_call(
     run: &mut [u8],
     log: &mut [u8],
     input: &[u8],
+    second: u64,
     told: &mut [u64],
     header: &mut [u64],
 ) -> u8
-    ensures { λ r. ⌜ r ≡ callNumber (lends (now (bytes .entry)) (now (tray .entry)) (now (desk .entry)) (now (live .entry)) (now (run .entry)) (now (log .entry)) (now (told .entry)) (now (header .entry))) (now (input .entry)) ⌝ }
-    ensures { λ _. ⌜ lends (now (bytes .exit)) (now (tray .exit)) (now (desk .exit)) (now (live .exit)) (now (run .exit)) (now (log .exit)) (now (told .exit)) (now (header .exit)) ≡ callLeaves (lends (now (bytes .entry)) (now (tray .entry)) (now (desk .entry)) (now (live .entry)) (now (run .entry)) (now (log .entry)) (now (told .entry)) (now (header .entry))) (now (input .entry)) ⌝ }
+    ensures { λ r. ⌜ r ≡ callNumber (lends (now (bytes .entry)) (now (tray .entry)) (now (desk .entry)) (now (live .entry)) (now (run .entry)) (now (log .entry)) (now (told .entry)) (now (header .entry)) second) (now (input .entry)) ⌝ }
+    ensures { λ _. ⌜ lends (now (bytes .exit)) (now (tray .exit)) (now (desk .exit)) (now (live .exit)) (now (run .exit)) (now (log .exit)) (now (told .exit)) (now (header .exit)) second ≡ callLeaves (lends (now (bytes .entry)) (now (tray .entry)) (now (desk .entry)) (now (live .entry)) (now (run .entry)) (now (log .entry)) (now (told .entry)) (now (header .entry)) second) (now (input .entry)) ⌝ }
 {
     if lacks_room(tray, desk, told, header) {
         return ROOM;
     }
-    let answer = call(bytes, tray, desk, live, run, log, input);
+    let answer = call(bytes, tray, desk, live, run, log, input, second);
     tell(answer, tray, desk, told, header)
 }
 
@@ -182,15 +185,16 @@ pub extern "C" fn homralgyu_prepare_finish(
     live: &mut [u8],
     run: &mut [u8],
     log: &mut [u8],
+    second: u64,
     told: &mut [u64],
     header: &mut [u64],
 ) -> u8
-    ensures { λ r. ⌜ r ≡ finishNumber (lends (now (bytes .entry)) (now (tray .entry)) (now (desk .entry)) (now (live .entry)) (now (run .entry)) (now (log .entry)) (now (told .entry)) (now (header .entry))) ⌝ }
-    ensures { λ _. ⌜ lends (now (bytes .exit)) (now (tray .exit)) (now (desk .exit)) (now (live .exit)) (now (run .exit)) (now (log .exit)) (now (told .exit)) (now (header .exit)) ≡ finishLeaves (lends (now (bytes .entry)) (now (tray .entry)) (now (desk .entry)) (now (live .entry)) (now (run .entry)) (now (log .entry)) (now (told .entry)) (now (header .entry))) ⌝ }
+    ensures { λ r. ⌜ r ≡ finishNumber (lends (now (bytes .entry)) (now (tray .entry)) (now (desk .entry)) (now (live .entry)) (now (run .entry)) (now (log .entry)) (now (told .entry)) (now (header .entry)) second) ⌝ }
+    ensures { λ _. ⌜ lends (now (bytes .exit)) (now (tray .exit)) (now (desk .exit)) (now (live .exit)) (now (run .exit)) (now (log .exit)) (now (told .exit)) (now (header .exit)) second ≡ finishLeaves (lends (now (bytes .entry)) (now (tray .entry)) (now (desk .entry)) (now (live .entry)) (now (run .entry)) (now (log .entry)) (now (told .entry)) (now (header .entry)) second) ⌝ }
 {
     if lacks_room(tray, desk, told, header) {
         return ROOM;
     }
-    let answer = finish(bytes, tray, desk, live, run, log);
+    let answer = finish(bytes, tray, desk, live, run, log, second);
     tell(answer, tray, desk, told, header)
 }
