@@ -364,7 +364,7 @@ module _ (lends : Lender) (rooms : LendsRoom lends) where
       → FedStreamAny (x .left) (x₁ .left) left hs rest
   unfolding laterAll
   stream-any (FeedsStreamBy.no-more m) f rest = record { seconds = rest; feeds = FeedsStream.no-more; behind = refl }
-  stream-any {cuts = cuts} (FeedsStreamBy.an-event {x} {x₁} {left} {h} {hs} q k d) f rest =
+  stream-any {cuts = cuts} (FeedsStreamBy.an-event {x} {x₁} {rest = left} {h} {hs} q k d) f rest =
       let p = take (cuts x left) left in
       let y = stream-any d (call-fit (lentAt lends x) (fit-lent lends rooms x f) p) rest in
       let n = lends x .second in

@@ -1,7 +1,7 @@
 -- Serves proofs: preparing a stream call by call is reading it call by call, and the desk goes along with the events. Proved; assumes nothing.
 use mathlib.Core.Path.{_≡_, refl, sym, ap, ap₂, _∙_, subst}
 use mathlib.Core.List.{List, [], _∷_, _++_, append-assoc, append-nil}
-use Prim.Native.Nat.{ℕ, zero, suc, _≤_}
+use Prim.Native.Nat.{ℕ, _≤_}
 use native.Mathlib.Omega.{arith}
 use lib.ListN.{length, drop, length-append, length-drop}
 use Rattle.stream.specs.declared.Tray.{Tray}
@@ -18,7 +18,7 @@ use Rattle.desk.specs.History.{Held}
 use Rattle.prepare.specs.declared.Said.the-variants as said
 use Rattle.prepare.specs.Uncut.{Told, accepted, refused, noise as told-noise, verdictOn, handledOn, toldBy, toldOf, booksAfter, Seconds, later, toldAll, booksAll, entriesOf, runLog}
 use Rattle.prepare.specs.Prepare.{Handed, callOutcome, finishOutcome, booksOf, logOf}
-use Rattle.prepare.specs.Driver.{State, Sound, Lent, lent, callSays, callLeaves, callLogs, finishSays, finishLeaves, finishLogs, InTime, laterBy, laterAll, Feeds, Closes, start, Whole}
+use Rattle.prepare.specs.Driver.{State, Sound, Lent, lent, callSays, callLeaves, callLogs, finishSays, finishLeaves, finishLogs, InTime, laterBy, laterAll, earlier, Feeds, Closes, start, Whole}
 use Rattle.prepare.specs.Lender.{Point, point, Lender, LendsRoom, callAnswers, CallTells, called, FinishTells, finished, FeedsBy, ClosesBy, WholeBy}
 use Rattle.prepare.specs.Steps.{guarded-is, forth, back, is-told, tells-so, is-hungry, is-done, hungry-is, done-is}
 use Rattle.prepare.specs.Stays.{sound-after}
@@ -296,21 +296,12 @@ module _ (lends : Lender) (rooms : LendsRoom lends) where
 
 -- ---- such calls are calls of `Feeds` and `Closes`, for some seconds: each is lent a log that has room, and each frame is told at the second that its call was handed
 
-abbrev first : ℕ → Seconds → Seconds
-first second seconds zero = second
-first second seconds (suc i) = seconds i
-
-abbrev earlier : Told → ℕ → Seconds → Seconds
-earlier (accepted header bytes entries) second seconds = first second seconds
-earlier (refused header bytes why) second seconds = first second seconds
-earlier (told-noise count) second seconds = seconds
-
-earlier-time : (t : Told) (second : ℕ) (seconds : Seconds) → InTime t second (earlier t second seconds)
+pub earlier-time : (t : Told) (second : ℕ) (seconds : Seconds) → InTime t second (earlier t second seconds)
 earlier-time (accepted header bytes entries) second seconds = refl
 earlier-time (refused header bytes why) second seconds = refl
 earlier-time (told-noise count) second seconds = tt
 
-earlier-later : (t : Told) (second : ℕ) (seconds : Seconds) → laterBy t (earlier t second seconds) ≡ seconds
+pub earlier-later : (t : Told) (second : ℕ) (seconds : Seconds) → laterBy t (earlier t second seconds) ≡ seconds
 earlier-later (accepted header bytes entries) second seconds = refl
 earlier-later (refused header bytes why) second seconds = refl
 earlier-later (told-noise count) second seconds = refl

@@ -36,11 +36,11 @@ module _ (raw : Bool) (state : State) (out : List ℕ) where
   came-none (x ∷ xs) tray desk h = absurd (omega arith)
 
   module _ (state′ : State) (out′ : List ℕ) where
-    pub came-some : (portion : List ℕ) (tray : Tray) (desk : Desk) (at : ℕ) (w : Bool) → (length portion ≡ 0 → ⊥) → Told raw state out 0 portion state′ out′ at
+    pub came-some : (portion : List ℕ) (tray : Tray) (desk : Desk) (second at : ℕ) (w : Bool) → (length portion ≡ 0 → ⊥) → Told raw second state out 0 portion state′ out′ at
         → Came raw state out portion state′ out′ (record { tray = tray; desk = desk; got = length portion; «is_written» = w; more = w })
-    came-some [] tray desk at w h z = absurd (h refl)
-    came-some (x ∷ xs) tray desk at w h z =
-        record { reads = Reads.a-portion at z Reads.no-more; got-is = refl; goes-on = rw (lt-ltb 0 (length (x ∷ xs)) (omega arith)) }
+    came-some [] tray desk second at w h z = absurd (h refl)
+    came-some (x ∷ xs) tray desk second at w h z =
+        record { reads = Reads.a-portion second at z Reads.no-more; got-is = refl; goes-on = rw (lt-ltb 0 (length (x ∷ xs)) (omega arith)) }
 
     -- what came is the first part of the input, as long as the count says
     pub came-read : (input : List ℕ) (n : ℕ) (turn : Turn) → n ≤ length input → Came raw state out (take n input) state′ out′ turn
@@ -49,9 +49,9 @@ module _ (raw : Bool) (state : State) (out : List ℕ) where
         let l : length (take n input) ≡ n = length-take-le n input h in
         record { reads = z .reads; got-is = sym l; goes-on = z .goes-on ∙ ap (λ (k : ℕ). ltb 0 k && turn .«is_written») (z .got-is ∙ l) }
 
-pub closed-is : (raw : Bool) (state : State) (out bytes′ live′ run′ out′ : List ℕ) (tray′ : Tray) (desk′ : Desk) (at : ℕ)
-    → Ended raw state out 0 (stateOf bytes′ tray′ desk′ live′ run′) out′ at → Closed raw state out bytes′ live′ run′ out′
-closed-is raw state out bytes′ live′ run′ out′ tray′ desk′ at z = record { tray′ = tray′; desk′ = desk′; at′ = at; ends = z }
+pub closed-is : (raw : Bool) (state : State) (out bytes′ live′ run′ out′ : List ℕ) (tray′ : Tray) (desk′ : Desk) (second at : ℕ)
+    → Ended raw second state out 0 (stateOf bytes′ tray′ desk′ live′ run′) out′ at → Closed raw state out bytes′ live′ run′ out′
+closed-is raw state out bytes′ live′ run′ out′ tray′ desk′ second at z = record { tray′ = tray′; desk′ = desk′; at′ = at; second′ = second; ends = z }
 
 -- ---- from read to read
 
@@ -64,7 +64,7 @@ pub record Preparing (raw : Bool) (start : State) (out₀ bytes live run log out
 
 read-on : {raw : Bool} {s s₁ s₂ : State} {o o₁ o₂ : List ℕ} {ps qs : List (List ℕ)} → Reads raw s o ps s₁ o₁ → Reads raw s₁ o₁ qs s₂ o₂ → Reads raw s o (ps ++ qs) s₂ o₂
 read-on Reads.no-more r = r
-read-on (Reads.a-portion at z f) r = Reads.a-portion at z (read-on f r)
+read-on (Reads.a-portion second at z f) r = Reads.a-portion second at z (read-on f r)
 
 -- a read is a portion, or nothing came
 one-read : (portion : List ℕ) → length (some portion) + (1 - length portion) ≡ 1

@@ -26,13 +26,14 @@ use Rattle.prepare.specs.declared.Answer.{Answer}
 use Rattle.prepare.specs.declared.Said.{Said}
 use Rattle.prepare.specs.declared.Said.the-variants as said
 use Rattle.prepare.specs.Uncut as uncut
-use Rattle.prepare.specs.Uncut.{toldOf, toldBy, verdictOn, entriesOf}
+use Rattle.prepare.specs.Uncut.{toldOf, toldBy, verdictOn, handledOn, entriesOf}
 use Rattle.prepare.specs.Prepare.{Handed, Result, booksIn, hands, saidOf, answerOf, booksOf, logOf, results, resultOf, callOutcome, byCall, finishOutcome, byFinish}
-use Rattle.prepare.specs.Driver.{State, Tells, Feeds, Closes}
+use Rattle.prepare.specs.Driver.{State, Tells, laterBy, Feeds, Closes}
 use Rattle.prepare.specs.Steps.{guarded-is}
 use Rattle.runlog.specs.declared.hearing.Heard.{Heard}
 use Rattle.runlog.specs.Events.{isEvent, heardOf, Prepared, Hearing, Step, Within, toTell, lastToTell, Called, Finished, Spoken, Onward, Nearer, Advanced, Neared}
-use Rattle.runlog.specs.Telling.{stateOf, some, textsFor, logsOf, Told, Ended}
+use Rattle.runlog.specs.Telling.{stateOf, some, textsFor, logsOf, always, Told, Ended}
+use Rattle.runlog.specs.Joined.{later-always, always-time}
 
 -- ---- entries are written for a frame that is taken, and for nothing else
 
@@ -52,7 +53,7 @@ silent-by books f b (desk.opens tag message) = tt
 
 silent-so : (handed : Handed) (o : stream.Outcome) → Silent (answerOf handed o .said) (answerOf handed o .log)
 silent-so handed (stream.refused r) = refl
-silent-so handed (stream.told (frame f b) c n) = silent-by (handed .books) f b (verdictOn (handed .books) b)
+silent-so handed (stream.told (frame f b) c n) = silent-by (handledOn (handed .books) (handed .second) b) f b (verdictOn (handed .books) (handed .second) b)
 silent-so handed (stream.told (noise k) c n) = refl
 silent-so handed (stream.hungry c n) = refl
 silent-so handed (stream.done c) = refl
@@ -84,9 +85,9 @@ event-by books f b (desk.defines book live) q = let y : _≡_ {A = ℕ} 0 1 = cc
 event-by books f b (desk.continues book message) q = let y : _≡_ {A = ℕ} 0 1 = cc in omega arith
 event-by books f b (desk.opens tag message) q = let y : _≡_ {A = ℕ} 0 1 = cc in omega arith
 
-an-event : (books : Held) (e : Event) → isEvent (saidOf (toldOf books e)) ≡ false → ⊥
-an-event books (frame f b) q = event-by books f b (verdictOn books b) q
-an-event books (noise k) q = let y : _≡_ {A = ℕ} 0 1 = cc in omega arith
+an-event : (books : Held) (second : ℕ) (e : Event) → isEvent (saidOf (toldOf books second e)) ≡ false → ⊥
+an-event books second (frame f b) q = event-by (handledOn books second b) f b (verdictOn books second b) q
+an-event books second (noise k) q = let y : _≡_ {A = ℕ} 0 1 = cc in omega arith
 
 pub desk-same : (handed : Handed) (o : stream.Outcome) → answerOf handed o .desk ≡ booksOf handed o .desk
 desk-same handed (stream.refused r) = refl
@@ -105,13 +106,13 @@ quiet (said.Refused why) n q z = z
 hungry-so : (handed : Handed) (p : List ℕ) (G : List ℕ → List Event) (o : stream.Outcome) → Fed onList (λ k s. scanFrom s 0 k) G p o
     → isEvent (answerOf handed o .said) ≡ false → answerOf handed o .said ≡ said.Hungry
 hungry-so handed p G (stream.refused r) f q = absurd f
-hungry-so handed p G (stream.told e c n) f q = absurd (an-event (handed .books) e q)
+hungry-so handed p G (stream.told e c n) f q = absurd (an-event (handed .books) (handed .second) e q)
 hungry-so handed p G (stream.hungry c n) f q = refl
 hungry-so handed p G (stream.done c) f q = absurd f
 
 done-so : (handed : Handed) (g : List Event) (o : stream.Outcome) → machine.Ended g o → isEvent (answerOf handed o .said) ≡ false → answerOf handed o .said ≡ said.Done
 done-so handed g (stream.refused r) f q = absurd f
-done-so handed g (stream.told e c n) f q = absurd (an-event (handed .books) e q)
+done-so handed g (stream.told e c n) f q = absurd (an-event (handed .books) (handed .second) e q)
 done-so handed g (stream.hungry c n) f q = absurd f
 done-so handed g (stream.done c) f q = refl
 
@@ -159,36 +160,38 @@ module _ (handed : Handed) (o : stream.Outcome) (a : Answer) (bytes′ live′ r
 
 -- ---- past ROOM and STATE a call and a finish are the stream's
 
-module _ (bytes live run log : List ℕ) (tray : Tray) (desk : Desk) (p : Prepared bytes tray desk live run log) where
-  pub call-is : (input : List ℕ) → callOutcome (hands bytes tray desk live run log) input ≡ stream.called bytes tray input
+module _ (bytes live run log : List ℕ) (second : ℕ) (tray : Tray) (desk : Desk) (p : Prepared bytes tray desk live run log) where
+  pub call-is : (input : List ℕ) → callOutcome (hands bytes tray desk live run log second) input ≡ stream.called bytes tray input
   unfolding callOutcome
-  call-is input = guarded-is (hands bytes tray desk live run log) (stream.called bytes tray input) (p .tray-ready) (p .books-sound) (p .log-room)
+  call-is input = guarded-is (hands bytes tray desk live run log second) (stream.called bytes tray input) (p .tray-ready) (p .books-sound) (p .log-room)
 
-  pub finish-is : finishOutcome (hands bytes tray desk live run log) ≡ stream.finished bytes tray
+  pub finish-is : finishOutcome (hands bytes tray desk live run log second) ≡ stream.finished bytes tray
   unfolding finishOutcome
-  finish-is = guarded-is (hands bytes tray desk live run log) (stream.finished bytes tray) (p .tray-ready) (p .books-sound) (p .log-room)
+  finish-is = guarded-is (hands bytes tray desk live run log second) (stream.finished bytes tray) (p .tray-ready) (p .books-sound) (p .log-room)
 
 -- ---- a call, told
 
-module _ (raw : Bool) (bytes live run log input : List ℕ) (tray : Tray) (desk : Desk) (p : Prepared bytes tray desk live run log)
-    (bytes′ live′ run′ log′ : List ℕ) (a : Answer) (e : results a bytes′ live′ run′ log′ ≡ byCall (hands bytes tray desk live run log) input)
+module _ (raw : Bool) (second : ℕ) (bytes live run log input : List ℕ) (tray : Tray) (desk : Desk) (p : Prepared bytes tray desk live run log)
+    (bytes′ live′ run′ log′ : List ℕ) (a : Answer) (e : results a bytes′ live′ run′ log′ ≡ byCall (hands bytes tray desk live run log second) input)
     (out out′ : List ℕ) (at at′ : ℕ) (w : waiting out′ at′ ≡ sayAll (waiting out at) (textsFor raw (take (a .log) log′))) where
   abbrev lent : Handed
-  lent = hands bytes tray desk live run log
+  lent = hands bytes tray desk live run log second
 
-  call-goes : isEvent (a .said) ≡ true → (s : State) (oo : List ℕ) (aa : ℕ) → Told raw (stateOf bytes′ (a .tray) (a .desk) live′ run′) out′ at′ (drop (a .used) input) s oo aa
-      → Told raw (stateOf bytes tray desk live run) out at input s oo aa
+  call-goes : isEvent (a .said) ≡ true → (s : State) (oo : List ℕ) (aa : ℕ) → Told raw second (stateOf bytes′ (a .tray) (a .desk) live′ run′) out′ at′ (drop (a .used) input) s oo aa
+      → Told raw second (stateOf bytes tray desk live run) out at input s oo aa
   call-goes n s oo aa z = record {
     told = event lent (callOutcome lent input) a bytes′ live′ run′ log′ e n .0 ∷ z .told;
     feeds =
-        Feeds.an-event log (p .log-room) (tells lent (callOutcome lent input) a bytes′ live′ run′ log′ e n)
-        (onto lent (callOutcome lent input) a bytes′ live′ run′ log′ e (λ s₁ u. Feeds waits s₁ (drop u input ∷ []) (z .told) s) (z .feeds));
+        let t = event lent (callOutcome lent input) a bytes′ live′ run′ log′ e n .0 in
+        Feeds.an-event (record { log = log; second = second }) (p .log-room) (tells lent (callOutcome lent input) a bytes′ live′ run′ log′ e n) (always-time t second)
+        (onto lent (callOutcome lent input) a bytes′ live′ run′ log′ e (λ s₁ u. Feeds waits (laterBy t (always second)) s₁ (drop u input ∷ []) (z .told) s)
+        (subst (λ n. Feeds waits n (stateOf bytes′ (a .tray) (a .desk) live′ run′) (drop (a .used) input ∷ []) (z .told) s) (sym (later-always t second)) (z .feeds)));
     says = says-on lent (callOutcome lent input) a bytes′ live′ run′ log′ e n raw out out′ oo at at′ aa (z .told) w (z .says);
   }
 
-  call-stops : isEvent (a .said) ≡ false → Told raw (stateOf bytes tray desk live run) out at input (stateOf bytes′ (a .tray) (a .desk) live′ run′) out′ at′
+  call-stops : isEvent (a .said) ≡ false → Told raw second (stateOf bytes tray desk live run) out at input (stateOf bytes′ (a .tray) (a .desk) live′ run′) out′ at′
   call-stops n =
-      let i : callOutcome lent input ≡ stream.called bytes tray input = call-is bytes live run log tray desk p input in
+      let i : callOutcome lent input ≡ stream.called bytes tray input = call-is bytes live run log second tray desk p input in
       let f = subst (λ o. Fed onList (λ k s. scanFrom s 0 k) (λ x. scanFrom (steps.liveOf bytes tray ++ (input ++ x)) 0 (tray .noise)) input o) (sym i)
       (call-fed onList (λ k s. scanFrom s 0 k) scan-reading bytes tray input (p .tray-ready)) in
       let q : isEvent (answerOf lent (callOutcome lent input) .said) ≡ false = subst (λ (r : Result). isEvent (r .answer .said) ≡ false) e n in
@@ -196,55 +199,57 @@ module _ (raw : Bool) (bytes live run log input : List ℕ) (tray : Tray) (desk 
       record {
         told = [];
         feeds =
-            back lent (callOutcome lent input) a bytes′ live′ run′ log′ e (λ s₁. Feeds waits (stateOf bytes tray desk live run) (input ∷ []) [] s₁)
-            (Feeds.all-used log (p .log-room) h Feeds.no-more);
+            back lent (callOutcome lent input) a bytes′ live′ run′ log′ e (λ s₁. Feeds waits (always second) (stateOf bytes tray desk live run) (input ∷ []) [] s₁)
+            (Feeds.all-used (record { log = log; second = second }) (p .log-room) h Feeds.no-more);
         says = says-none lent (callOutcome lent input) a bytes′ live′ run′ log′ e raw n out out′ at at′ w;
       }
 
 -- ---- a finish, told
 
-module _ (raw : Bool) (bytes live run log : List ℕ) (tray : Tray) (desk : Desk) (p : Prepared bytes tray desk live run log)
-    (bytes′ live′ run′ log′ : List ℕ) (a : Answer) (e : results a bytes′ live′ run′ log′ ≡ byFinish (hands bytes tray desk live run log))
+module _ (raw : Bool) (second : ℕ) (bytes live run log : List ℕ) (tray : Tray) (desk : Desk) (p : Prepared bytes tray desk live run log)
+    (bytes′ live′ run′ log′ : List ℕ) (a : Answer) (e : results a bytes′ live′ run′ log′ ≡ byFinish (hands bytes tray desk live run log second))
     (out out′ : List ℕ) (at at′ : ℕ) (w : waiting out′ at′ ≡ sayAll (waiting out at) (textsFor raw (take (a .log) log′))) where
   abbrev lent′ : Handed
-  lent′ = hands bytes tray desk live run log
+  lent′ = hands bytes tray desk live run log second
 
-  finish-goes : isEvent (a .said) ≡ true → (s : State) (oo : List ℕ) (aa : ℕ) → Ended raw (stateOf bytes′ (a .tray) (a .desk) live′ run′) out′ at′ s oo aa
-      → Ended raw (stateOf bytes tray desk live run) out at s oo aa
+  finish-goes : isEvent (a .said) ≡ true → (s : State) (oo : List ℕ) (aa : ℕ) → Ended raw second (stateOf bytes′ (a .tray) (a .desk) live′ run′) out′ at′ s oo aa
+      → Ended raw second (stateOf bytes tray desk live run) out at s oo aa
   finish-goes n s oo aa z = record {
     told = event lent′ (finishOutcome lent′) a bytes′ live′ run′ log′ e n .0 ∷ z .told;
     closes =
-        Closes.an-event log (p .log-room) (tells lent′ (finishOutcome lent′) a bytes′ live′ run′ log′ e n)
-        (onto lent′ (finishOutcome lent′) a bytes′ live′ run′ log′ e (λ s₁ u. Closes s₁ (z .told) s) (z .closes));
+        let t = event lent′ (finishOutcome lent′) a bytes′ live′ run′ log′ e n .0 in
+        Closes.an-event (record { log = log; second = second }) (p .log-room) (tells lent′ (finishOutcome lent′) a bytes′ live′ run′ log′ e n) (always-time t second)
+        (onto lent′ (finishOutcome lent′) a bytes′ live′ run′ log′ e (λ s₁ u. Closes (laterBy t (always second)) s₁ (z .told) s)
+        (subst (λ n. Closes n (stateOf bytes′ (a .tray) (a .desk) live′ run′) (z .told) s) (sym (later-always t second)) (z .closes)));
     says = says-on lent′ (finishOutcome lent′) a bytes′ live′ run′ log′ e n raw out out′ oo at at′ aa (z .told) w (z .says);
   }
 
-  finish-stops : isEvent (a .said) ≡ false → Ended raw (stateOf bytes tray desk live run) out at (stateOf bytes′ (a .tray) (a .desk) live′ run′) out′ at′
+  finish-stops : isEvent (a .said) ≡ false → Ended raw second (stateOf bytes tray desk live run) out at (stateOf bytes′ (a .tray) (a .desk) live′ run′) out′ at′
   finish-stops n =
-      let i : finishOutcome lent′ ≡ stream.finished bytes tray = finish-is bytes live run log tray desk p in
+      let i : finishOutcome lent′ ≡ stream.finished bytes tray = finish-is bytes live run log second tray desk p in
       let f = subst (λ o. machine.Ended (scanFrom (steps.liveOf bytes tray) 0 (tray .noise)) o) (sym i) (end-ended bytes tray (p .tray-ready)) in
       let q : isEvent (answerOf lent′ (finishOutcome lent′) .said) ≡ false = subst (λ (r : Result). isEvent (r .answer .said) ≡ false) e n in
       let h = done-so lent′ _ (finishOutcome lent′) f q in
       record {
         told = [];
         closes =
-            back lent′ (finishOutcome lent′) a bytes′ live′ run′ log′ e (λ s₁. Closes (stateOf bytes tray desk live run) [] s₁) (Closes.is-done log (p .log-room) h);
+            back lent′ (finishOutcome lent′) a bytes′ live′ run′ log′ e (λ s₁. Closes (always second) (stateOf bytes tray desk live run) [] s₁) (Closes.is-done (record { log = log; second = second }) (p .log-room) h);
         says = says-none lent′ (finishOutcome lent′) a bytes′ live′ run′ log′ e raw n out out′ at at′ w;
       }
 
 -- ---- what is answered, as the preparing stands then
 
-module _ (raw : Bool) (bytes live run log portion : List ℕ) (was : Heard)
-    (bytes′ live′ run′ log′ : List ℕ) (a : Answer) (e : Called bytes (was .tray) (was .desk) live run log portion (was .used) a bytes′ live′ run′ log′)
+module _ (raw : Bool) (second : ℕ) (bytes live run log portion : List ℕ) (was : Heard)
+    (bytes′ live′ run′ log′ : List ℕ) (a : Answer) (e : Called second bytes (was .tray) (was .desk) live run log portion (was .used) a bytes′ live′ run′ log′)
     (out out′ : List ℕ) (heard : Heard) (k : Spoken (was .used) a log′ raw out (was .at) out′ heard) where
   onward : (at′ : ℕ) (x : Heard) → x ≡ heardOf (was .used) a at′ → waiting out′ at′ ≡ sayAll (waiting out (was .at)) (textsFor raw (take (a .log) log′))
-      → Onward raw (stateOf bytes (was .tray) (was .desk) live run) out (was .at) (drop (was .used) portion) (stateOf bytes′ (x .tray) (x .desk) live′ run′) out′ at′
+      → Onward raw second (stateOf bytes (was .tray) (was .desk) live run) out (was .at) (drop (was .used) portion) (stateOf bytes′ (x .tray) (x .desk) live′ run′) out′ at′
       (drop (x .used) portion) (x .more)
   onward at′ x t w =
       rw t (record {
-        goes = λ n s oo aa z. call-goes raw bytes live run log (drop (was .used) portion) (was .tray) (was .desk) (e .prepared) bytes′ live′ run′ log′ a (e .results-are)
+        goes = λ n s oo aa z. call-goes raw second bytes live run log (drop (was .used) portion) (was .tray) (was .desk) (e .prepared) bytes′ live′ run′ log′ a (e .results-are)
             out out′ (was .at) at′ w n s oo aa (rw (drop-drop (a .used) (was .used) portion) z);
-        stops = call-stops raw bytes live run log (drop (was .used) portion) (was .tray) (was .desk) (e .prepared) bytes′ live′ run′ log′ a (e .results-are) out out′ (was .at) at′ w;
+        stops = call-stops raw second bytes live run log (drop (was .used) portion) (was .tray) (was .desk) (e .prepared) bytes′ live′ run′ log′ a (e .results-are) out out′ (was .at) at′ w;
       })
 
   stepped : (at′ : ℕ) (x : Heard) → x ≡ heardOf (was .used) a at′
@@ -252,26 +257,26 @@ module _ (raw : Bool) (bytes live run log portion : List ℕ) (was : Heard)
       × (Within (x .used) (length portion))
   stepped at′ x t = rw t (e .step, e .within)
 
-  pub call-advanced : Advanced raw bytes was live run portion out bytes′ heard live′ run′ log′ out′
+  pub call-advanced : Advanced raw second bytes was live run portion out bytes′ heard live′ run′ log′ out′
   call-advanced =
       let s = stepped (heard .at) heard (k .heard-is) in
       record { step = s .0; within = s .1; onward = onward (heard .at) heard (k .heard-is) (k .says) }
 
-module _ (raw : Bool) (bytes live run log : List ℕ) (was : Heard)
-    (bytes′ live′ run′ log′ : List ℕ) (a : Answer) (e : Finished bytes (was .tray) (was .desk) live run log a bytes′ live′ run′ log′)
+module _ (raw : Bool) (second : ℕ) (bytes live run log : List ℕ) (was : Heard)
+    (bytes′ live′ run′ log′ : List ℕ) (a : Answer) (e : Finished second bytes (was .tray) (was .desk) live run log a bytes′ live′ run′ log′)
     (out out′ : List ℕ) (heard : Heard) (k : Spoken 0 a log′ raw out (was .at) out′ heard) where
   nearer : (at′ : ℕ) (x : Heard) → x ≡ heardOf 0 a at′ → waiting out′ at′ ≡ sayAll (waiting out (was .at)) (textsFor raw (take (a .log) log′))
-      → Nearer raw (stateOf bytes (was .tray) (was .desk) live run) out (was .at) (stateOf bytes′ (x .tray) (x .desk) live′ run′) out′ at′ (x .more)
+      → Nearer raw second (stateOf bytes (was .tray) (was .desk) live run) out (was .at) (stateOf bytes′ (x .tray) (x .desk) live′ run′) out′ at′ (x .more)
   nearer at′ x t w =
       rw t (record {
-        goes = finish-goes raw bytes live run log (was .tray) (was .desk) (e .prepared) bytes′ live′ run′ log′ a (e .results-are) out out′ (was .at) at′ w;
-        stops = finish-stops raw bytes live run log (was .tray) (was .desk) (e .prepared) bytes′ live′ run′ log′ a (e .results-are) out out′ (was .at) at′ w;
+        goes = finish-goes raw second bytes live run log (was .tray) (was .desk) (e .prepared) bytes′ live′ run′ log′ a (e .results-are) out out′ (was .at) at′ w;
+        stops = finish-stops raw second bytes live run log (was .tray) (was .desk) (e .prepared) bytes′ live′ run′ log′ a (e .results-are) out out′ (was .at) at′ w;
       })
 
   stepped-last : (at′ : ℕ) (x : Heard) → x ≡ heardOf 0 a at′ → Step (lastToTell bytes (was .tray)) bytes′ (x .tray) (x .desk) live′ run′ log′ (x .more) (lastToTell bytes′ (x .tray))
   stepped-last at′ x t = rw t (e .step)
 
-  pub finish-neared : Neared raw bytes was live run out bytes′ heard live′ run′ log′ out′
+  pub finish-neared : Neared raw second bytes was live run out bytes′ heard live′ run′ log′ out′
   finish-neared = record { step = stepped-last (heard .at) heard (k .heard-is); nearer = nearer (heard .at) heard (k .heard-is) (k .says) }
 
 pub spoken-is : (used : ℕ) (a : Answer) (log : List ℕ) (raw : Bool) (out out′ : List ℕ) (at at′ : ℕ) (more : Bool) → more ≡ isEvent (a .said)

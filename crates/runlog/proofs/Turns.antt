@@ -45,14 +45,14 @@ use Rattle.runlog.specs.Events.{isEvent, Prepared, Hearing, Within, Step
 module _ (handed : Handed) where
   stay : (o : stream.Outcome) → Sound (handed .books) → Sound (booksOf handed o)
   stay (stream.refused r) s = s
-  stay (stream.told e c n) s = sound-after s e
+  stay (stream.told e c n) s = sound-after s (handed .second) e
   stay (stream.hungry c n) s = s
   stay (stream.done c) s = s
 
   entries-in : (o : stream.Outcome) → answerOf handed o .log ≤ length (logOf handed o)
   entries-in (stream.refused r) = omega arith
   entries-in (stream.told e c n) =
-      let es = entriesOf (toldOf (handed .books) e) in
+      let es = entriesOf (toldOf (handed .books) (handed .second) e) in
       rw (length-append es (drop (length es) (handed .log))) (omega arith)
   entries-in (stream.hungry c n) = omega arith
   entries-in (stream.done c) = omega arith
@@ -65,10 +65,10 @@ module _ (handed : Handed) where
 
 -- ---- a step of stream and desk, `o`, that is the stream's, `o′`, as a caller sees it
 
-module _ (bytes live run log : List ℕ) (tray : Tray) (desk : Desk) (p : Prepared bytes tray desk live run log) (o o′ : stream.Outcome) (q : o ≡ o′)
-    (bytes′ live′ run′ log′ : List ℕ) (a : Answer) (e : results a bytes′ live′ run′ log′ ≡ resultOf (hands bytes tray desk live run log) o) where
+module _ (bytes live run log : List ℕ) (second : ℕ) (tray : Tray) (desk : Desk) (p : Prepared bytes tray desk live run log) (o o′ : stream.Outcome) (q : o ≡ o′)
+    (bytes′ live′ run′ log′ : List ℕ) (a : Answer) (e : results a bytes′ live′ run′ log′ ≡ resultOf (hands bytes tray desk live run log second) o) where
   abbrev handed : Handed
-  handed = hands bytes tray desk live run log
+  handed = hands bytes tray desk live run log second
 
   the-answer : a ≡ answerOf handed o
   the-answer = ap (λ r. r .answer) e
@@ -101,7 +101,7 @@ module _ (bytes live run log : List ℕ) (tray : Tray) (desk : Desk) (p : Prepar
 
 -- ---- a call on the rest of a portion
 
-module _ (bytes live run log portion : List ℕ) (tray : Tray) (desk : Desk) (used : ℕ)
+module _ (bytes live run log portion : List ℕ) (second : ℕ) (tray : Tray) (desk : Desk) (used : ℕ)
     (h : Hearing bytes tray desk live run log used (length portion)) (bytes′ live′ run′ log′ : List ℕ) (a : Answer) where
   abbrev input : List ℕ
   input = take (length portion - used) (drop used portion)
@@ -109,18 +109,18 @@ module _ (bytes live run log portion : List ℕ) (tray : Tray) (desk : Desk) (us
   rest : input ≡ drop used portion
   rest = take-all (length portion - used) (drop used portion) (rw length-drop (omega arith))
 
-  abbrev call-is : callOutcome (hands bytes tray desk live run log) input ≡ stream.called bytes tray input
-  call-is = telling.call-is bytes live run log tray desk (h .prepared) input
+  abbrev call-is : callOutcome (hands bytes tray desk live run log second) input ≡ stream.called bytes tray input
+  call-is = telling.call-is bytes live run log second tray desk (h .prepared) input
 
-  module _ (e : results a bytes′ live′ run′ log′ ≡ byCall (hands bytes tray desk live run log) input) where
+  module _ (e : results a bytes′ live′ run′ log′ ≡ byCall (hands bytes tray desk live run log second) input) where
     abbrev of-call : (R : List ℕ → Tray → ℕ → Type 0)
         → R (stream.callBytes bytes tray input) (stream.callAnswer bytes tray input .tray) (stream.callAnswer bytes tray input .used)
         → R bytes′ (a .tray) (a .used)
-    of-call = along bytes live run log tray desk (h .prepared) _ _ call-is bytes′ live′ run′ log′ a e
+    of-call = along bytes live run log second tray desk (h .prepared) _ _ call-is bytes′ live′ run′ log′ a e
 
     call-fewer : isEvent (a .said) ≡ true → toTell bytes′ (a .tray) (used + a .used) portion < toTell bytes tray used portion
     call-fewer n =
-        let w = event bytes live run log tray desk (h .prepared) _ _ call-is bytes′ live′ run′ log′ a e (call-kept bytes tray input (h .prepared .tray-ready)) n in
+        let w = event bytes live run log second tray desk (h .prepared) _ _ call-is bytes′ live′ run′ log′ a e (call-kept bytes tray input (h .prepared .tray-ready)) n in
         let l = ap length (call-event (h .prepared .tray-ready) input (w .0) (w .1)) in
         let x : length (left bytes′ (a .tray) (drop (a .used) input)) < length (left bytes tray input)
         = of-call (λ b t u. length (left b t (drop u input)) < length (left bytes tray input)) (omega arith) in
@@ -133,55 +133,55 @@ module _ (bytes live run log portion : List ℕ) (tray : Tray) (desk : Desk) (us
         record { inside = omega (arith, ap length rest, length-drop used portion); fits = h .within .fits }
 
     call-fits : a .log ≤ length log′
-    call-fits = entries-fit bytes live run log tray desk (h .prepared) _ _ call-is bytes′ live′ run′ log′ a e
+    call-fits = entries-fit bytes live run log second tray desk (h .prepared) _ _ call-is bytes′ live′ run′ log′ a e
 
     call-step : length log′ ≡ length log
         → Step (toTell bytes tray used portion) bytes′ (a .tray) (a .desk) live′ run′ log′ (isEvent (a .said))
         (toTell bytes′ (a .tray) (used + a .used) portion)
     call-step l = record {
       prepared =
-          stays bytes live run log tray desk (h .prepared) _ _ call-is bytes′ live′ run′ log′ a e
+          stays bytes live run log second tray desk (h .prepared) _ _ call-is bytes′ live′ run′ log′ a e
           (call-sound (h .prepared .tray-ready) input) l;
       fewer = call-fewer;
     }
 
-    pub is-called : length log′ ≡ length log → Called bytes tray desk live run log portion used a bytes′ live′ run′ log′
+    pub is-called : length log′ ≡ length log → Called second bytes tray desk live run log portion used a bytes′ live′ run′ log′
     is-called l = record { prepared = h .prepared; step = call-step l; entries-fit = call-fits; within = call-within; results-are = rw rest at e }
 
 -- ---- a finish
 
-module _ (bytes live run log : List ℕ) (tray : Tray) (desk : Desk) (p : Prepared bytes tray desk live run log)
+module _ (bytes live run log : List ℕ) (second : ℕ) (tray : Tray) (desk : Desk) (p : Prepared bytes tray desk live run log)
     (bytes′ live′ run′ log′ : List ℕ) (a : Answer) where
-  abbrev finish-is : finishOutcome (hands bytes tray desk live run log) ≡ stream.finished bytes tray
-  finish-is = telling.finish-is bytes live run log tray desk p
+  abbrev finish-is : finishOutcome (hands bytes tray desk live run log second) ≡ stream.finished bytes tray
+  finish-is = telling.finish-is bytes live run log second tray desk p
 
-  module _ (e : results a bytes′ live′ run′ log′ ≡ byFinish (hands bytes tray desk live run log)) where
+  module _ (e : results a bytes′ live′ run′ log′ ≡ byFinish (hands bytes tray desk live run log second)) where
     finish-fewer : isEvent (a .said) ≡ true → lastToTell bytes′ (a .tray) < lastToTell bytes tray
     finish-fewer n =
-        let w = event bytes live run log tray desk p _ _ finish-is bytes′ live′ run′ log′ a e (end-kept bytes tray (p .tray-ready)) n in
+        let w = event bytes live run log second tray desk p _ _ finish-is bytes′ live′ run′ log′ a e (end-kept bytes tray (p .tray-ready)) n in
         let l = ap length (finish-event (p .tray-ready) (w .0) (w .1)) in
-        along bytes live run log tray desk p _ _ finish-is bytes′ live′ run′ log′ a e
+        along bytes live run log second tray desk p _ _ finish-is bytes′ live′ run′ log′ a e
         (λ b t u. length (left b t []) < length (left bytes tray [])) (omega arith)
 
     finish-fits : a .log ≤ length log′
-    finish-fits = entries-fit bytes live run log tray desk p _ _ finish-is bytes′ live′ run′ log′ a e
+    finish-fits = entries-fit bytes live run log second tray desk p _ _ finish-is bytes′ live′ run′ log′ a e
 
     finish-step : length log′ ≡ length log
         → Step (lastToTell bytes tray) bytes′ (a .tray) (a .desk) live′ run′ log′ (isEvent (a .said)) (lastToTell bytes′ (a .tray))
     finish-step l = record {
-      prepared = stays bytes live run log tray desk p _ _ finish-is bytes′ live′ run′ log′ a e (finish-sound (p .tray-ready)) l;
+      prepared = stays bytes live run log second tray desk p _ _ finish-is bytes′ live′ run′ log′ a e (finish-sound (p .tray-ready)) l;
       fewer = finish-fewer;
     }
 
     none-used : a .used ≡ 0
-    none-used = ap (λ r. r .answer .used) e ∙ ap (λ o. answerOf (hands bytes tray desk live run log) o .used) (finish-is ∙ finished-is bytes tray (p .tray-ready))
+    none-used = ap (λ r. r .answer .used) e ∙ ap (λ o. answerOf (hands bytes tray desk live run log second) o .used) (finish-is ∙ finished-is bytes tray (p .tray-ready))
         ∙ go (stream.close (stream.live (stream.contents bytes tray)) (tray .noise))
       where
-        go : (d : stream.Decision) → answerOf (hands bytes tray desk live run log) (stream.closeEnd d) .used ≡ 0
+        go : (d : stream.Decision) → answerOf (hands bytes tray desk live run log second) (stream.closeEnd d) .used ≡ 0
         go (stream.event e c) = refl
         go (stream.none held count) = refl
 
-    pub is-finished : length log′ ≡ length log → Finished bytes tray desk live run log a bytes′ live′ run′ log′
+    pub is-finished : length log′ ≡ length log → Finished second bytes tray desk live run log a bytes′ live′ run′ log′
     is-finished l = record { prepared = p; used-fits = rw none-used (omega arith); step = finish-step l; entries-fit = finish-fits; results-are = e }
 
 -- ---- an answer that is told
@@ -190,9 +190,9 @@ pub front : (n : ℕ) (s : List ℕ) → n ≤ length s → n ≡ length (take n
 front n s h = sym (length-take-le n s h)
 
 -- the bytes used of the whole portion
-pub used-fits : (bytes live run log portion bytes′ live′ run′ log′ : List ℕ) (tray : Tray) (desk : Desk) (used : ℕ) (a : Answer)
-    → Called bytes tray desk live run log portion used a bytes′ live′ run′ log′ → used + a .used < 2 ^ 64
-used-fits bytes live run log portion bytes′ live′ run′ log′ tray desk used a c =
+pub used-fits : (bytes live run log portion bytes′ live′ run′ log′ : List ℕ) (second : ℕ) (tray : Tray) (desk : Desk) (used : ℕ) (a : Answer)
+    → Called second bytes tray desk live run log portion used a bytes′ live′ run′ log′ → used + a .used < 2 ^ 64
+used-fits bytes live run log portion bytes′ live′ run′ log′ second tray desk used a c =
     let i = c .within .inside in
     let f = c .within .fits in
     omega arith
@@ -225,42 +225,42 @@ module _ (bytes₀ live₀ run₀ log₀ out₀ bytes live run log out bytes′ 
   }
 
 -- what holds of a portion: what is still to be told of it from here is what was to be told at its start
-pub record Heeding (raw : Bool) (start : State) (out₀ : List ℕ) (at₀ : ℕ) (portion bytes : List ℕ) (tray : Tray) (desk : Desk) (live run log out : List ℕ) (at used : ℕ) : Type 0 where
+pub record Heeding (raw : Bool) (second : ℕ) (start : State) (out₀ : List ℕ) (at₀ : ℕ) (portion bytes : List ℕ) (tray : Tray) (desk : Desk) (live run log out : List ℕ) (at used : ℕ) : Type 0 where
   pub hearing : Hearing bytes tray desk live run log used (length portion)
-  pub goes : (s : State) (o : List ℕ) (a : ℕ) → Told raw (stateOf bytes tray desk live run) out at (drop used portion) s o a → Told raw start out₀ at₀ portion s o a
+  pub goes : (s : State) (o : List ℕ) (a : ℕ) → Told raw second (stateOf bytes tray desk live run) out at (drop used portion) s o a → Told raw second start out₀ at₀ portion s o a
 
 -- and of the stream's end
-pub record Nearing (raw : Bool) (start : State) (out₀ : List ℕ) (at₀ : ℕ) (bytes : List ℕ) (tray : Tray) (desk : Desk) (live run log out : List ℕ) (at : ℕ) : Type 0 where
+pub record Nearing (raw : Bool) (second : ℕ) (start : State) (out₀ : List ℕ) (at₀ : ℕ) (bytes : List ℕ) (tray : Tray) (desk : Desk) (live run log out : List ℕ) (at : ℕ) : Type 0 where
   pub prepared : Prepared bytes tray desk live run log
-  pub goes : (s : State) (o : List ℕ) (a : ℕ) → Ended raw (stateOf bytes tray desk live run) out at s o a → Ended raw start out₀ at₀ s o a
+  pub goes : (s : State) (o : List ℕ) (a : ℕ) → Ended raw second (stateOf bytes tray desk live run) out at s o a → Ended raw second start out₀ at₀ s o a
 
-module _ (raw : Bool) (start : State) (at₀ : ℕ) (portion bytes₀ live₀ run₀ log₀ out₀ bytes live run log out bytes′ live′ run′ log′ out′ : List ℕ) (was next : Heard) where
-  module _ (t : Turning (Heeding raw start out₀ at₀ portion bytes (was .tray) (was .desk) live run log out (was .at) (was .used)) bytes₀ live₀ run₀ log₀ out₀ bytes live run log out)
-      (o : Advanced raw bytes was live run portion out bytes′ next live′ run′ log′ out′) where
-    pub portion-told : not (next .more) ≡ true → Told raw start out₀ at₀ portion (stateOf bytes′ (next .tray) (next .desk) live′ run′) out′ (next .at)
+module _ (raw : Bool) (second : ℕ) (start : State) (at₀ : ℕ) (portion bytes₀ live₀ run₀ log₀ out₀ bytes live run log out bytes′ live′ run′ log′ out′ : List ℕ) (was next : Heard) where
+  module _ (t : Turning (Heeding raw second start out₀ at₀ portion bytes (was .tray) (was .desk) live run log out (was .at) (was .used)) bytes₀ live₀ run₀ log₀ out₀ bytes live run log out)
+      (o : Advanced raw second bytes was live run portion out bytes′ next live′ run′ log′ out′) where
+    pub portion-told : not (next .more) ≡ true → Told raw second start out₀ at₀ portion (stateOf bytes′ (next .tray) (next .desk) live′ run′) out′ (next .at)
     portion-told n = t .holds .goes (stateOf bytes′ (next .tray) (next .desk) live′ run′) out′ (next .at) (o .onward .stops (not-true (next .more) n))
 
     pub call-fewer-left : not (next .more) ≡ false → toTell bytes′ (next .tray) (next .used) portion < toTell bytes (was .tray) (was .used) portion
     call-fewer-left n = o .step .fewer (not-false (next .more) n)
 
     pub after-call : not (next .more) ≡ false → length bytes′ ≡ length bytes → length live′ ≡ length live → length run′ ≡ length run → length log′ ≡ length log → length out′ ≡ length out
-        → Turning (Heeding raw start out₀ at₀ portion bytes′ (next .tray) (next .desk) live′ run′ log′ out′ (next .at) (next .used)) bytes₀ live₀ run₀ log₀ out₀ bytes′ live′ run′ log′ out′
+        → Turning (Heeding raw second start out₀ at₀ portion bytes′ (next .tray) (next .desk) live′ run′ log′ out′ (next .at) (next .used)) bytes₀ live₀ run₀ log₀ out₀ bytes′ live′ run′ log′ out′
     after-call n b l r g u =
         next-turn bytes₀ live₀ run₀ log₀ out₀ bytes live run log out bytes′ live′ run′ log′ out′ _ t b l r g u (record {
           hearing = record { prepared = o .step .prepared; within = o .within };
           goes = λ s oo aa z. t .holds .goes s oo aa (o .onward .goes (not-false (next .more) n) s oo aa z);
         })
 
-  module _ (t : Turning (Nearing raw start out₀ at₀ bytes (was .tray) (was .desk) live run log out (was .at)) bytes₀ live₀ run₀ log₀ out₀ bytes live run log out)
-      (o : Neared raw bytes was live run out bytes′ next live′ run′ log′ out′) where
-    pub end-told : not (next .more) ≡ true → Ended raw start out₀ at₀ (stateOf bytes′ (next .tray) (next .desk) live′ run′) out′ (next .at)
+  module _ (t : Turning (Nearing raw second start out₀ at₀ bytes (was .tray) (was .desk) live run log out (was .at)) bytes₀ live₀ run₀ log₀ out₀ bytes live run log out)
+      (o : Neared raw second bytes was live run out bytes′ next live′ run′ log′ out′) where
+    pub end-told : not (next .more) ≡ true → Ended raw second start out₀ at₀ (stateOf bytes′ (next .tray) (next .desk) live′ run′) out′ (next .at)
     end-told n = t .holds .goes (stateOf bytes′ (next .tray) (next .desk) live′ run′) out′ (next .at) (o .nearer .stops (not-true (next .more) n))
 
     pub finish-fewer-left : not (next .more) ≡ false → lastToTell bytes′ (next .tray) < lastToTell bytes (was .tray)
     finish-fewer-left n = o .step .fewer (not-false (next .more) n)
 
     pub after-finish : not (next .more) ≡ false → length bytes′ ≡ length bytes → length live′ ≡ length live → length run′ ≡ length run → length log′ ≡ length log → length out′ ≡ length out
-        → Turning (Nearing raw start out₀ at₀ bytes′ (next .tray) (next .desk) live′ run′ log′ out′ (next .at)) bytes₀ live₀ run₀ log₀ out₀ bytes′ live′ run′ log′ out′
+        → Turning (Nearing raw second start out₀ at₀ bytes′ (next .tray) (next .desk) live′ run′ log′ out′ (next .at)) bytes₀ live₀ run₀ log₀ out₀ bytes′ live′ run′ log′ out′
     after-finish n b l r g u =
         next-turn bytes₀ live₀ run₀ log₀ out₀ bytes live run log out bytes′ live′ run′ log′ out′ _ t b l r g u (record {
           prepared = o .step .prepared;
@@ -269,29 +269,29 @@ module _ (raw : Bool) (start : State) (at₀ : ℕ) (portion bytes₀ live₀ ru
 
 -- ---- the start of a portion, and of the stream's end
 
-module _ (raw : Bool) (bytes live run log out : List ℕ) (turn : Turn) (r : Heard) (e : r ≡ record { tray = turn .tray; desk = turn .desk; used = 0; at = 0; more = true }) where
+module _ (raw : Bool) (second : ℕ) (bytes live run log out : List ℕ) (turn : Turn) (r : Heard) (e : r ≡ record { tray = turn .tray; desk = turn .desk; used = 0; at = 0; more = true }) where
   started : Prepared bytes (turn .tray) (turn .desk) live run log → Prepared bytes (r .tray) (r .desk) live run log
   started p = rw e p
 
   pub first-heeding : (portion : List ℕ) → length portion < 2 ^ 64 → Prepared bytes (turn .tray) (turn .desk) live run log
-      → Heeding raw (stateOf bytes (r .tray) (r .desk) live run) out (r .at) portion bytes (r .tray) (r .desk) live run log out (r .at) (r .used)
+      → Heeding raw second (stateOf bytes (r .tray) (r .desk) live run) out (r .at) portion bytes (r .tray) (r .desk) live run log out (r .at) (r .used)
   first-heeding portion w p = record {
     hearing = record { prepared = started p; within = record { inside = rw e (omega arith); fits = w } };
     goes = λ s o a z.
-        subst (λ (u : ℕ). Told raw (stateOf bytes (r .tray) (r .desk) live run) out (r .at) (drop u portion) s o a) (ap (λ h. h .used) e) z;
+        subst (λ (u : ℕ). Told raw second (stateOf bytes (r .tray) (r .desk) live run) out (r .at) (drop u portion) s o a) (ap (λ h. h .used) e) z;
   }
 
   pub first-nearing : Prepared bytes (turn .tray) (turn .desk) live run log
-      → Nearing raw (stateOf bytes (r .tray) (r .desk) live run) out (r .at) bytes (r .tray) (r .desk) live run log out (r .at)
+      → Nearing raw second (stateOf bytes (r .tray) (r .desk) live run) out (r .at) bytes (r .tray) (r .desk) live run log out (r .at)
   first-nearing p = record { prepared = started p; goes = λ s o a z. z }
 
-module _ (raw : Bool) (bytes live run out : List ℕ) (turn : Turn) (r : Heard) (e : r ≡ record { tray = turn .tray; desk = turn .desk; used = 0; at = 0; more = true })
+module _ (raw : Bool) (second : ℕ) (bytes live run out : List ℕ) (turn : Turn) (r : Heard) (e : r ≡ record { tray = turn .tray; desk = turn .desk; used = 0; at = 0; more = true })
     (s : State) (o : List ℕ) (a : ℕ) where
-  pub from-start : (portion : List ℕ) → Told raw (stateOf bytes (r .tray) (r .desk) live run) out (r .at) portion s o a
-      → Told raw (stateOf bytes (turn .tray) (turn .desk) live run) out 0 portion s o a
+  pub from-start : (portion : List ℕ) → Told raw second (stateOf bytes (r .tray) (r .desk) live run) out (r .at) portion s o a
+      → Told raw second (stateOf bytes (turn .tray) (turn .desk) live run) out 0 portion s o a
   from-start portion z = rw e at z
 
-  pub end-from-start : Ended raw (stateOf bytes (r .tray) (r .desk) live run) out (r .at) s o a → Ended raw (stateOf bytes (turn .tray) (turn .desk) live run) out 0 s o a
+  pub end-from-start : Ended raw second (stateOf bytes (r .tray) (r .desk) live run) out (r .at) s o a → Ended raw second (stateOf bytes (turn .tray) (turn .desk) live run) out 0 s o a
   end-from-start z = rw e at z
 
 -- ---- a new desk, with the buffers that the program lends

@@ -70,21 +70,21 @@ heardOf used answer at =
     record { tray = answer .tray; desk = answer .desk; used = used + answer .used; at = at; more = isEvent (answer .said) }
 
 -- what a call on the rest of a portion answers and leaves
-pub record Called (bytes : List ℕ) (tray : Tray) (desk : Desk) (live run log portion : List ℕ) (used : ℕ) (answer : Answer) (bytes′ live′ run′ log′ : List ℕ) : Type 0 where
+pub record Called (second : ℕ) (bytes : List ℕ) (tray : Tray) (desk : Desk) (live run log portion : List ℕ) (used : ℕ) (answer : Answer) (bytes′ live′ run′ log′ : List ℕ) : Type 0 where
   pub prepared : Prepared bytes tray desk live run log
   pub step :
       Step (toTell bytes tray used portion) bytes′ (answer .tray) (answer .desk) live′ run′ log′ (isEvent (answer .said)) (toTell bytes′ (answer .tray) (used + answer .used) portion)
   pub entries-fit : answer .log ≤ length log′
   pub within : Within (used + answer .used) (length portion)
-  pub results-are : results answer bytes′ live′ run′ log′ ≡ byCall (hands bytes tray desk live run log) (drop used portion)
+  pub results-are : results answer bytes′ live′ run′ log′ ≡ byCall (hands bytes tray desk live run log second) (drop used portion)
 
 -- and what a finish does
-pub record Finished (bytes : List ℕ) (tray : Tray) (desk : Desk) (live run log : List ℕ) (answer : Answer) (bytes′ live′ run′ log′ : List ℕ) : Type 0 where
+pub record Finished (second : ℕ) (bytes : List ℕ) (tray : Tray) (desk : Desk) (live run log : List ℕ) (answer : Answer) (bytes′ live′ run′ log′ : List ℕ) : Type 0 where
   pub prepared : Prepared bytes tray desk live run log
   pub used-fits : 0 + answer .used < 2 ^ 64
   pub step : Step (lastToTell bytes tray) bytes′ (answer .tray) (answer .desk) live′ run′ log′ (isEvent (answer .said)) (lastToTell bytes′ (answer .tray))
   pub entries-fit : answer .log ≤ length log′
-  pub results-are : results answer bytes′ live′ run′ log′ ≡ byFinish (hands bytes tray desk live run log)
+  pub results-are : results answer bytes′ live′ run′ log′ ≡ byFinish (hands bytes tray desk live run log second)
 
 -- an answer that is told: the entries that were written are said
 pub record Spoken (used : ℕ) (answer : Answer) (log : List ℕ) (raw : Bool) (out : List ℕ) (at : ℕ) (out′ : List ℕ) (heard : Heard) : Type 0 where
@@ -92,25 +92,25 @@ pub record Spoken (used : ℕ) (answer : Answer) (log : List ℕ) (raw : Bool) (
   pub says : waiting out′ (heard .at) ≡ sayAll (waiting out at) (textsFor raw (take (answer .log) log))
 
 -- One call: if there is more, what is told of the rest is told behind it; else all is told.
-pub record Onward (raw : Bool) (state : State) (out : List ℕ) (at : ℕ) (input : List ℕ) (state′ : State) (out′ : List ℕ) (at′ : ℕ) (rest : List ℕ) (more : Bool) : Type 0 where
-  pub goes : more ≡ true → (s : State) (o : List ℕ) (a : ℕ) → Told raw state′ out′ at′ rest s o a → Told raw state out at input s o a
-  pub stops : more ≡ false → Told raw state out at input state′ out′ at′
+pub record Onward (raw : Bool) (second : ℕ) (state : State) (out : List ℕ) (at : ℕ) (input : List ℕ) (state′ : State) (out′ : List ℕ) (at′ : ℕ) (rest : List ℕ) (more : Bool) : Type 0 where
+  pub goes : more ≡ true → (s : State) (o : List ℕ) (a : ℕ) → Told raw second state′ out′ at′ rest s o a → Told raw second state out at input s o a
+  pub stops : more ≡ false → Told raw second state out at input state′ out′ at′
 
 -- One finish, in the same way.
-pub record Nearer (raw : Bool) (state : State) (out : List ℕ) (at : ℕ) (state′ : State) (out′ : List ℕ) (at′ : ℕ) (more : Bool) : Type 0 where
-  pub goes : more ≡ true → (s : State) (o : List ℕ) (a : ℕ) → Ended raw state′ out′ at′ s o a → Ended raw state out at s o a
-  pub stops : more ≡ false → Ended raw state out at state′ out′ at′
+pub record Nearer (raw : Bool) (second : ℕ) (state : State) (out : List ℕ) (at : ℕ) (state′ : State) (out′ : List ℕ) (at′ : ℕ) (more : Bool) : Type 0 where
+  pub goes : more ≡ true → (s : State) (o : List ℕ) (a : ℕ) → Ended raw second state′ out′ at′ s o a → Ended raw second state out at s o a
+  pub stops : more ≡ false → Ended raw second state out at state′ out′ at′
 
 -- a call, or a finish, that is told
-pub record Advanced (raw : Bool) (bytes : List ℕ) (was : Heard) (live run portion out bytes′ : List ℕ) (heard : Heard) (live′ run′ log′ out′ : List ℕ) : Type 0 where
+pub record Advanced (raw : Bool) (second : ℕ) (bytes : List ℕ) (was : Heard) (live run portion out bytes′ : List ℕ) (heard : Heard) (live′ run′ log′ out′ : List ℕ) : Type 0 where
   pub step :
       Step (toTell bytes (was .tray) (was .used) portion) bytes′ (heard .tray) (heard .desk) live′ run′ log′ (heard .more) (toTell bytes′ (heard .tray) (heard .used) portion)
   pub within : Within (heard .used) (length portion)
   pub onward :
-      Onward raw (stateOf bytes (was .tray) (was .desk) live run) out (was .at) (drop (was .used) portion)
+      Onward raw second (stateOf bytes (was .tray) (was .desk) live run) out (was .at) (drop (was .used) portion)
       (stateOf bytes′ (heard .tray) (heard .desk) live′ run′) out′ (heard .at) (drop (heard .used) portion) (heard .more)
 
-pub record Neared (raw : Bool) (bytes : List ℕ) (was : Heard) (live run out bytes′ : List ℕ) (heard : Heard) (live′ run′ log′ out′ : List ℕ) : Type 0 where
+pub record Neared (raw : Bool) (second : ℕ) (bytes : List ℕ) (was : Heard) (live run out bytes′ : List ℕ) (heard : Heard) (live′ run′ log′ out′ : List ℕ) : Type 0 where
   pub step : Step (lastToTell bytes (was .tray)) bytes′ (heard .tray) (heard .desk) live′ run′ log′ (heard .more) (lastToTell bytes′ (heard .tray))
   pub nearer :
-      Nearer raw (stateOf bytes (was .tray) (was .desk) live run) out (was .at) (stateOf bytes′ (heard .tray) (heard .desk) live′ run′) out′ (heard .at) (heard .more)
+      Nearer raw second (stateOf bytes (was .tray) (was .desk) live run) out (was .at) (stateOf bytes′ (heard .tray) (heard .desk) live′ run′) out′ (heard .at) (heard .more)

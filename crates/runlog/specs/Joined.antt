@@ -10,13 +10,25 @@ use Rattle.text.specs.Output.{short-parts, flatten-append}
 use Rattle.sizes.specs.Sizes.{logRoom}
 use Rattle.stream.specs.Scan.{Event, frame, noise}
 use Rattle.desk.specs.Take as desk
-use Rattle.desk.specs.History.{Held}
+use Rattle.desk.specs.History.{Held, handledAt}
 use Rattle.desk.specs.Theorems.{log-room}
 use Rattle.prepare.specs.Uncut as uncut
-use Rattle.prepare.specs.Uncut.{verdictOn, toldBy, toldOf, toldAll, booksAfter, entriesOf, runLog}
-use Rattle.prepare.specs.Driver.{Sound}
+use Rattle.prepare.specs.Uncut.{verdictOn, toldBy, toldOf, booksAfter, Seconds, later, toldAll, entriesOf, runLog}
+use Rattle.prepare.specs.Driver.{Sound, InTime, laterBy}
 use Rattle.prepare.specs.Stays.{verdict-past, sound-after}
-use Rattle.runlog.specs.Telling.{some, textsFor, logsOf}
+use Rattle.runlog.specs.Telling.{some, textsFor, logsOf, always}
+
+-- ---- every frame at the same second
+
+pub later-always : (t : uncut.Told) (second : ℕ) → laterBy t (always second) ≡ always second
+later-always (uncut.accepted header bytes entries) second = refl
+later-always (uncut.refused header bytes why) second = refl
+later-always (uncut.noise count) second = refl
+
+pub always-time : (t : uncut.Told) (second : ℕ) → InTime t second (always second)
+always-time (uncut.accepted header bytes entries) second = refl
+always-time (uncut.refused header bytes why) second = refl
+always-time (uncut.noise count) second = tt
 
 -- ---- the entries of what is told
 
@@ -35,27 +47,31 @@ some-short room [] rest h s = s
 some-short room (x ∷ xs) rest h s = (h, s)
 
 -- those of an event are no longer than the room for a frame's log
-entries-short : (books : Held) → Sound books → (e : Event) → length (entriesOf (toldOf books e)) ≤ logRoom
-entries-short books sound (noise count) = omega arith
-entries-short books sound (frame header bytes) =
+entries-short : (books : Held) → Sound books → (second : ℕ) (e : Event) → length (entriesOf (toldOf books second e)) ≤ logRoom
+entries-short books sound second (noise count) = omega arith
+entries-short books sound second (frame header bytes) =
     let log = replicate {A = ℕ} logRoom 0 in
     let room : logRoom ≤ length log = omega (arith, length-replicate {A = ℕ} logRoom 0) in
-    go (verdictOn books bytes)
-    (subst (λ v. length (desk.loggedBy (books .desk) (books .live) (books .run) v) ≤ logRoom) (verdict-past books sound bytes log room)
-    (log-room (desk.hands (books .desk) bytes (books .live) (books .run) log)))
+    go (verdictOn books second bytes)
+    (subst (λ v. length (desk.loggedBy (by v .desk) (books .live) (books .run) v) ≤ logRoom) (verdict-past books sound bytes second log room)
+    (log-room (desk.hands (books .desk) bytes second (books .live) (books .run) log)))
   where
-    go : (v : desk.Verdict) → length (desk.loggedBy (books .desk) (books .live) (books .run) v) ≤ logRoom → length (entriesOf (toldBy books header bytes v)) ≤ logRoom
+    by : desk.Verdict → Held
+    by v = handledAt books second v
+
+    go : (v : desk.Verdict) → length (desk.loggedBy (by v .desk) (books .live) (books .run) v) ≤ logRoom → length (entriesOf (toldBy (by v) header bytes v)) ≤ logRoom
     go (desk.refused why) h = omega arith
     go (desk.defines book live) h = h
     go (desk.continues book message) h = h
     go (desk.opens tag message) h = h
 
-pub raw-short : (events : List Event) (books : Held) → Sound books → Short logRoom (logsOf true (toldAll books events))
+pub raw-short : (events : List Event) (books : Held) (seconds : Seconds) → Sound books → Short logRoom (logsOf true (toldAll books seconds events))
 unfolding logsOf toldAll
-raw-short [] books sound = tt
-raw-short (e ∷ events) books sound =
-    some-short logRoom (entriesOf (toldOf books e)) (logsOf true (toldAll (booksAfter books e) events)) (entries-short books sound e)
-    (raw-short events (booksAfter books e) (sound-after sound e))
+raw-short [] books seconds sound = tt
+raw-short (e ∷ events) books seconds sound =
+    let next = booksAfter books (seconds 0) e in
+    some-short logRoom (entriesOf (toldOf books (seconds 0) e)) (logsOf true (toldAll next (later e seconds) events)) (entries-short books sound (seconds 0) e)
+    (raw-short events next (later e seconds) (sound-after sound (seconds 0) e))
 
 module _ (raw : Bool) where
   logs-append : (ts us : List uncut.Told) → logsOf raw (ts ++ us) ≡ logsOf raw ts ++ logsOf raw us

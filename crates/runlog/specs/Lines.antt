@@ -24,12 +24,12 @@ use Rattle.words.specs.Lengths.{lines-short}
 use Rattle.words.specs.Theorems.{reads-told, each-append}
 use Rattle.desk.specs.Take as desk
 use Rattle.desk.specs.History as history
-use Rattle.desk.specs.History.{Held, Given, Course, onward, heldBy, KeptOn}
+use Rattle.desk.specs.History.{Held, Given, Course, onward, handledAt, heldBy, KeptOn}
 use Rattle.desk.specs.Entries.{entriesUnder, BooksInBytes}
 use Rattle.desk.specs.Display.{written-under, entries-under, books-stay}
 use Rattle.desk.specs.Theorems.{stays-kept}
 use Rattle.prepare.specs.Uncut as uncut
-use Rattle.prepare.specs.Uncut.{verdictOn, entriesBy, toldBy, toldOf, toldAll, booksAfter, entriesOf, runLog}
+use Rattle.prepare.specs.Uncut.{verdictOn, handledOn, entriesBy, toldBy, toldOf, booksAfter, Seconds, toldAll, entriesOf, runLog}
 use Rattle.prepare.specs.Driver.{Sound}
 use Rattle.prepare.specs.Stays.{given, verdict-is, sound-after}
 use Rattle.runlog.specs.Telling.{logsOf}
@@ -81,19 +81,21 @@ told-by books header bytes (desk.defines book live) = refl
 told-by books header bytes (desk.continues book message) = refl
 told-by books header bytes (desk.opens tag message) = refl
 
-pub told-read : (events : List Event) (course : Course) → Sound (course .held) → KeptOn course → BooksInBytes course → AllRead (toldAll (course .held) events)
+pub told-read : (events : List Event) (course : Course) (seconds : Seconds) → Sound (course .held) → KeptOn course → BooksInBytes course
+    → AllRead (toldAll (course .held) seconds events)
 unfolding toldAll
-told-read [] course s k b = tt
-told-read (noise count ∷ events) course s k b = (([], tt, refl), told-read events course s k b)
-told-read (frame header bytes ∷ events) course s k b =
-    let g : Given = given bytes in
+told-read [] course seconds s k b = tt
+told-read (noise count ∷ events) course seconds s k b = (([], tt, refl), told-read events course seconds s k b)
+told-read (frame header bytes ∷ events) course seconds s k b =
+    let second : ℕ = seconds 0 in
+    let g : Given = given bytes second in
     let held : Held = course .held in
-    let v : history.verdictOn held g ≡ verdictOn held bytes = verdict-is held s bytes in
-    let e : entriesOf (toldBy held header bytes (verdictOn held bytes)) ≡ joined bytesOf (entriesUnder (onward course g .opening) (history.verdictOn held g))
-    = told-by held header bytes (verdictOn held bytes) ∙ ap (entriesBy held) (sym v) ∙ written-under course g k in
-    let n : onward course g .held ≡ booksAfter held (frame header bytes) = ap (heldBy held) v in
-    let rest = told-read events (onward course g) (subst Sound (sym n) (sound-after s (frame header bytes))) (stays-kept course g k) (books-stay course b g tt) in
-    ((entriesUnder (onward course g .opening) (history.verdictOn held g), entries-under course b g tt, e), subst (λ (h : Held). AllRead (toldAll h events)) n rest)
+    let v : history.verdictOn held g ≡ verdictOn held second bytes = verdict-is held s second bytes in
+    let e : entriesOf (toldOf held second (frame header bytes)) ≡ joined bytesOf (entriesUnder (onward course g .opening) (history.verdictOn held g))
+    = told-by (handledOn held second bytes) header bytes (verdictOn held second bytes) ∙ ap (λ v. entriesBy (handledAt held second v) v) (sym v) ∙ written-under course g k in
+    let n : onward course g .held ≡ booksAfter held second (frame header bytes) = ap (λ v. heldBy (handledAt held second v) v) v in
+    let rest = told-read events (onward course g) (λ i. seconds (suc i)) (subst Sound (sym n) (sound-after s second (frame header bytes))) (stays-kept course g k) (books-stay course b g tt) in
+    ((entriesUnder (onward course g .opening) (history.verdictOn held g), entries-under course b g tt, e), subst (λ (h : Held). AllRead (toldAll h (λ i. seconds (suc i)) events)) n rest)
 
 -- ---- the books that a new desk has
 

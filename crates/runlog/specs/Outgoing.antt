@@ -12,7 +12,7 @@ use Rattle.runlog.specs.Running.{Reads, AllTold}
 -- of portion after portion
 unfoldable pub outIn : {raw : Bool} {s s₁ : State} {o o₁ : List ℕ} {ps : List (List ℕ)} → Reads raw s o ps s₁ o₁ → List ℕ
 outIn Reads.no-more = []
-outIn {raw = raw} (Reads.a-portion {o = o} {o₁ = p} at told rest) = wholeOut o (logsOf raw (told .told)) p at ++ outIn rest
+outIn {raw = raw} (Reads.a-portion {o = o} {o₁ = p} second at told rest) = wholeOut o (logsOf raw (told .told)) p at ++ outIn rest
 
 -- of a whole stream
 abbrev pub outOf : {raw : Bool} {state : State} {out bytes₂ live₂ run₂ out₂ : List ℕ} {stop : Stop} → AllTold raw state out bytes₂ live₂ run₂ out₂ stop → List ℕ

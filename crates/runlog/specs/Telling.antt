@@ -10,7 +10,7 @@ use Rattle.stream.specs.declared.Tray.{Tray}
 use Rattle.stream.specs.Driver.{waits}
 use Rattle.desk.specs.declared.Desk.{Desk}
 use Rattle.prepare.specs.Uncut as uncut
-use Rattle.prepare.specs.Uncut.{entriesOf}
+use Rattle.prepare.specs.Uncut.{Seconds, entriesOf}
 use Rattle.prepare.specs.Prepare.{booksIn}
 use Rattle.prepare.specs.Driver.{State, Feeds, Closes}
 
@@ -33,14 +33,18 @@ unfoldable pub logsOf : (raw : Bool) → List uncut.Told → List (List ℕ)
 logsOf raw [] = []
 logsOf raw (told ∷ rest) = textsFor raw (entriesOf told) ++ logsOf raw rest
 
--- A portion is told until hungry: what its calls tell, and the entries that they write are said.
-pub record Told (raw : Bool) (state : State) (out : List ℕ) (at : ℕ) (portion : List ℕ) (state′ : State) (out′ : List ℕ) (at′ : ℕ) : Type 0 where
+-- every frame at the same second
+abbrev pub always : (second : ℕ) → Seconds
+always second = λ i. second
+
+-- A portion is told until hungry: what its calls tell, each frame at the second at which the portion was read, and the entries that they write are said.
+pub record Told (raw : Bool) (second : ℕ) (state : State) (out : List ℕ) (at : ℕ) (portion : List ℕ) (state′ : State) (out′ : List ℕ) (at′ : ℕ) : Type 0 where
   pub told : List uncut.Told
-  pub feeds : Feeds waits state (portion ∷ []) told state′
+  pub feeds : Feeds waits (always second) state (portion ∷ []) told state′
   pub says : waiting out′ at′ ≡ sayAll (waiting out at) (logsOf raw told)
 
--- The stream's end is told until done.
-pub record Ended (raw : Bool) (state : State) (out : List ℕ) (at : ℕ) (state′ : State) (out′ : List ℕ) (at′ : ℕ) : Type 0 where
+-- The stream's end is told until done, in the same way.
+pub record Ended (raw : Bool) (second : ℕ) (state : State) (out : List ℕ) (at : ℕ) (state′ : State) (out′ : List ℕ) (at′ : ℕ) : Type 0 where
   pub told : List uncut.Told
-  pub closes : Closes state told state′
+  pub closes : Closes (always second) state told state′
   pub says : waiting out′ at′ ≡ sayAll (waiting out at) (logsOf raw told)
