@@ -1,4 +1,5 @@
 pub mod Command
+pub mod Clock
 pub mod Telling
 pub mod Running
 pub mod Outgoing

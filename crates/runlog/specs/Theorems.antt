@@ -33,7 +33,7 @@ use Rattle.runlog.specs.declared.Job.the-variants as job
 use Rattle.runlog.specs.declared.Done.{Done}
 use Rattle.runlog.specs.declared.Done.the-variants as done
 use Rattle.runlog.specs.Command.{jobOf}
-use Rattle.runlog.specs.Telling.{logsOf, always}
+use Rattle.runlog.specs.Telling.{stateOf, logsOf, always}
 use Rattle.runlog.specs.Running.{Reads, toldIn, secondsIn, AllTold, secondsOf, atStart, Ran, Does}
 use Rattle.runlog.specs.Outgoing.{outIn, outOf}
 use Rattle.runlog.specs.Joined.{later-always, logs-join, raw-short, logs-parts, logs-flat}
@@ -44,23 +44,23 @@ in-time (uncut.accepted header bytes entries) n second behind i = i
 in-time (uncut.refused header bytes why) n second behind i = i
 in-time (uncut.noise count) n second behind i = tt
 
-module _ {s₁ s₂ : State} {ps : List (List ℕ)} {us : List uncut.Told} {second : ℕ} {behind : Seconds} (g : Feeds waits behind s₁ ps us s₂) where
-  portion-then : {seconds : Seconds} {s : State} {p : List ℕ} {ts : List uncut.Told} → Feeds waits seconds s (p ∷ []) ts s₁ → seconds ≡ always second
-      → Feeds waits (datedBy second ts behind) s (p ∷ ps) (ts ++ us) s₂
-  unfolding datedBy
-  portion-then (Feeds.an-event {seconds} {s} {p = p} {t = t} {ts} given room k i f) e =
-      let n : Seconds = datedBy second ts behind in
-      let x = portion-then f (ap (laterBy t) e ∙ later-always t second) in
-      Feeds.an-event given room k (in-time t (given .second) second n (subst (λ z. InTime t (given .second) z) e i))
-      (subst (λ z. Feeds waits z (callLeaves s given p) (drop (callSays s given p .used) p ∷ ps) (ts ++ us) s₂) (sym (earlier-later t second n)) x)
-  portion-then (Feeds.all-used given room k Feeds.no-more) e = Feeds.all-used given room k g
-  portion-then (Feeds.passed-over z f) e = absurd z
+portion-then : {second : ℕ} {behind seconds : Seconds} {s s₁ s₂ : State} {p : List ℕ} {ps : List (List ℕ)} {ts us : List uncut.Told}
+    → Feeds waits seconds s (p ∷ []) ts s₁ → seconds ≡ always second → Feeds waits behind s₁ ps us s₂
+    → Feeds waits (datedBy second ts behind) s (p ∷ ps) (ts ++ us) s₂
+unfolding datedBy
+portion-then {second} {behind} {s₂ = s₂} {ps = ps} {us = us} (Feeds.an-event {seconds} {s} {p = p} {t = t} {ts} given room k i f) e g =
+    let n : Seconds = datedBy second ts behind in
+    let x = portion-then f (ap (laterBy t) e ∙ later-always t second) g in
+    Feeds.an-event given room k (in-time t (given .second) second n (subst (λ z. InTime t (given .second) z) e i))
+    (subst (λ z. Feeds waits z (callLeaves s given p) (drop (callSays s given p .used) p ∷ ps) (ts ++ us) s₂) (sym (earlier-later t second n)) x)
+portion-then (Feeds.all-used given room k Feeds.no-more) e g = Feeds.all-used given room k g
+portion-then (Feeds.passed-over z f) e g = absurd z
 
 portions-feed : {raw : Bool} {s s₁ : State} {o o₁ : List ℕ} {ps : List (List ℕ)} (r : Reads raw s o ps s₁ o₁) (behind : Seconds)
     → Feeds waits (secondsIn r behind) s ps (toldIn r) s₁
 unfolding toldIn secondsIn
 portions-feed Reads.no-more behind = Feeds.no-more
-portions-feed (Reads.a-portion second at told rest) behind = portion-then (portions-feed rest behind) (told .feeds) refl
+portions-feed (Reads.a-portion second at told rest) behind = portion-then (told .feeds) refl (portions-feed rest behind)
 
 -- behind what is told of the portions come the seconds of the end
 behind-portion : (second : ℕ) (ts us : List uncut.Told) (seconds : Seconds) → laterAll (ts ++ us) (datedBy second ts seconds) ≡ laterAll us seconds
@@ -96,8 +96,8 @@ module _ {raw : Bool} {books : Held} {bytes out bytes₂ live₂ run₂ out₂ :
     between = a .state₁;
     feeds = portions-feed (a .reads) (always (a .closes .second′));
     after = a .closes .ends .told;
-    end = _;
-    closes = subst (λ z. Closes z (a .state₁) (a .closes .ends .told) _) (sym (behind-all (a .reads) (always (a .closes .second′)))) (a .closes .ends .closes);
+    end = stateOf bytes₂ (a .closes .tray′) (a .closes .desk′) live₂ run₂;
+    closes = subst (λ z. Closes z (a .state₁) (a .closes .ends .told) (stateOf bytes₂ (a .closes .tray′) (a .closes .desk′) live₂ run₂)) (sym (behind-all (a .reads) (always (a .closes .second′)))) (a .closes .ends .closes);
   }
 
   -- What is told is what is told of the uncut stream, its frames at the seconds at which their portions were read.

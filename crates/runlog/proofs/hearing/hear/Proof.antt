@@ -8,13 +8,13 @@ use Rattle.runlog.proofs.hearing.hear.Statement.{statement}
 use Rattle.runlog.proofs.hearing.hear.Tie as tie
 
 abbrev Inv-loop : tie.InvT-loop
-Inv-loop bytes₀ live₀ run₀ log₀ portion raw out₀ next₀ bytes live run log out next =
+Inv-loop bytes₀ live₀ run₀ log₀ portion second raw out₀ next₀ bytes live run log out next =
     Turning
-    (Heeding raw (stateOf bytes₀ (next₀ .tray) (next₀ .desk) live₀ run₀) out₀ (next₀ .at) portion bytes (next .tray) (next .desk) live run log out (next .at) (next .used))
+    (Heeding raw second (stateOf bytes₀ (next₀ .tray) (next₀ .desk) live₀ run₀) out₀ (next₀ .at) portion bytes (next .tray) (next .desk) live run log out (next .at) (next .used))
     bytes₀ live₀ run₀ log₀ out₀ bytes live run log out
 
 abbrev μ-loop : tie.MeasureT-loop
-μ-loop bytes₀ live₀ run₀ log₀ portion raw out₀ next₀ bytes live run log out next = toTell bytes (next .tray) (next .used) portion
+μ-loop bytes₀ live₀ run₀ log₀ portion second raw out₀ next₀ bytes live run log out next = toTell bytes (next .tray) (next .used) portion
 
 start-requires : tie.Need-start-requires Inv-loop μ-loop
 start-requires c κs = search needs

@@ -7,12 +7,12 @@ use Rattle.runlog.proofs.hearing.hear_end.Statement.{statement}
 use Rattle.runlog.proofs.hearing.hear_end.Tie as tie
 
 abbrev Inv-loop : tie.InvT-loop
-Inv-loop bytes₀ live₀ run₀ log₀ raw out₀ last₀ bytes live run log out last =
-    Turning (Nearing raw (stateOf bytes₀ (last₀ .tray) (last₀ .desk) live₀ run₀) out₀ (last₀ .at) bytes (last .tray) (last .desk) live run log out (last .at))
+Inv-loop bytes₀ live₀ run₀ log₀ second raw out₀ last₀ bytes live run log out last =
+    Turning (Nearing raw second (stateOf bytes₀ (last₀ .tray) (last₀ .desk) live₀ run₀) out₀ (last₀ .at) bytes (last .tray) (last .desk) live run log out (last .at))
     bytes₀ live₀ run₀ log₀ out₀ bytes live run log out
 
 abbrev μ-loop : tie.MeasureT-loop
-μ-loop bytes₀ live₀ run₀ log₀ raw out₀ last₀ bytes live run log out last = lastToTell bytes (last .tray)
+μ-loop bytes₀ live₀ run₀ log₀ second raw out₀ last₀ bytes live run log out last = lastToTell bytes (last .tray)
 
 start-requires : tie.Need-start-requires Inv-loop μ-loop
 start-requires c κs = search needs

@@ -7,6 +7,9 @@ use Rattle.runlog.proofs.hearing.hear_some.Tie as tie
 read-some-requires : tie.Need-read-some-requires
 read-some-requires c κs = search needs
 
+second-now-requires : tie.Need-second-now-requires
+second-now-requires c κs = search needs
+
 slice-reshare-prefix-hear-came : tie.Need-slice-reshare-prefix-hear-came
 slice-reshare-prefix-hear-came c = search needs
 
@@ -42,6 +45,7 @@ hear-some-spec =
     tie.close
     (tie.spec
     read-some-requires
+    second-now-requires
     slice-reshare-prefix-hear-came
     slice-aggregate-hear-came
     hear-came-requires
