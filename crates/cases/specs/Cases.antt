@@ -1,5 +1,5 @@
 -- Document 01, "Measured cases": one table against the definitions, with a single proof. Definitions to believe.
-use mathlib.Core.Path.{_≡_, refl}
+use mathlib.Core.Path.{_≡_, refl, ap, sym, _∙_}
 use mathlib.Core.Bool.{Bool, true, false}
 use mathlib.Core.List.{List, [], _∷_, _++_, map}
 use Prim.Native.Nat.{ℕ, _+_, _*_, _^_}
@@ -15,14 +15,18 @@ use Rattle.book.specs.Take.{lookup, insert, takeBlock, takeAll, before, outcome
 use Rattle.book.specs.declared.Taken as took
 use Rattle.book.specs.declared.Taken.the-variants as gad
 use Rattle.checks.specs.Crc.{shift, crcBits, crc, lowFirst, reversed4, frameCrc, messageCrc}
+use Rattle.codes.specs.declared.Constellation.the-variants.{Gps}
 use Rattle.codes.specs.Fields.{numbered}
 use Rattle.codes.specs.Tables.{maskSizes, maskSize}
 use Rattle.desk.specs.Desk.{newDesk, deskSound}
-use Rattle.desk.specs.Take.{hands, byHeader, noRoom, verdict, loggedBy, frameTaken}
+use Rattle.desk.specs.Take.{hands, byHeader, isGap, noRoom, verdict, loggedBy, leavingBy, frameTaken}
+use Rattle.desk.specs.Gap.{plainVerdict, plainTaken, no-gap-logged, no-gap-run}
+use Rattle.desk.specs.declared.Desk.{Desk}
+use Rattle.desk.specs.declared.Last.the-variants.{Never}
 use Rattle.desk.specs.declared.NewDesk.{NewDesk}
 use Rattle.desk.specs.declared.NewDesk.the-variants as new
 use Rattle.desk.specs.declared.Run.{Run}
-use Rattle.desk.specs.declared.Run.the-variants.{Open}
+use Rattle.desk.specs.declared.Run.the-variants.{Open, Closed}
 use Rattle.frame.specs.Fields.{authenticated, authentication}
 use Rattle.frame.specs.Check.{frameOf, badMessageCrc, badFrameCrc, checked, payloadIn}
 use Rattle.frame.specs.Write.{bytesOf, start, description, body, checkOver, plain}
@@ -64,23 +68,25 @@ abbrev pub log : List ℕ
 log = replicate logRoom 0
 
 -- the run that a new desk has open after its first frame, and the log bytes that it writes of it
-abbrev pub firstRun : NewDesk → (frame : List ℕ) → Answer
-firstRun (new.Made desk) frame = opens (frameTaken (hands desk frame book book log) .answer .desk .run)
-firstRun (new.Refused why) frame = noDesk
+abbrev pub firstRun : NewDesk → (second : ℕ) → (frame : List ℕ) → Answer
+firstRun (new.Made desk) second frame = opens (frameTaken (hands desk frame second book book log) .answer .desk .run)
+firstRun (new.Refused why) second frame = noDesk
 
-abbrev pub firstLog : NewDesk → (frame : List ℕ) → Answer
-firstLog (new.Made desk) frame = bytes (loggedBy desk book book (verdict (hands desk frame book book log)))
-firstLog (new.Refused why) frame = noDesk
+abbrev pub firstLog : NewDesk → (second : ℕ) → (frame : List ℕ) → Answer
+firstLog (new.Made desk) second frame =
+    bytes (loggedBy (leavingBy (hands desk frame second book book log)) book book (verdict (hands desk frame second book book log)))
+firstLog (new.Refused why) second frame = noDesk
 
-abbrev pub said : Question → Answer
-said (valueAt sf code) = means (valueOf sf code)
-said (payloadOf kind subtype sheet) = takes (judgedSheet kind subtype sheet)
+-- where a frame comes in at this second
+abbrev pub said : (second : ℕ) → Question → Answer
+said second (valueAt sf code) = means (valueOf sf code)
+said second (payloadOf kind subtype sheet) = takes (judgedSheet kind subtype sheet)
 -- a GAD, taken into a book without areas
-said (intoBook payload) = leaves (takenOf noBook book payload)
-said (inGroups number) = bytes (groupsOf number)
+said second (intoBook payload) = leaves (takenOf noBook book payload)
+said second (inGroups number) = bytes (groupsOf number)
 -- for solution 0, processor 0 and GPS
-said (runAfter frame) = firstRun (newDesk 0 0 0) frame
-said (logAfter frame) = firstLog (newDesk 0 0 0) frame
+said second (runAfter frame) = firstRun (newDesk 0 0 0) second frame
+said second (logAfter frame) = firstLog (newDesk 0 0 0) second frame
 
 pub record Case : Type 0 where
   pub asked : Question
@@ -144,6 +150,30 @@ measured =
     at (logAfter (hpacWith 0 43199)) (bytes (0x01 ∷ 0xBF ∷ 0xD1 ∷ 0x02 ∷ 0x00 ∷ 0x00 ∷ 0x03 ∷ 0x05 ∷ 0x01 ∷ [])) ∷
     []
 
-pub measured-hold : map (λ (c : Case). said (c .asked)) measured ≡ map (λ (c : Case). c .answer) measured
-unfolding measured decimal valueOf sf lineOf find table quotient div ofInt round judgedSheet judgingSheet writeL judge bitsOf numbered maskSize maskSizes areaOff groupsOf groups groupsOfAll newDesk frameTaken loggedBy verdict noRoom byHeader deskSound sound headSound areasSound plain body start description checkOver bytesOf checked badFrameCrc badMessageCrc frameOf payloadIn authenticated authentication frameCrc messageCrc crc crcBits shift lowFirst reversed4 toBits number field judging readL logOf entriesOf reasonFor outcome before areasIn takeAll takeBlock lookup insert
+pub measured-hold : map (λ (c : Case). said 0 (c .asked)) measured ≡ map (λ (c : Case). c .answer) measured
+unfolding measured decimal valueOf sf lineOf find table quotient div ofInt round judgedSheet judgingSheet writeL judge bitsOf numbered maskSize maskSizes areaOff groupsOf groups groupsOfAll newDesk frameTaken loggedBy verdict isGap noRoom byHeader deskSound sound headSound areasSound plain body start description checkOver bytesOf checked badFrameCrc badMessageCrc frameOf payloadIn authenticated authentication frameCrc messageCrc crc crcBits shift lowFirst reversed4 toBits number field judging readL logOf entriesOf reasonFor outcome before areasIn takeAll takeBlock lookup insert
 measured-hold = refl
+
+-- a new desk for solution 0, processor 0 and GPS; document 01's definitions do not look at the second
+abbrev first : Desk
+first = record { solution = 0; processor = 0; constellation = Gps; book = noBook; run = Closed; last = Never }
+
+first-run : (second : ℕ) (frame : List ℕ) → plainTaken (hands first frame second book book log) .answer .desk .run ≡ plainTaken (hands first frame 0 book book log) .answer .desk .run
+unfolding plainTaken plainVerdict
+first-run second frame = refl
+
+first-logged : (second : ℕ) (frame : List ℕ) → loggedBy first book book (plainVerdict (hands first frame second book book log)) ≡ loggedBy first book book (plainVerdict (hands first frame 0 book book log))
+unfolding plainVerdict
+first-logged second frame = refl
+
+-- Cases 9 and 10 stand (document 02, request 1): at the first frame no time counts as passed, so each question has the same answer at every second.
+pub any-second : (second : ℕ) (asked : Question) → said second asked ≡ said 0 asked
+unfolding newDesk isGap
+any-second second (valueAt sf code) = refl
+any-second second (payloadOf kind subtype sheet) = refl
+any-second second (intoBook payload) = refl
+any-second second (inGroups number) = refl
+any-second second (runAfter frame) =
+    ap opens (no-gap-run (hands first frame second book book log) refl ∙ first-run second frame ∙ sym (no-gap-run (hands first frame 0 book book log) refl))
+any-second second (logAfter frame) =
+    ap bytes (no-gap-logged (hands first frame second book book log) refl ∙ first-logged second frame ∙ sym (no-gap-logged (hands first frame 0 book book log) refl))

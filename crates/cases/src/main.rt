@@ -123,7 +123,7 @@ fn taken(desk: Desk, tag_kind: u8, tag: u64, log: &mut [u8]) -> Taken {
     write_hpac(tag_kind, tag, &mut frame);
     let mut live = [0u8; sizes::BOOK_BYTES];
     let mut run = [0u8; sizes::BOOK_BYTES];
-    desk::take(desk, &frame, &mut live, &mut run, log)
+    desk::take(desk, &frame, 0, &mut live, &mut run, log)
 }
 
 // A run with this tag and no book.

@@ -98,6 +98,30 @@ module _ (handed : Handed) (e : isGap (handed .desk .last) (handed .second) ≡ 
       (handles-same (handed .desk) (handed .second) e)
       ∙ ap (λ v. withSecond (handed .desk) (handed .second) (handed .live) (handed .run) (handed .log) (resultBy (handed .desk) (handed .live) (handed .run) (handed .log) v)) no-gap-verdict
 
+  by-same : accepting (handed .desk) (handed .second) .book ≡ handed .desk .book
+  by-same = ap (λ d. d .book) (handles-same (handed .desk) (handed .second) e)
+
+  -- What is logged, and the run that is open then, ask for no second.
+  pub no-gap-logged : loggedBy (leavingBy handed) (handed .live) (handed .run) (verdict handed) ≡ loggedBy (handed .desk) (handed .live) (handed .run) (plainVerdict handed)
+  unfolding loggedBy
+  no-gap-logged = go (verdict handed) ∙ ap (loggedBy (handed .desk) (handed .live) (handed .run)) no-gap-verdict
+    where
+      go : (v : Verdict) → loggedBy (leaving (handed .desk) (handed .second) v) (handed .live) (handed .run) v ≡ loggedBy (handed .desk) (handed .live) (handed .run) v
+      go (refused why) = refl
+      go (defines book bytes) = refl
+      go (continues book message) = refl
+      go (opens tag message) = ap (λ b. loggedBy (deskWith (handed .desk) b (handed .desk .run)) (handed .live) (handed .run) (opens tag message)) by-same
+
+  pub no-gap-run : frameTaken handed .answer .desk .run ≡ plainTaken handed .answer .desk .run
+  unfolding frameTaken plainTaken
+  no-gap-run = go (verdict handed) ∙ ap (λ v. deskBy (handed .desk) v .run) no-gap-verdict
+    where
+      go : (v : Verdict) → deskBy (leaving (handed .desk) (handed .second) v) v .run ≡ deskBy (handed .desk) v .run
+      go (refused why) = refl
+      go (defines book bytes) = refl
+      go (continues book message) = refl
+      go (opens tag message) = ap (Open tag) by-same
+
 -- ---- a refusal: "if it is refused, the old book stays", and so does all that was lent, the last second too, gap or no gap
 
 module _ (handed : Handed) where
@@ -187,7 +211,7 @@ module _ (handed : Handed) (w : deskSound (handed .desk) (handed .live) (handed 
 
   -- ---- what that is
 
-  -- A GAD leaves its own areas alone: they are taken from no area on (`from-none`).
+  -- A GAD leaves its own areas and no others: they are taken from no area on (`from-none`).
   pub gap-defines : (book : Book) (bytes : List ℕ) → verdict handed ≡ defines book bytes
       → (frameTaken handed .answer .desk .book ≡ book) × (frameTaken handed .live ≡ bytes)
       × (frameTaken handed .answer .desk .run ≡ handed .desk .run) × (frameTaken handed .run ≡ handed .run)
