@@ -174,6 +174,7 @@ pub mod raw {
         fn homralgyu_desk_take(
             frame: *const u8,
             frame_len: usize,
+            second: u64,
             desk: *mut u64,
             desk_len: usize,
             live: *mut u8,
@@ -409,8 +410,10 @@ pub mod raw {
         }
     }
 
+    #[allow(clippy::too_many_arguments)]
     pub fn desk_take(
         frame: &[u8],
+        second: u64,
         desk: &mut [u64],
         live: &mut [u8],
         run: &mut [u8],
@@ -421,6 +424,7 @@ pub mod raw {
             homralgyu_desk_take(
                 frame.as_ptr(),
                 frame.len(),
+                second,
                 desk.as_mut_ptr(),
                 desk.len(),
                 live.as_mut_ptr(),
@@ -599,6 +603,7 @@ pub mod raw {
             log_len: usize,
             input: *const u8,
             input_len: usize,
+            second: u64,
             told: *mut u64,
             told_len: usize,
             header: *mut u64,
@@ -617,6 +622,7 @@ pub mod raw {
             run_len: usize,
             log: *mut u8,
             log_len: usize,
+            second: u64,
             told: *mut u64,
             told_len: usize,
             header: *mut u64,
@@ -633,6 +639,7 @@ pub mod raw {
         run: &mut [u8],
         log: &mut [u8],
         input: &[u8],
+        second: u64,
         told: &mut [u64],
         header: &mut [u64],
     ) -> u8 {
@@ -652,6 +659,7 @@ pub mod raw {
                 log.len(),
                 input.as_ptr(),
                 input.len(),
+                second,
                 told.as_mut_ptr(),
                 told.len(),
                 header.as_mut_ptr(),
@@ -668,6 +676,7 @@ pub mod raw {
         live: &mut [u8],
         run: &mut [u8],
         log: &mut [u8],
+        second: u64,
         told: &mut [u64],
         header: &mut [u64],
     ) -> u8 {
@@ -685,6 +694,7 @@ pub mod raw {
                 run.len(),
                 log.as_mut_ptr(),
                 log.len(),
+                second,
                 told.as_mut_ptr(),
                 told.len(),
                 header.as_mut_ptr(),
@@ -1145,10 +1155,20 @@ impl Book {
     }
 }
 
-/// A desk: what it was made for, its live book and its run, with the bytes of both books.
+/// A desk: what it was made for, its live book and its run, with the bytes of both books, and the second of the last frame
+/// that it accepted.
+///
+/// Each frame is handed in with the second it came in: a running count of seconds that the caller keeps, as of a monotonic
+/// clock, and no second of the day. If 450 or more have passed since the last accepted frame, the frame is judged and handled
+/// with an empty live book (SF068); if it is refused, the old book stays. An open run keeps its copy.
+///
+/// The same count goes on over the life of a desk. An earlier second counts as that of the last accepted frame. So on a desk
+/// that is kept over a restart of the machine or handed to another, where the count has another start, no gap is seen until
+/// the new count has caught up with the old one; where it is 450 or more ahead, a gap is seen at once. A clock that stands
+/// still while the machine sleeps does not count that time.
 #[derive(Clone, Debug)]
 pub struct Desk {
-    numbers: [u64; 9],
+    numbers: [u64; 11],
     live: [u8; BOOK_BYTES],
     run: [u8; BOOK_BYTES],
 }
@@ -1156,32 +1176,48 @@ pub struct Desk {
 impl Desk {
     /// A desk for one solution, processor and constellation (0 GPS to 4 QZSS), without a book and without a run.
     pub fn new(solution: u8, processor: u8, constellation: u8) -> Result<Desk, Refusal> {
-        let mut desk = Desk { numbers: [0; 9], live: [0; BOOK_BYTES], run: [0; BOOK_BYTES] };
+        let mut desk = Desk { numbers: [0; 11], live: [0; BOOK_BYTES], run: [0; BOOK_BYTES] };
         answer(raw::desk_new(solution, processor, constellation, &mut desk.numbers), ())?;
         Ok(desk)
     }
 
-    /// Takes a frame, with 4,096 bytes or more lent for the log: the bytes that it adds to the run log.
-    pub fn take(&mut self, frame: &[u8], log: &mut [u8]) -> Result<usize, Refusal> {
+    /// Takes a frame with the second it came in, by the caller's running count, and with 4,096 bytes or more lent for the
+    /// log: the bytes that it adds to the run log.
+    pub fn take(&mut self, frame: &[u8], second: u64, log: &mut [u8]) -> Result<usize, Refusal> {
         let mut written = [0];
-        let number =
-            raw::desk_take(frame, &mut self.numbers, &mut self.live, &mut self.run, log, &mut written);
+        let number = raw::desk_take(
+            frame,
+            second,
+            &mut self.numbers,
+            &mut self.live,
+            &mut self.run,
+            log,
+            &mut written,
+        );
         answer(number, ()).map(|()| written[0] as usize)
     }
 
-    /// Takes a book, as one that was kept, as the live book; an open run stays as it is.
+    /// The second of the last accepted frame, as it counted; before the first one there is none. A refused frame moves none.
+    pub fn last_second(&self) -> Option<u64> {
+        (self.numbers[9] == 1).then_some(self.numbers[10])
+    }
+
+    /// Takes a book, as one that was kept, as the live book; an open run stays as it is, and so does the second of the last
+    /// accepted frame. A book taken before any frame was accepted is used however old it is, since no frame has dated it;
+    /// one taken later is emptied 450 seconds after the last accepted frame, however new it is.
     pub fn take_book(&mut self, book: &Book) -> Result<(), Refusal> {
         let number =
             raw::desk_take_book(&mut self.numbers, &mut self.live, &self.run, &book.numbers, &book.bytes);
         answer(number, ())
     }
 
-    /// The live book, to be kept.
+    /// The live book, to be kept. After a gap it is the old one until a frame is accepted.
     pub fn book(&self) -> Book {
         Book { numbers: [self.numbers[3], self.numbers[4]], bytes: self.live }
     }
 
-    /// The six bytes of the area with this ID, out of the run's book if a run is open, else out of the live book.
+    /// The six bytes of the area with this ID, out of the run's book if a run is open, else out of the live book, which after
+    /// a gap is the old one until a frame is accepted.
     pub fn find(&self, id: u8) -> Option<[u8; 6]> {
         let (mut area, mut found) = ([0; 6], [0]);
         raw::desk_find(&self.numbers, &self.live, &self.run, id, &mut area, &mut found);
@@ -1219,8 +1255,9 @@ impl Prepare {
         Prepare { stream: Stream::new(), desk, log: [0; LOG_ROOM], logged: 0 }
     }
 
-    /// Takes input until an event is due or all of it is used: the event, and how many bytes were used.
-    pub fn call(&mut self, input: &[u8]) -> Result<(Prepared, usize), Refusal> {
+    /// Takes input until an event is due or all of it is used: the event, and how many bytes were used. A frame that it tells
+    /// is handed to the desk with this second, of the caller's running count as `Desk` says.
+    pub fn call(&mut self, input: &[u8], second: u64) -> Result<(Prepared, usize), Refusal> {
         let (mut told, mut header) = ([0; 5], [0; 15]);
         let number = raw::prepare_call(
             &mut self.stream.bytes,
@@ -1230,6 +1267,7 @@ impl Prepare {
             &mut self.desk.run,
             &mut self.log,
             input,
+            second,
             &mut told,
             &mut header,
         );
@@ -1238,8 +1276,8 @@ impl Prepare {
         Ok((prepared(&told, &header), told[1] as usize))
     }
 
-    /// The stream has ended; called until it says done.
-    pub fn finish(&mut self) -> Result<Prepared, Refusal> {
+    /// The stream has ended; called until it says done. The second is as in `call`.
+    pub fn finish(&mut self, second: u64) -> Result<Prepared, Refusal> {
         let (mut told, mut header) = ([0; 5], [0; 15]);
         let number = raw::prepare_finish(
             &mut self.stream.bytes,
@@ -1248,6 +1286,7 @@ impl Prepare {
             &mut self.desk.live,
             &mut self.desk.run,
             &mut self.log,
+            second,
             &mut told,
             &mut header,
         );
