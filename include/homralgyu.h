@@ -7,7 +7,7 @@
  *   - the pointer is not null, even for 0 elements, and is aligned for its elements;
  *   - so many elements with values lie there, and no other thread writes to them, or reads those that the call may write, while the call runs;
  *   - two slices of a call do not overlap if the call may write to one of them.
- * Everything else is tested: there is no other way to call these functions wrongly.
+ * Everything else is tested, but for what the seconds mean that a desk is handed (see there): there is no other way to call these functions wrongly.
  *
  * A call writes inside the slices that it may write to and nowhere else. A slice under its stated size is ROOM, unless the call says
  * otherwise; a longer one is fine, its surplus is neither read nor written. A refusal (a number other than 0) changes nothing. On
@@ -193,7 +193,7 @@ uint8_t homralgyu_hpac_area(uint8_t subtype, uint8_t id, const uint64_t *sheet, 
 uint8_t homralgyu_bpac_area(uint8_t id, const uint64_t *sheet, size_t sheet_len, uint64_t *view, size_t view_len, double *floats,
                             size_t floats_len);
 
-/* A desk is nine numbers and the bytes of two books, 192 each: the live book's and the run's. */
+/* A desk is eleven numbers and the bytes of two books, 192 each: the live book's and the run's. */
 enum homralgyu_desk {
     HOMRALGYU_DESK_SOLUTION,      /* TF010, 0 to 127 */
     HOMRALGYU_DESK_PROCESSOR,     /* TF011, 0 to 15 */
@@ -204,36 +204,57 @@ enum homralgyu_desk {
     HOMRALGYU_DESK_TAG,           /* of the open run, as the two below; without one they do not count and are written as 0 */
     HOMRALGYU_DESK_RUN_AIOU,
     HOMRALGYU_DESK_RUN_AREAS,
-    HOMRALGYU_DESK                /* the room that a desk wants: 9 */
+    HOMRALGYU_DESK_DATED,         /* 1 if some frame was accepted, 0 if none was yet */
+    HOMRALGYU_DESK_SECOND,        /* of the last accepted frame, any; without one it does not count and is written as 0 */
+    HOMRALGYU_DESK                /* the room that a desk wants: 11 */
 };
 
+/* Seconds. Each frame is handed to a desk with the second it came in: a running count of seconds that the caller keeps, as of a monotonic clock,
+ * and no second of the day; every number is one. A frame that the desk answers with 0 is accepted, and its second is kept; a refused one,
+ * NOT_OURS too, moves none. A second earlier than the last accepted frame's counts as that one, so the second kept never falls. Before the first
+ * accepted frame no time counts as passed.
+ * A gap: if 450 seconds or more have passed since the last accepted frame (SF068), this one is judged and handled with an empty live book. If it
+ * is accepted, the old book is gone: a GAD leaves its own areas, an HPAC message none. If it is refused, the old book stays. An open run keeps
+ * its copy.
+ * What the caller has to see to, since no call can:
+ *   - the same count goes on for as long as a desk is in use. On one that is kept over a restart of the machine or handed to another, where the
+ *     count has another start, no gap is seen until the new count has caught up with the old one; where it is 450 or more ahead, a gap is seen
+ *     at once. A clock that stands still while the machine sleeps does not count that time;
+ *   - lookup and keeping get no second: after a gap they show the old book until a frame is accepted;
+ *   - a kept book that is taken before any accepted frame is used however old it is; one that is taken later is emptied 450 seconds after the
+ *     last accepted frame, however new it is;
+ *   - the copy of an open run has no second: it outlives the 510 seconds of SF005. */
+
 /* A new desk, without a book and without a run; its books' bytes may be anything.
- * Refusals in order: ROOM (desk, 9), FIELD (solution over 127, processor over 15, constellation over 4).
+ * Refusals in order: ROOM (desk, 11), FIELD (solution over 127, processor over 15, constellation over 4).
  * Writes the desk. */
 uint8_t homralgyu_desk_new(uint8_t solution, uint8_t processor, uint8_t constellation, uint64_t *desk, size_t desk_len);
 
 /* Whether a desk and its two books are sound: 0 if they are.
- * Refusals in order: ROOM (desk, 9; live, 192; run, 192), STATE (a number out of its range, an unsound live book, or, if a run is open, an
+ * Refusals in order: ROOM (desk, 11; live, 192; run, 192), STATE (a number out of its range, an unsound live book, or, if a run is open, an
  * unsound book of the run). */
 uint8_t homralgyu_desk_is_sound(const uint64_t *desk, size_t desk_len, const uint8_t *live, size_t live_len, const uint8_t *run,
                                 size_t run_len);
 
-/* Takes a frame: a GAD into the live book; an HPAC message into the run log by the run's book, after opening a run if its tag is another.
- * Refusals in order: ROOM (desk, 9; written, 1; live, 192; run, 192; log, 4,096), STATE (the desk is not sound), those of homralgyu_frame_check,
+/* Takes a frame that came in at this second: a GAD into the live book; an HPAC message into the run log by the run's book, after opening a run if
+ * its tag is another; after a gap with an empty live book.
+ * Refusals in order: ROOM (desk, 11; written, 1; live, 192; run, 192; log, 4,096), STATE (the desk is not sound), those of homralgyu_frame_check,
  * NOT_OURS, SEALED, those of the payload, then for HPAC TAG, for GAD AREA_OFF, CONFLICT, BOOK_FULL.
  * Writes the desk, of both books bytes of areas that they hold, the entries of the run log into log, and how many bytes they have into written. */
-uint8_t homralgyu_desk_take(const uint8_t *frame, size_t frame_len, uint64_t *desk, size_t desk_len, uint8_t *live, size_t live_len,
-                            uint8_t *run, size_t run_len, uint8_t *log, size_t log_len, uint64_t *written, size_t written_len);
+uint8_t homralgyu_desk_take(const uint8_t *frame, size_t frame_len, uint64_t second, uint64_t *desk, size_t desk_len, uint8_t *live,
+                            size_t live_len, uint8_t *run, size_t run_len, uint8_t *log, size_t log_len, uint64_t *written,
+                            size_t written_len);
 
-/* Takes a book (two numbers and its bytes, as homralgyu_kept_read gives them) as the live book. An open run stays as it is.
- * Refusals in order: ROOM (desk, 9; book, 2; bytes, 192; live, 192; run, 192), STATE (the desk or the book is not sound).
+/* Takes a book (two numbers and its bytes, as homralgyu_kept_read gives them) as the live book. An open run stays as it is, and so does the
+ * second of the last accepted frame.
+ * Refusals in order: ROOM (desk, 11; book, 2; bytes, 192; live, 192; run, 192), STATE (the desk or the book is not sound).
  * Writes the desk, and six bytes an area into live. */
 uint8_t homralgyu_desk_take_book(uint64_t *desk, size_t desk_len, uint8_t *live, size_t live_len, const uint8_t *run, size_t run_len,
                                  const uint64_t *book, size_t book_len, const uint8_t *bytes, size_t bytes_len);
 
 /* Looks an area up by its ID: out of the run's book if a run is open, else out of the live book.
  * Refusals: ROOM (area, 6; found, 1).
- * Writes the area's six bytes into area, and 6 into found. An absent ID, a desk under nine numbers, a book under 192 bytes, and a desk or book
+ * Writes the area's six bytes into area, and 6 into found. An absent ID, a desk under eleven numbers, a book under 192 bytes, and a desk or book
  * that is not sound are no refusals: 0 is written into found, and nothing into area. */
 uint8_t homralgyu_desk_find(const uint64_t *desk, size_t desk_len, const uint8_t *live, size_t live_len, const uint8_t *run,
                             size_t run_len, uint8_t id, uint8_t *area, size_t area_len, uint64_t *found, size_t found_len);
@@ -252,21 +273,21 @@ enum homralgyu_told {
     HOMRALGYU_TOLD         /* the room that it wants: 5 */
 };
 
-/* homralgyu_prepare_call takes input until an event is due or all of it is used, and gives a frame to the desk;
+/* homralgyu_prepare_call takes input until an event is due or all of it is used, and gives a frame to the desk, with this second;
  * homralgyu_prepare_finish is called at the stream's end until it says done. Tray and its bytes are those of homralgyu_stream_call, desk and
  * the bytes of its two books, live and run, those of homralgyu_desk_take.
- * Refusals in order: ROOM (tray, 3; desk, 9; told, 5; header, 15; bytes, 1,103; live, 192; run, 192; log, 4,096), STATE (the tray or
+ * Refusals in order: ROOM (tray, 3; desk, 11; told, 5; header, 15; bytes, 1,103; live, 192; run, 192; log, 4,096), STATE (the tray or
  * the desk is not sound). A frame that the desk refuses is an event like another, with the refusal's number in told; books and log stay.
  * Writes the tray and its bytes, the desk and its books, told, and the frame's entries of the run log from the log's start on. Of a
  * frame, accepted or refused by the desk, which then lies first in the tray's bytes, it writes the header. */
 uint8_t homralgyu_prepare_call(uint8_t *bytes, size_t bytes_len, uint64_t *tray, size_t tray_len, uint64_t *desk, size_t desk_len,
                                uint8_t *live, size_t live_len, uint8_t *run, size_t run_len, uint8_t *log, size_t log_len,
-                               const uint8_t *input, size_t input_len, uint64_t *told, size_t told_len, uint64_t *header,
-                               size_t header_len);
+                               const uint8_t *input, size_t input_len, uint64_t second, uint64_t *told, size_t told_len,
+                               uint64_t *header, size_t header_len);
 
 uint8_t homralgyu_prepare_finish(uint8_t *bytes, size_t bytes_len, uint64_t *tray, size_t tray_len, uint64_t *desk, size_t desk_len,
                                  uint8_t *live, size_t live_len, uint8_t *run, size_t run_len, uint8_t *log, size_t log_len,
-                                 uint64_t *told, size_t told_len, uint64_t *header, size_t header_len);
+                                 uint64_t second, uint64_t *told, size_t told_len, uint64_t *header, size_t header_len);
 
 /* The run log, read: an entry is up to eight numbers. */
 enum homralgyu_entry {
