@@ -1,13 +1,14 @@
 /* One job in C: messages come as a stream with noise before them, in portions of 40 bytes. Each event of the stream is printed by its number;
- * then a desk is made, the same stream is prepared, and each event is printed with the log bytes that it adds, and these are read back entry by
- * entry. Then an area is looked up, and the book is kept and taken in by a second desk. Last come views of two sheets. */
+ * then a desk is made, the same stream is prepared, a portion a second, and each event is printed with the log bytes that it adds, and these are
+ * read back entry by entry. Then an area is looked up, a message comes before and after a gap, and the book is kept and taken in by a second desk.
+ * Last come views of two sheets. */
 #include "homralgyu.h"
 
 #include <stdio.h>
 #include <stdlib.h>
 #include <string.h>
 
-enum { SOLUTION = 5, PROCESSOR = 11, GPS = 0, HPAC = 1, GAD = 2, PORTION = 40, MOST_EVENTS = 100 };
+enum { SOLUTION = 5, PROCESSOR = 11, GPS = 0, HPAC = 1, GAD = 2, PORTION = 40, MOST_EVENTS = 100, START = 1000, GAP = 450 };
 
 /* the events of a stream */
 enum { HUNGRY, FRAME, NOISE, DONE };
@@ -207,15 +208,16 @@ static void listen(struct job *job, const struct input *input)
     } while (tell(job));
 }
 
-/* The same with a desk. */
+/* The same with a desk. The seconds are a running count, here one a portion; a program counts those of a monotonic clock. */
 static void prepare(struct job *job, const struct input *input)
 {
-    for (size_t at = 0; at < input->size; at += PORTION) {
+    uint64_t second = START;
+    for (size_t at = 0; at < input->size; at += PORTION, second++) {
         size_t size = portion_at(input, at), used = 0;
         do {
             must(homralgyu_prepare_call(job->bytes, sizeof job->bytes, job->tray, 3, job->desk, HOMRALGYU_DESK, job->live,
                                         sizeof job->live, job->run, sizeof job->run, job->log, sizeof job->log,
-                                        input->bytes + at + used, size - used, job->told, HOMRALGYU_TOLD, job->header,
+                                        input->bytes + at + used, size - used, second, job->told, HOMRALGYU_TOLD, job->header,
                                         HOMRALGYU_HEADER),
                  "prepare_call");
             used += job->told[HOMRALGYU_TOLD_USED];
@@ -223,7 +225,7 @@ static void prepare(struct job *job, const struct input *input)
     }
     do {
         must(homralgyu_prepare_finish(job->bytes, sizeof job->bytes, job->tray, 3, job->desk, HOMRALGYU_DESK, job->live,
-                                      sizeof job->live, job->run, sizeof job->run, job->log, sizeof job->log, job->told,
+                                      sizeof job->live, job->run, sizeof job->run, job->log, sizeof job->log, second, job->told,
                                       HOMRALGYU_TOLD, job->header, HOMRALGYU_HEADER),
              "prepare_finish");
     } while (tell_desk(job));
@@ -238,6 +240,29 @@ static void find(const struct job *job, uint8_t id)
          "desk_find");
     printf("area %u:", id);
     print_bytes("", area, found[0]);
+}
+
+/* A message on a copy of this desk, so many seconds behind the last accepted frame. */
+static void tell_later(const struct job *job, const struct input *message, unsigned seconds)
+{
+    struct job then = *job;
+    uint64_t written[1];
+    must(homralgyu_desk_take(message->bytes, message->size, job->desk[HOMRALGYU_DESK_SECOND] + seconds, then.desk, HOMRALGYU_DESK,
+                             then.live, sizeof then.live, then.run, sizeof then.run, then.log, sizeof then.log, written, 1),
+         "desk_take");
+    printf("%u seconds later:\n", seconds);
+    read_log(then.log, written[0]);
+}
+
+/* A message that opens a run: a second before the gap by the book, at the gap without one. */
+static void tell_gap(const struct job *job)
+{
+    const uint64_t bare[] = {0, 3, 0, 0, 5, 9, 0, 0};
+    struct input message = {.size = 0};
+    add(&message, HPAC, SOLUTION, 10, bare, sizeof bare / sizeof *bare);
+    printf("last accepted at second %u\n", (unsigned)job->desk[HOMRALGYU_DESK_SECOND]);
+    tell_later(job, &message, GAP - 1);
+    tell_later(job, &message, GAP);
 }
 
 /* The live book of one desk, kept, and taken in by another. */
@@ -284,6 +309,7 @@ int main(void)
     prepare(&job, &input);
     find(&job, 5);
     find(&job, 6);
+    tell_gap(&job);
     hand_over(&job, &next);
     find(&next, 5);
     look();

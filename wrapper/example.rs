@@ -1,5 +1,5 @@
 //! The wrapper in use: a frame written, found in a stream behind three bytes of noise, and its payload read; then a desk that takes two messages, the
-//! run log read back, and views of two sheets.
+//! run log read back, a desk before and after a gap, and views of two sheets.
 
 use homralgyu::{Desk, Entry, Event, Parts, Refusal, Stream};
 
@@ -63,26 +63,46 @@ fn desk() -> Result<(), Refusal> {
     let definition = frame_of(2, &[0, 3, 0, 0, 5, 900, 0, 1, 0, 0, 0])?;
     let mut desk = Desk::new(5, 11, 0)?;
     let mut log = [0; homralgyu::LOG_ROOM];
-    let written = desk.take(&message, &mut log)?;
+    let written = desk.take(&message, 1000, &mut log)?;
     println!("log {:02X?}", &log[..written]);
     read_log(&log[..written])?;
-    desk.take(&definition, &mut log)?;
+    desk.take(&definition, 1001, &mut log)?;
     // a GAD does not reach the open run
     println!("area 5: {:02X?} in the open run, {:02X?} in the live book", desk.find(5), desk.book().find(5));
-    println!("a frame that is cut: {:?}", desk.take(&message[..5], &mut log));
+    println!("a frame that is cut: {:?}", desk.take(&message[..5], 1002, &mut log));
     // a desk that has the area before its run opens, and both grids of its two nodes
     let grids = frame_of(
         1,
         &[0, 3, 0, 0, 5, 2, 2, 2, 0, 0, 0, 0, 0, 1, 255, 254, 0, 0, 1, 0, 0, 0, 3, 16383, 16382],
     )?;
     let mut desk = Desk::new(5, 11, 0)?;
-    desk.take(&definition, &mut log)?;
-    let written = desk.take(&grids, &mut log)?;
+    desk.take(&definition, 1000, &mut log)?;
+    let written = desk.take(&grids, 1001, &mut log)?;
     read_log(&log[..written])?;
     // satellites alone, without troposphere residuals
     let slant = frame_of(1, &[0, 3, 0, 0, 5, 2, 0, 2, 0, 0, 1 << 31, 0, 0, 0, 0, 15, 8])?;
-    let written = desk.take(&slant, &mut log)?;
-    read_log(&log[..written])
+    let written = desk.take(&slant, 1001, &mut log)?;
+    read_log(&log[..written])?;
+    gap(&definition, &message)
+}
+
+/// A message that opens a run, 449 seconds behind the definition and 450, which is a gap; and a frame that is cut, after a gap.
+fn gap(definition: &[u8], message: &[u8]) -> Result<(), Refusal> {
+    let mut log = [0; homralgyu::LOG_ROOM];
+    let mut desk = Desk::new(5, 11, 0)?;
+    desk.take(definition, 1000, &mut log)?;
+    for (frame, second) in [(message, 1449), (message, 1450), (&message[..5], 1450)] {
+        let mut then = desk.clone();
+        let opened =
+            then.take(frame, second, &mut log).and_then(|written| homralgyu::read_entry(&log[..written]));
+        println!("second {second}: {:?}", opened.map(|(entry, _)| entry));
+        println!(
+            "last accepted {:?}, area 5 in the live book: {:02X?}",
+            then.last_second(),
+            then.book().find(5)
+        );
+    }
+    Ok(())
 }
 
 /// The run log entry by entry, with the residuals of each area that is placed.
