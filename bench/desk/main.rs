@@ -14,6 +14,7 @@ extern "C" {
         size: usize,
         frame: *const u8,
         frame_len: usize,
+        second: u64,
         live: *mut u8,
         live_len: usize,
         run: *mut u8,
@@ -33,17 +34,17 @@ struct Lent {
     log: [u8; 4096],
 }
 
-/// AIOU + 1 and count of the live book; whether a run is open, its tag, and AIOU + 1 and count of its book.
-type State = [u64; 6];
+/// AIOU + 1 and count of the live book; whether a run is open, its tag, and AIOU + 1 and count of its book; whether a frame was accepted, and its second.
+type State = [u64; 8];
 
-fn rust_take(desk: &mut Desk, frame: &[u8], lent: &mut Lent) -> u64 {
-    match desk.take(frame, &mut lent.live, &mut lent.run, &mut lent.log) {
+fn rust_take(desk: &mut Desk, frame: &[u8], second: u64, lent: &mut Lent) -> u64 {
+    match desk.take(frame, second, &mut lent.live, &mut lent.run, &mut lent.log) {
         Ok(log) => log as u64,
         Err(why) => REFUSED + why as u64,
     }
 }
 
-fn our_take(state: &mut State, frame: &[u8], lent: &mut Lent) -> u64 {
+fn our_take(state: &mut State, frame: &[u8], second: u64, lent: &mut Lent) -> u64 {
     let Lent { live, run, log } = lent;
     unsafe {
         desk_take(
@@ -51,6 +52,7 @@ fn our_take(state: &mut State, frame: &[u8], lent: &mut Lent) -> u64 {
             state.len(),
             frame.as_ptr(),
             frame.len(),
+            second,
             live.as_mut_ptr(),
             live.len(),
             run.as_mut_ptr(),
@@ -64,22 +66,28 @@ fn our_take(state: &mut State, frame: &[u8], lent: &mut Lent) -> u64 {
 fn numbers(desk: &Desk) -> State {
     let book = |book: Book| (book.aiou.map_or(0, |aiou| aiou as u64 + 1), book.count as u64);
     let (aiou, count) = book(desk.book);
+    let (dated, second) = desk.last.map_or((0, 0), |second| (1, second));
     match desk.run {
-        None => [aiou, count, 0, 0, 0, 0],
-        Some(run) => [aiou, count, 1, run.tag as u64, book(run.book).0, book(run.book).1],
+        None => [aiou, count, 0, 0, 0, 0, dated, second],
+        Some(run) => [aiou, count, 1, run.tag as u64, book(run.book).0, book(run.book).1, dated, second],
     }
 }
 
-/// Both sides take the frames of a round, one after the other, from the desk that `before` has left.
+/// Both sides take the frames of a round, one after the other, from the desk that `before` has left; a frame comes a second behind the one before it.
 fn race(name: &str, before: &[Vec<u8>], round: &[Vec<u8>]) {
-    let mut desk = Desk { solution: 5, processor: 11, constellation: 0, book: Book::default(), run: None::<Run> };
+    race_at(name, before, round, |frame| frame)
+}
+
+/// The same, with the second of each frame by its running number.
+fn race_at(name: &str, before: &[Vec<u8>], round: &[Vec<u8>], second: fn(u64) -> u64) {
+    let mut desk = Desk { solution: 5, processor: 11, constellation: 0, book: Book::default(), run: None::<Run>, last: None };
     let mut state = numbers(&desk);
     let mut theirs = Lent { live: [0; 192], run: [0; 192], log: [0; 4096] };
     let mut ours = theirs.clone();
     let (mut taken, mut logged, mut bytes) = (0, 0, 0);
     for (i, frame) in before.iter().chain(round).chain(round).enumerate() {
-        let answer = rust_take(&mut desk, frame, &mut theirs);
-        assert_eq!(answer, our_take(&mut state, frame, &mut ours), "{name}: frame {i}");
+        let answer = rust_take(&mut desk, frame, second(i as u64), &mut theirs);
+        assert_eq!(answer, our_take(&mut state, frame, second(i as u64), &mut ours), "{name}: frame {i}");
         assert!(numbers(&desk) == state && theirs == ours, "{name}: frame {i} leaves something else");
         if i >= before.len() + round.len() {
             taken += (answer < REFUSED) as usize;
@@ -90,15 +98,24 @@ fn race(name: &str, before: &[Vec<u8>], round: &[Vec<u8>]) {
     // short rounds and many of them: the least is of a quiet moment
     let rounds = 1 + 20 / round.len();
     let (mut proved, mut rusts) = (f64::MAX, f64::MAX);
+    // both count on from the frames that were compared
+    let start_at = (before.len() + 2 * round.len()) as u64;
+    let (mut our_count, mut their_count) = (start_at, start_at);
     for _ in 0..4000 / round.len().min(20) {
         let start = Instant::now();
         for _ in 0..rounds {
-            round.iter().for_each(|frame| _ = black_box(our_take(&mut state, black_box(frame), &mut ours)));
+            for frame in round {
+                black_box(our_take(&mut state, black_box(frame), second(our_count), &mut ours));
+                our_count += 1;
+            }
         }
         proved = proved.min(start.elapsed().as_secs_f64());
         let start = Instant::now();
         for _ in 0..rounds {
-            round.iter().for_each(|frame| _ = black_box(rust_take(&mut desk, black_box(frame), &mut theirs)));
+            for frame in round {
+                black_box(rust_take(&mut desk, black_box(frame), second(their_count), &mut theirs));
+                their_count += 1;
+            }
         }
         rusts = rusts.min(start.elapsed().as_secs_f64());
     }
@@ -139,8 +156,10 @@ fn main() {
     race("HPAC, a run opened each time", held, &[small, later]);
     race("GAD, 32 areas that are known", held, held);
     race("GAD, 32 areas of a new book", held, &[other_book, whole_book.clone()]);
+    race_at("GAD, 32 areas, a gap each time", held, held, |frame| 450 * frame);
     race("GAD, one area", &[], &[one_area]);
     race("OCB, not the desk's", held, &[not_ours]);
     let day = history(random);
     race("history of 400 frames", &[], &day);
+    race_at("history of 400 frames, four gaps", &[], &day, |frame| frame + 500 * (frame / 100));
 }
