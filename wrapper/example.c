@@ -8,7 +8,7 @@
 #include <stdlib.h>
 #include <string.h>
 
-enum { SOLUTION = 5, PROCESSOR = 11, GPS = 0, HPAC = 1, GAD = 2, PORTION = 40, MOST_EVENTS = 100, START = 1000, GAP = 450 };
+enum { SOLUTION = 5, PROCESSOR = 11, GPS = 0, HPAC = 1, GAD = 2, PORTION = 40, MOST_EVENTS = 100, START = 1000, OUTAGE = 450 };
 
 /* the events of a stream */
 enum { HUNGRY, FRAME, NOISE, DONE };
@@ -261,8 +261,8 @@ static void tell_gap(const struct job *job)
     struct input message = {.size = 0};
     add(&message, HPAC, SOLUTION, 10, bare, sizeof bare / sizeof *bare);
     printf("last accepted at second %u\n", (unsigned)job->desk[HOMRALGYU_DESK_SECOND]);
-    tell_later(job, &message, GAP - 1);
-    tell_later(job, &message, GAP);
+    tell_later(job, &message, OUTAGE - 1);
+    tell_later(job, &message, OUTAGE);
 }
 
 /* The live book of one desk, kept, and taken in by another. */
