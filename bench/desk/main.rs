@@ -79,7 +79,7 @@ fn race(name: &str, before: &[Vec<u8>], round: &[Vec<u8>]) {
 }
 
 /// The same, with the second of each frame by its running number.
-fn race_at(name: &str, before: &[Vec<u8>], round: &[Vec<u8>], second: fn(u64) -> u64) {
+fn race_at(name: &str, before: &[Vec<u8>], round: &[Vec<u8>], second: impl Fn(u64) -> u64) {
     let mut desk = Desk { solution: 5, processor: 11, constellation: 0, book: Book::default(), run: None::<Run>, last: None };
     let mut state = numbers(&desk);
     let mut theirs = Lent { live: [0; 192], run: [0; 192], log: [0; 4096] };
