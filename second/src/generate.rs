@@ -6,12 +6,13 @@
 
 use crate::answer::Refusal;
 use crate::bits::BitWriter;
-use crate::book::{area_number, put, Book, BOOK_BYTES, MOST_AREAS};
-use crate::desk::{Desk, Run, HALF_DAY};
+use crate::book::{area_number, put, with_gad, Book, BOOK_BYTES, MOST_AREAS};
+use crate::desk::{Desk, Last, Run, GAP, HALF_DAY};
 use crate::entries::{self, Entry, Placed, Satellite, BANDS, LAST_REASON, MOST_COUNT, MOST_SATELLITES};
 use crate::frame::{assemble, Plain, Seal, AUTHENTICATION_BYTES, LONGEST_FRAME, LONGEST_PAYLOAD, PREAMBLE};
 use crate::groups::groups;
 use crate::payload::{message, Entries, Field, GadArea, Takes};
+use crate::sheet::open;
 use crate::stream::{Tray, MOST_NOISE};
 use std::collections::VecDeque;
 
@@ -431,6 +432,14 @@ pub fn odd_payload(rng: &mut Rng, type_: u64, subtype: u64) -> Vec<u8> {
         }
         _ => rich_sheet(rng, type_, subtype, 3, Vec::new()).payload(),
     }
+}
+
+/// A payload for a frame that is refused so by its reader, if some tries make one.
+fn refused_payload(rng: &mut Rng, type_: u64, subtype: u64, refusal: Refusal) -> Option<Vec<u8>> {
+    (0..60).map(|_| odd_payload(rng, type_, subtype)).find(|odd| {
+        let fits = (1..=LONGEST_PAYLOAD).contains(&odd.len());
+        fits && open(type_, subtype, odd).is_err_and(|given| given == refusal)
+    })
 }
 
 /// Bits flipped, a part cut away, or bytes put in.
@@ -1123,6 +1132,47 @@ pub fn broken_entry(rng: &mut Rng) -> Vec<u8> {
     form.concat()
 }
 
+// ---------------------------------------------------------------- seconds
+
+/// A second of a first frame: 0, small, any, in the middle, at the end of the width.
+pub fn first_second(rng: &mut Rng) -> u64 {
+    let (small, any) = (rng.below(2000), rng.draw());
+    let near_end = u64::MAX - rng.below(1000);
+    rng.pick(&[0, 1, small, small, any, 1 << 63, u64::MAX - GAP, near_end, u64::MAX])
+}
+
+/// A second less than 450 after another one: the same, beside it, just no gap, or earlier.
+pub fn near_second(rng: &mut Rng, last: u64) -> u64 {
+    let (few, some, less, any) = (rng.below(4), rng.below(GAP), rng.between(1, 2 * GAP), rng.below(last));
+    let later = rng.pick(&[0, 0, 1, few, few, some, GAP - 1]);
+    let (later, earlier) = (last.saturating_add(later), last.saturating_sub(less));
+    rng.pick(&[later, later, later, earlier, any])
+}
+
+/// A second 450 or more after another one: just so, one more, long after, at the end of the width.
+/// None if the width ends before.
+pub fn gap_second(rng: &mut Rng, last: u64) -> Option<u64> {
+    let least = last.checked_add(GAP)?;
+    let some = rng.between(least, least.saturating_add(100_000));
+    // after the end of the width no gap comes any more, so that is rare
+    let far = if rng.one_in(12) { u64::MAX } else { some };
+    Some(rng.pick(&[least, least, least.saturating_add(1), far, far]))
+}
+
+/// A second for a frame after one at `last`: now and then a gap.
+pub fn next_second(rng: &mut Rng, last: u64) -> u64 {
+    let gap = if rng.one_in(3) { gap_second(rng, last) } else { None };
+    gap.unwrap_or_else(|| near_second(rng, last))
+}
+
+/// A second for a desk as it stands: by its last one, or by none.
+pub fn second_for(rng: &mut Rng, desk: &Desk) -> u64 {
+    match desk.last {
+        Last::At(last) => next_second(rng, last),
+        _ => first_second(rng),
+    }
+}
+
 // ---------------------------------------------------------------- desks
 
 /// A desk with its two lent books.
@@ -1133,7 +1183,7 @@ pub struct Table {
     pub run: Vec<u8>,
 }
 
-/// A sound desk, with and without a run, with books of every size.
+/// A sound desk, with and without a run, with books of every size, with every kind of last second.
 pub fn table(rng: &mut Rng) -> Table {
     let (live_book, live) = book(rng);
     let (mut run_book, mut run) = book(rng);
@@ -1150,6 +1200,8 @@ pub fn table(rng: &mut Rng) -> Table {
         constellation: rng.below(5),
         live: live_book,
         run: if rng.one_in(3) { None } else { Some(Run { tag, book: run_book }) },
+        // a book without any frame before it is one that was kept, so rarely
+        last: if rng.one_in(5) { Last::Never } else { Last::At(first_second(rng)) },
     };
     Table { desk, live, run }
 }
@@ -1158,7 +1210,7 @@ pub fn table(rng: &mut Rng) -> Table {
 /// now and then it is broken there, and the desk is sound.)
 pub fn unsound_table(rng: &mut Rng) -> Table {
     let mut made = table(rng);
-    match rng.below(6) {
+    match rng.below(7) {
         0 => made.desk.solution = rng.pick(&[128, 255, u64::MAX]),
         1 => made.desk.processor = rng.pick(&[16, 255, u64::MAX]),
         2 => made.desk.constellation = rng.pick(&[5, 255, u64::MAX]),
@@ -1170,6 +1222,7 @@ pub fn unsound_table(rng: &mut Rng) -> Table {
                 open.book = run_book;
             }
         }
+        5 => made.desk.last = Last::Neither,
         _ => {
             let tag = rng.pick(&[43200, 65535, u64::MAX]);
             let run_book = made.desk.run.map_or(Book::default(), |open| open.book);
@@ -1225,19 +1278,20 @@ pub fn hpac_sheet(rng: &mut Rng, constellation: u64, aiou: u64, known: &[GadArea
     sheet(rng, 1, constellation)
 }
 
-/// A desk's arguments and a row of frames for it.
+/// A desk's arguments and a row of frames for it, with the second that each came in.
 #[derive(Clone, Debug)]
 pub struct Scene {
     pub solution: u64,
     pub processor: u64,
     pub constellation: u64,
     pub frames: Vec<Vec<u8>>,
+    pub seconds: Vec<u64>,
 }
 
 /// A scene: GADs that begin, add, repeat, conflict, fill and overfill the book, run over the pole,
 /// come with the same and with other AIOUs and changed grids; HPACs that are placed and left out for
 /// all four reasons, with tags that stay, go on, go back, are over 43,199 or large; frames of
-/// others, sealed ones, odd ones.
+/// others, sealed ones, odd ones; seconds that stay, go on, go back, and in some scenes gaps.
 pub fn scene(rng: &mut Rng) -> Scene {
     let count = rng.between(1, 40);
     scene_of(rng, count)
@@ -1252,9 +1306,21 @@ pub fn scene_of(rng: &mut Rng, count: u64) -> Scene {
     let mut known: Vec<GadArea> = Vec::new();
     let mut time = rng.pick(&[0, 43195, 20000]);
     let mut frames = Vec::new();
+    let mut seconds = Vec::new();
     // now and then every area at once, so that a 33rd comes soon
     let eager = rng.one_in(3);
+    // one in so many frames comes after a gap; 0 for none
+    let gaps = rng.pick(&[0, 0, 3, 8, 20]);
+    let mut latest = first_second(rng);
     for _ in 0..count {
+        let gap = if gaps > 0 && rng.one_in(gaps) { gap_second(rng, latest) } else { None };
+        // often the areas after it are not those before it, though the AIOU is the same
+        if gap.is_some() && rng.one_in(2) {
+            known.clear();
+        }
+        let second = gap.unwrap_or_else(|| near_second(rng, latest));
+        latest = latest.max(second);
+        seconds.push(second);
         let mut parts = Plain {
             type_: 1,
             check_type: rng.below(4),
@@ -1281,7 +1347,7 @@ pub fn scene_of(rng: &mut Rng, count: u64) -> Scene {
         };
         frames.push(scene_frame(rng, parts, payload));
     }
-    Scene { solution, processor, constellation, frames }
+    Scene { solution, processor, constellation, frames, seconds }
 }
 
 /// The next GAD of a scene, and what the book then knows.
@@ -1362,6 +1428,11 @@ fn scene_frame(rng: &mut Rng, parts: Plain, payload: Vec<u8>) -> Vec<u8> {
             if odd.is_empty() {
                 odd.push(0);
             }
+            // an HPAC without a satellite comes too rarely by chance
+            if parts.type_ == 1 && rng.one_in(4) {
+                let empty = refused_payload(rng, parts.type_, parts.subtype, Refusal::MaskEmpty);
+                odd = empty.unwrap_or(odd);
+            }
             assemble(&parts, None, &odd, &[])
         }
         9 => odd_frame(rng),
@@ -1409,4 +1480,172 @@ pub fn frame_for(rng: &mut Rng, table: &Table) -> Vec<u8> {
         hpac_sheet(rng, constellation, aiou, &known).payload()
     };
     scene_frame(rng, parts, payload)
+}
+
+/// What a frame is to be to a desk as it stands.
+#[derive(Clone, Copy, PartialEq, Eq, PartialOrd, Ord, Debug)]
+pub enum Sort {
+    /// a GAD that no live book hinders
+    Gad,
+    /// a GAD that conflicts with the live book alone
+    Against,
+    /// a GAD that the live book alone has no room for
+    Overfull,
+    /// an HPAC of the open run's tag
+    OfRun,
+    /// an HPAC of another tag
+    OtherTag,
+    /// a frame that is refused so where the live book is empty
+    Refused(Refusal),
+}
+
+/// The sorts; the refusals are those of the frame, of the desk, of the payload, and of a GAD's blocks
+/// by themselves. (No GAD has more than 32 areas, so none is BOOK_FULL over an empty book.)
+pub const SORTS: [Sort; 17] = [
+    Sort::Gad,
+    Sort::Against,
+    Sort::Overfull,
+    Sort::OfRun,
+    Sort::OtherTag,
+    Sort::Refused(Refusal::Short),
+    Sort::Refused(Refusal::Preamble),
+    Sort::Refused(Refusal::FrameCrc),
+    Sort::Refused(Refusal::Length),
+    Sort::Refused(Refusal::MessageCrc),
+    Sort::Refused(Refusal::MaskEmpty),
+    Sort::Refused(Refusal::Field),
+    Sort::Refused(Refusal::Sealed),
+    Sort::Refused(Refusal::Tag),
+    Sort::Refused(Refusal::NotOurs),
+    Sort::Refused(Refusal::AreaOff),
+    Sort::Refused(Refusal::Conflict),
+];
+
+/// A frame of a sort for a sound desk. None where the desk has none: no run is open, the live book is
+/// empty, or it has room for all; or none was found.
+pub fn frame_of(rng: &mut Rng, table: &Table, sort: Sort) -> Option<Vec<u8>> {
+    let desk = &table.desk;
+    let live = crate::book::areas(&desk.live, &table.live)?;
+    let some_aiou = rng.below(16);
+    let aiou = desk.live.aiou.unwrap_or(some_aiou);
+    let gad = Plain {
+        type_: 2,
+        check_type: rng.below(4),
+        subtype: 0,
+        tag_kind: 0,
+        tag: rng.below(65536),
+        solution: desk.solution,
+        processor: desk.processor,
+    };
+    let tag = desk.run.map_or(7, |open| open.tag);
+    let hpac = Plain { type_: 1, subtype: desk.constellation, tag, ..gad };
+    let plain = |parts: Plain, payload: &[u8]| Some(assemble(&parts, None, payload, &[]));
+    match sort {
+        Sort::Gad => {
+            // areas that the book has, or new ones: of its AIOU if it has room, else of another
+            let blocks = if live.is_empty() || rng.one_in(2) { blocks(rng) } else { vec![rng.pick(&live)] };
+            let hinders = with_gad(Some(aiou), &live, aiou, &blocks).is_err();
+            let named = if hinders || rng.one_in(4) { (aiou + rng.between(1, 15)) % 16 } else { aiou };
+            plain(gad, &gad_sheet(rng, named, &blocks).payload())
+        }
+        Sort::Against => {
+            if live.is_empty() {
+                return None;
+            }
+            let one = rng.pick(&live);
+            let mut blocks: Vec<GadArea> = live.into_iter().filter(|area| area.id != one.id).collect();
+            blocks.truncate(rng.below(4) as usize);
+            blocks.insert(rng.below(blocks.len() as u64 + 1) as usize, changed(rng, one));
+            plain(gad, &gad_sheet(rng, aiou, &blocks).payload())
+        }
+        Sort::Overfull => {
+            let room = (MOST_AREAS as usize).checked_sub(live.len()).filter(|_| !live.is_empty())?;
+            let new: Vec<u64> = (0..256).filter(|&id| live.iter().all(|area| area.id != id)).collect();
+            let first = rng.below((new.len() - room) as u64) as usize;
+            let ids = &new[first..first + room + 1];
+            let blocks: Vec<GadArea> = ids.iter().map(|&id| area(rng, id)).collect();
+            plain(gad, &gad_sheet(rng, aiou, &blocks).payload())
+        }
+        Sort::OfRun => {
+            let open = desk.run?;
+            let held = crate::book::areas(&open.book, &table.run)?;
+            let named = open.book.aiou.unwrap_or(some_aiou);
+            let later = open.tag + HALF_DAY * rng.below(9);
+            let (tag_kind, tag) = rng.pick(&[(0, open.tag), (1, open.tag), (1, later)]);
+            let payload = hpac_sheet(rng, desk.constellation, named, &held).payload();
+            plain(Plain { tag_kind, tag, ..hpac }, &payload)
+        }
+        Sort::OtherTag => {
+            let by = rng.between(1, HALF_DAY - 1);
+            let other = (tag + rng.pick(&[1, HALF_DAY - 1, by])) % HALF_DAY;
+            let payload = hpac_sheet(rng, desk.constellation, aiou, &live).payload();
+            plain(Plain { tag: other, ..hpac }, &payload)
+        }
+        Sort::Refused(Refusal::AreaOff) => {
+            // the live book may conflict at a block before it
+            let mut blocks = blocks(rng);
+            if !live.is_empty() && rng.one_in(2) {
+                let one = rng.pick(&live);
+                blocks = vec![changed(rng, one)];
+            }
+            let id = rng.below(256);
+            blocks.push(area_off(rng, id));
+            plain(gad, &gad_sheet(rng, aiou, &blocks).payload())
+        }
+        Sort::Refused(Refusal::Conflict) => {
+            let one = blocks(rng)[0];
+            let blocks = [one, changed(rng, one)];
+            plain(gad, &gad_sheet(rng, aiou, &blocks).payload())
+        }
+        Sort::Refused(refusal) => refused_frame(rng, refusal, &gad, &hpac),
+    }
+}
+
+/// The same ID, another definition.
+fn changed(rng: &mut Rng, of: GadArea) -> GadArea {
+    GadArea { longitude_spacing: of.longitude_spacing ^ rng.between(1, 31), ..of }
+}
+
+/// From one to five areas of IDs that differ.
+fn blocks(rng: &mut Rng) -> Vec<GadArea> {
+    let first = rng.below(250);
+    (0..rng.between(1, 5)).map(|i| area(rng, first + i)).collect()
+}
+
+/// A frame for the desk that these parts are of, refused so before a book is looked at.
+fn refused_frame(rng: &mut Rng, refusal: Refusal, gad: &Plain, hpac: &Plain) -> Option<Vec<u8>> {
+    let parts = rng.pick(&[*gad, *hpac]);
+    let right = sheet(rng, parts.type_, parts.subtype).payload();
+    let mut frame = assemble(&parts, None, &right, &[]);
+    match refusal {
+        Refusal::Short if rng.one_in(2) => frame.truncate(rng.below(frame.len() as u64) as usize),
+        Refusal::Preamble => frame[0] ^= rng.between(1, 255) as u8,
+        Refusal::FrameCrc => frame[3] ^= rng.between(1, 15) as u8,
+        Refusal::Length => frame = assemble(&parts, None, &[], &[]),
+        Refusal::MessageCrc => {
+            let last = frame.len() - 1;
+            frame[last] ^= rng.between(1, 255) as u8;
+        }
+        Refusal::Sealed => frame = sealed(rng, &parts, &right),
+        Refusal::NotOurs => {
+            let other = match rng.below(3) {
+                0 => Plain { solution: (parts.solution + 1) % 128, ..parts },
+                1 => Plain { processor: (parts.processor + 1) % 16, ..parts },
+                _ => Plain { subtype: (parts.subtype + 1) % 16, ..parts },
+            };
+            frame = assemble(&other, None, &right, &[]);
+        }
+        Refusal::Tag => {
+            let right = sheet(rng, hpac.type_, hpac.subtype).payload();
+            let tag = rng.between(HALF_DAY, 65535);
+            frame = assemble(&Plain { tag: rng.pick(&[HALF_DAY, tag]), ..*hpac }, None, &right, &[]);
+        }
+        // SHORT, FIELD and MASK_EMPTY of the payload; a GAD has no mask
+        _ => {
+            let parts = if refusal == Refusal::MaskEmpty { hpac } else { &parts };
+            let odd = refused_payload(rng, parts.type_, parts.subtype, refusal);
+            frame = assemble(parts, None, &odd?, &[]);
+        }
+    }
+    Some(frame)
 }

@@ -3,6 +3,8 @@
 //! "Each frame event goes to the desk in order; the run log is its entries joined, and a refused
 //! frame adds none." A call tests ROOM of every lent buffer, then STATE of tray and desk, then takes
 //! its step. What the desk says of a frame is an event of the call with its number, not a refusal.
+//! Document 02, request 1: the second "is an argument of each call and of finish, and counts for the
+//! frame told by it"; a call that tells none makes nothing of it.
 
 use crate::answer::{number, stop, Refusal};
 use crate::book::BOOK_BYTES;
@@ -55,16 +57,16 @@ pub fn new(solution: u64, processor: u64, constellation: u64) -> Result<State, R
     Ok(State { tray: Tray::default(), desk: desk::new(solution, processor, constellation)? })
 }
 
-pub fn call(state: &State, lent: &mut Lent, portion: &[u8]) -> Result<Prepared, Refusal> {
+pub fn call(state: &State, lent: &mut Lent, portion: &[u8], second: u64) -> Result<Prepared, Refusal> {
     ready(state, lent)?;
     let step = stream::call(&state.tray, lent.tray, portion)?;
-    told(state, lent, step)
+    told(state, lent, step, second)
 }
 
-pub fn finish(state: &State, lent: &mut Lent) -> Result<Prepared, Refusal> {
+pub fn finish(state: &State, lent: &mut Lent, second: u64) -> Result<Prepared, Refusal> {
     ready(state, lent)?;
     let step = stream::finish(&state.tray, lent.tray)?;
-    told(state, lent, step)
+    told(state, lent, step, second)
 }
 
 fn ready(state: &State, lent: &Lent) -> Result<(), Refusal> {
@@ -77,7 +79,7 @@ fn ready(state: &State, lent: &Lent) -> Result<(), Refusal> {
     stop(!sound, Refusal::State)
 }
 
-fn told(state: &State, lent: &mut Lent, step: Step) -> Result<Prepared, Refusal> {
+fn told(state: &State, lent: &mut Lent, step: Step, second: u64) -> Result<Prepared, Refusal> {
     let mut desk = state.desk;
     let event = match step.event {
         stream::Event::Hungry => Event::Hungry,
@@ -85,7 +87,7 @@ fn told(state: &State, lent: &mut Lent, step: Step) -> Result<Prepared, Refusal>
         stream::Event::Noise { count } => Event::Noise { count },
         stream::Event::Frame { length, type_, subtype } => {
             let frame = &lent.tray[..step.tray.held as usize];
-            let taken = desk::take(&desk, frame, lent.live, lent.run, lent.log);
+            let taken = desk::take(&desk, frame, second, lent.live, lent.run, lent.log);
             let logged = taken.map_or(0, |taken| taken.logged);
             desk = taken.map_or(desk, |taken| taken.desk);
             Event::Frame { length, type_, subtype, answer: number(&taken), logged }
@@ -120,7 +122,7 @@ mod tests {
         let mut answers = Vec::new();
         let mut at = 0;
         loop {
-            let said = call(&state, &mut lent, &input[at..]).unwrap();
+            let said = call(&state, &mut lent, &input[at..], 0).unwrap();
             state = said.state;
             at += said.used;
             match said.event {
@@ -135,7 +137,7 @@ mod tests {
         }
         assert_eq!(answers, [101, 0, 11, 0]);
         assert_eq!(joined, [0x01, 0xBF, 0xD1, 0x02, 0x00, 0x00, 0x03, 0x05, 0x01, 3, 5, 1]);
-        let said = finish(&state, &mut lent).unwrap();
+        let said = finish(&state, &mut lent, 0).unwrap();
         assert_eq!(said.event, Event::Done);
         assert_eq!(said.state.tray, Tray::default());
     }
@@ -153,8 +155,8 @@ mod tests {
             let mut part = || &mut parts.next().unwrap()[..];
             let mut lent = Lent { tray: part(), live: part(), run: part(), log: part() };
             let expected = if short < 4 { Refusal::Room } else { Refusal::State };
-            assert_eq!(call(&state, &mut lent, &[1]), Err(expected));
-            assert_eq!(finish(&state, &mut lent), Err(expected));
+            assert_eq!(call(&state, &mut lent, &[1], 0), Err(expected));
+            assert_eq!(finish(&state, &mut lent, 0), Err(expected));
         }
     }
 }

@@ -3,7 +3,7 @@
 
 use second::answer::{number, Refusal};
 use second::book::{self, Book};
-use second::desk::{self, Of};
+use second::desk::{self, Last, Of};
 use second::entries::{self, Coded, Entry, BANDS};
 use second::frame::{self, check, Plain};
 use second::generate::*;
@@ -141,7 +141,7 @@ fn wild(rng: &mut Rng) -> u64 {
 fn any_numbers_at_all_are_answered() {
     let mut rng = made_from(14);
     for _ in 0..20000 {
-        let n: Vec<u64> = (0..9).map(|_| wild(&mut rng)).collect();
+        let n: Vec<u64> = (0..desk::PLACES).map(|_| wild(&mut rng)).collect();
         let numbers: desk::Numbers = std::array::from_fn(|i| n[i]);
         let mut buffer = |stated| {
             let size = buffer_size(&mut rng, stated);
@@ -158,7 +158,7 @@ fn any_numbers_at_all_are_answered() {
         let _ = stream::finish(&state, &mut tray);
         let desk = desk::Desk::of_numbers(&numbers);
         let _ = desk::new(n[0], n[1], n[2]);
-        let _ = desk::take(&desk, &bytes, &mut live, &mut run, &mut log);
+        let _ = desk::take(&desk, &bytes, wild(&mut rng), &mut live, &mut run, &mut log);
         let _ = desk::look_up(&desk, &live, &run, AreaId(n[8]));
         let _ = desk::take_kept(&desk, &bytes, &mut live, &run);
         let book = Book { aiou: (n[3] != 1).then_some(n[4]), count: n[5] };
@@ -578,12 +578,78 @@ fn told(log: &[u8]) -> Vec<(u64, u64)> {
     all
 }
 
+/// What a stream told, call by call, and what it left.
+struct Said {
+    answers: Vec<u8>,
+    log: Vec<u8>,
+    desk: desk::Desk,
+    live: Vec<u8>,
+    run: Vec<u8>,
+    at_finish: u64,
+}
+
+/// A stream in one cutting, from a fresh tray and a new desk to done. The call that tells frame i is
+/// handed second i; a call that tells none, any.
+fn together(
+    rng: &mut Rng,
+    scene: &Scene,
+    input: &[u8],
+    cuts: &[usize],
+    seconds: &[u64],
+    books: (&[u8], &[u8]),
+) -> Said {
+    let (mut tray, mut live, mut run) = (vec![0; 1103], books.0.to_vec(), books.1.to_vec());
+    let mut log = vec![0; 4096];
+    let mut state = prepare::new(scene.solution, scene.processor, scene.constellation).unwrap();
+    let (mut answers, mut told, mut at_finish) = (Vec::new(), Vec::new(), 0);
+    let (mut at, mut end, mut cuts, mut finishing) = (0, 0, cuts.iter(), false);
+    loop {
+        // what the tray says tells which call this is
+        let mut ahead = tray.clone();
+        let step = if finishing {
+            stream::finish(&state.tray, &mut ahead)
+        } else {
+            stream::call(&state.tray, &mut ahead, &input[at..end])
+        };
+        let frame = matches!(step.unwrap().event, Event::Frame { .. });
+        let second = if frame { seconds[answers.len()] } else { first_second(rng) };
+        let mut lent = Lent { tray: &mut tray, live: &mut live, run: &mut run, log: &mut log };
+        let said = if finishing {
+            prepare::finish(&state, &mut lent, second)
+        } else {
+            prepare::call(&state, &mut lent, &input[at..end], second)
+        };
+        let said = said.unwrap();
+        if !frame {
+            assert_eq!(said.state.desk, state.desk);
+        }
+        state = said.state;
+        at += said.used;
+        match said.event {
+            prepare::Event::Hungry => match cuts.next() {
+                Some(cut) => end += cut,
+                None => finishing = true,
+            },
+            prepare::Event::Done => break,
+            prepare::Event::Noise { .. } => {}
+            prepare::Event::Frame { answer, logged, .. } => {
+                answers.push(answer);
+                told.extend_from_slice(&log[..logged]);
+                at_finish += finishing as u64;
+            }
+        }
+    }
+    Said { answers, log: told, desk: state.desk, live, run, at_finish }
+}
+
 #[test]
 fn scenes_reach_every_answer_and_entry_and_the_joined_call_agrees() {
     let mut rng = made_from(10);
     let mut reached = BTreeSet::new();
     let mut logged = BTreeSet::new();
     let mut longest = 0;
+    // frames taken after a gap, and frames that finish told
+    let (mut gaps, mut at_finish) = (0, 0);
     for _ in 0..250 {
         let scene = scene(&mut rng);
         let mut desk = desk::new(scene.solution, scene.processor, scene.constellation).unwrap();
@@ -592,9 +658,9 @@ fn scenes_reach_every_answer_and_entry_and_the_joined_call_agrees() {
         let (first_live, first_run) = (live.clone(), run.clone());
         let mut log = lent_bytes(&mut rng, 4096);
         // desk alone, frame by frame
-        for frame in &scene.frames {
+        for (frame, &second) in scene.frames.iter().zip(&scene.seconds) {
             let (before_live, before_run, as_lent) = (live.clone(), run.clone(), log.clone());
-            let result = desk::take(&desk, frame, &mut live, &mut run, &mut log);
+            let result = desk::take(&desk, frame, second, &mut live, &mut run, &mut log);
             reached.insert(number(&result));
             match result {
                 Err(_) => {
@@ -625,57 +691,38 @@ fn scenes_reach_every_answer_and_entry_and_the_joined_call_agrees() {
             let bytes = if of == Of::Live { &live } else { &run };
             assert!(part.is_empty() || bytes[part.start] as u64 == id);
         }
-        // stream and desk apart, over the uncut scan
+        // stream and desk apart, over the uncut scan; frame i has the same second in all that follow
         let input = joined(&mut rng, &scene.frames);
+        let mut latest = first_second(&mut rng);
+        let mut seconds = Vec::new();
         let mut apart = desk::new(scene.solution, scene.processor, scene.constellation).unwrap();
         let (mut live, mut run) = (first_live.clone(), first_run.clone());
         let mut apart_log = Vec::new();
         let mut apart_answers = Vec::new();
         for (event, at) in stream::scan(&input) {
             if let Event::Frame { .. } = event {
-                let result = desk::take(&apart, &input[at..], &mut live, &mut run, &mut log);
+                let second = if rng.one_in(2) { latest } else { next_second(&mut rng, latest) };
+                latest = latest.max(second);
+                seconds.push(second);
+                let result = desk::take(&apart, &input[at..], second, &mut live, &mut run, &mut log);
                 apart_answers.push(number(&result));
                 if let Ok(taken) = result {
+                    gaps += desk::gap(&apart, second) as u64;
                     apart = taken.desk;
                     apart_log.extend_from_slice(&log[..taken.logged]);
                 }
             }
         }
-        // and together, cut
-        let (mut tray, mut live_2, mut run_2) = (vec![0; 1103], first_live, first_run);
-        let mut lent = Lent { tray: &mut tray, live: &mut live_2, run: &mut run_2, log: &mut log };
-        let mut state = prepare::new(scene.solution, scene.processor, scene.constellation).unwrap();
-        let mut joined_log = Vec::new();
-        let mut answers = Vec::new();
-        let mut at = 0;
-        let mut end = 0;
-        let mut cuts = cutting(&mut rng, input.len()).into_iter();
-        let mut finishing = false;
-        loop {
-            let said = if finishing {
-                prepare::finish(&state, &mut lent)
-            } else {
-                prepare::call(&state, &mut lent, &input[at..end])
-            };
-            let said = said.unwrap();
-            state = said.state;
-            at += said.used;
-            match said.event {
-                prepare::Event::Hungry => match cuts.next() {
-                    Some(cut) => end += cut,
-                    None => finishing = true,
-                },
-                prepare::Event::Done => break,
-                prepare::Event::Noise { .. } => {}
-                prepare::Event::Frame { answer, logged, .. } => {
-                    answers.push(answer);
-                    joined_log.extend_from_slice(&lent.log[..logged]);
-                }
-            }
+        // and together, in two cuttings
+        for _ in 0..2 {
+            let cuts = cutting(&mut rng, input.len());
+            let said = together(&mut rng, &scene, &input, &cuts, &seconds, (&first_live, &first_run));
+            assert_eq!((said.answers, said.log), (apart_answers.clone(), apart_log.clone()));
+            assert_eq!((said.desk, said.live, said.run), (apart, live.clone(), run.clone()));
+            at_finish += said.at_finish;
         }
-        assert_eq!((answers, joined_log), (apart_answers, apart_log));
-        assert_eq!((state.desk, live_2, run_2), (apart, live, run));
     }
+    assert!(gaps > 300 && at_finish > 50, "{gaps} {at_finish}");
     // SHORT to MESSAGE_CRC, MASK_EMPTY, FIELD, SEALED to BOOK_FULL
     let expected: BTreeSet<u8> = [0, 1, 2, 3, 4, 5, 7, 8, 10, 11, 12, 13, 14, 15].into();
     assert_eq!(reached, expected);
@@ -696,7 +743,8 @@ fn desks_as_they_stand_and_unsound_ones() {
         made.run.resize(size, 0);
         let before = made.clone();
         let sound = desk::sound(&made.desk, &made.live, &made.run);
-        let result = desk::take(&made.desk, &frame, &mut made.live, &mut made.run, &mut log);
+        let second = second_for(&mut rng, &made.desk);
+        let result = desk::take(&made.desk, &frame, second, &mut made.live, &mut made.run, &mut log);
         reached.insert(number(&result));
         match result {
             Err(_) => {
@@ -716,7 +764,7 @@ fn desks_as_they_stand_and_unsound_ones() {
         }
         let whole = if rng.one_in(2) { second::generate::kept(&mut rng) } else { broken_kept(&mut rng) };
         if let Ok(desk) = desk::take_kept(&made.desk, &whole, &mut made.live, &made.run) {
-            assert_eq!(desk.run, made.desk.run);
+            assert_eq!((desk.run, desk.last), (made.desk.run, made.desk.last));
             assert!(desk::sound(&desk, &made.live, &made.run));
         }
     }
@@ -730,6 +778,112 @@ fn desks_as_they_stand_and_unsound_ones() {
     });
     // with no run open a broken run's book does not count
     assert!(unsound > 300 && sound > 0);
+}
+
+/// A frame taken on copies of the books: the answer, the new desk, both books and the log.
+fn tried(
+    made: &Table,
+    desk: &desk::Desk,
+    frame: &[u8],
+    second: u64,
+) -> (u8, desk::Desk, Vec<u8>, Vec<u8>, Vec<u8>) {
+    let (mut live, mut run, mut log) = (made.live.clone(), made.run.clone(), vec![0xA5; 4097]);
+    let result = desk::take(desk, frame, second, &mut live, &mut run, &mut log);
+    (number(&result), result.map_or(*desk, |taken| taken.desk), live, run, log)
+}
+
+#[test]
+fn after_a_gap_all_is_as_with_an_empty_live_book_and_else_as_without_seconds() {
+    let mut rng = made_from(15);
+    let mut met = BTreeMap::new();
+    for round in 0..6000usize {
+        let made = table(&mut rng);
+        let sort = SORTS[round % SORTS.len()];
+        let Some(frame) = frame_of(&mut rng, &made, sort) else { continue };
+        let second = second_for(&mut rng, &made.desk);
+        let gap = desk::gap(&made.desk, second);
+        // a desk on which no time has passed: nothing of request 1 is in its answer
+        let timeless = desk::Desk { last: Last::Never, ..made.desk };
+        let over = if gap { desk::Desk { live: Book::default(), ..timeless } } else { timeless };
+        let (expected, then, live, run, log) = tried(&made, &over, &frame, second);
+        let (answer, now, live_now, run_now, log_now) = tried(&made, &made.desk, &frame, second);
+        assert_eq!(answer, expected);
+        assert_eq!((&live_now, &run_now, &log_now), (&live, &run, &log));
+        if answer == 0 {
+            let last = match made.desk.last {
+                Last::At(last) if last > second => last,
+                _ => second,
+            };
+            assert_eq!(now, desk::Desk { last: Last::At(last), ..then });
+            assert!(desk::sound(&now, &live_now, &run_now));
+            // the next run is opened by the book that is left
+            let left = Table { desk: now, live: live_now.clone(), run: run_now };
+            let next = frame_of(&mut rng, &left, Sort::OtherTag).unwrap();
+            let (answer, _, _, _, log) = tried(&left, &now, &next, rng.below(last));
+            assert_eq!(answer, 0);
+            let (entry, _) = entries::read(&log).unwrap();
+            let Entry::Opened { aiou, count, .. } = entry else { panic!("{entry:?}") };
+            assert_eq!((aiou, count), (now.live.aiou, now.live.count));
+            if gap && matches!(sort, Sort::OfRun | Sort::OtherTag) {
+                // no book, and no byte of it was written
+                assert_eq!((aiou, count, &live_now), (None, 0, &made.live));
+            }
+        } else {
+            assert_eq!((now, &live_now), (made.desk, &made.live));
+        }
+        let number = match sort {
+            Sort::Against if !gap => 14,
+            Sort::Overfull if !gap => 15,
+            Sort::Refused(refusal) => refusal.number(),
+            _ => 0,
+        };
+        // a live book may refuse a block before the one that is faulty by itself
+        let earlier = !gap && [13, 14].contains(&number) && [14, 15].contains(&answer);
+        assert!(answer == number || earlier, "{sort:?} {gap} {answer}");
+        *met.entry((sort, gap)).or_insert(0) += 1;
+    }
+    for sort in SORTS {
+        for gap in [false, true] {
+            assert!(met.get(&(sort, gap)).is_some_and(|&count| count >= 10), "{sort:?} {gap} {met:?}");
+        }
+    }
+}
+
+#[test]
+fn the_seconds_of_every_kind_come() {
+    let mut rng = made_from(16);
+    let mut met = BTreeSet::new();
+    for _ in 0..4000 {
+        let last = first_second(&mut rng);
+        met.insert(match last {
+            0 => "first: 0",
+            u64::MAX => "first: the last of all",
+            _ if last > u64::MAX - 450 => "first: no gap can follow",
+            _ if last >= 1 << 63 => "first: large",
+            _ => "first: small",
+        });
+        let near = near_second(&mut rng, last);
+        assert!(near.saturating_sub(last) < 450);
+        met.insert(match near {
+            _ if near < last => "near: earlier",
+            _ if near == last => "near: the same",
+            _ if near - last == 449 => "near: 449 after",
+            _ => "near: later",
+        });
+        let gap = gap_second(&mut rng, last);
+        assert_eq!(gap.is_none(), last > u64::MAX - 450);
+        if let Some(gap) = gap {
+            assert!(gap - last >= 450);
+            met.insert(match gap - last {
+                450 => "gap: 450 after",
+                451 => "gap: 451 after",
+                _ => "gap: long after",
+            });
+        }
+        let next = next_second(&mut rng, last);
+        met.insert(if next.saturating_sub(last) >= 450 { "next: a gap" } else { "next: no gap" });
+    }
+    assert_eq!(met.len(), 14, "{met:?}");
 }
 
 #[test]
