@@ -1,4 +1,4 @@
-//! Desks: frames taken one after the other, areas looked up, kept books taken in.
+//! Desks: frames taken one after the other, each with its second, areas looked up, kept books taken in.
 
 use crate::books;
 use crate::entries;
@@ -9,8 +9,7 @@ use crate::tables::{self, LentTable, Table};
 use homralgyu::raw;
 use second::answer::{number, Refusal};
 use second::book::BOOK_BYTES;
-use second::desk::LOG_BYTES;
-use second::desk::{self, Of};
+use second::desk::{self, Last, Of, LOG_BYTES, PLACES};
 use second::frame::LONGEST_PAYLOAD;
 use second::frame::{assemble, Plain};
 use second::generate::*;
@@ -31,20 +30,20 @@ pub fn new(rng: &mut Rng, judge: &mut Judge) {
     let solution = rng.pick(&[0, 127, 128, 255, any[0], any[0] & 127, any[0] & 127]);
     let processor = rng.pick(&[0, 15, 16, 255, any[1], any[1] & 15, any[1] & 15]);
     let constellation = rng.pick(&[0, 1, 2, 3, 4, 4, 5, 255, any[2]]);
-    let places = rng.pick(&[0, 8, 9, 9, 9, 9, 9, 10]);
+    let places = rng.pick(&[0, 8, 9, 10, 11, 11, 11, 11, 11, 11, 11, 12, 20]);
     let mut desk = lent_entries(rng, places);
     let said = || format!("{solution} {processor} {constellation}, {places} places");
     let input = Input { call: "desk_new", said: &said };
     let mut ours = lent::numbers(&desk);
     let answer = raw::desk_new(solution, processor, constellation, ours.part());
-    let made = if places < 9 {
+    let made = if places < PLACES {
         Err(Refusal::Room)
     } else {
         desk::new(solution as u64, processor as u64, constellation as u64)
     };
     judge.number(&input, answer, number(&made));
     if let Ok(made) = made {
-        desk[..9].copy_from_slice(&made.numbers());
+        desk[..PLACES].copy_from_slice(&made.numbers());
     }
     judge.lent(&input, "the desk's numbers", &ours, &desk);
 }
@@ -105,23 +104,27 @@ pub fn find(rng: &mut Rng, judge: &mut Judge, table: &Table) {
     });
 }
 
-/// A frame taken. The table goes on.
+/// A frame taken that came in at a second. The table goes on.
 pub fn take(
     rng: &mut Rng,
     judge: &mut Judge,
     table: &mut Table,
-    frame: &[u8],
+    (frame, second): (&[u8], u64),
     log_size: usize,
     places: usize,
 ) {
     let old = table.clone();
-    let said = || format!("{}, frame {}, log of {log_size}, {places} places", old.said(), hex(frame));
+    let said = || {
+        let table = old.said();
+        format!("{table}, frame {}, second {second}, log of {log_size}, {places} places", hex(frame))
+    };
     let input = Input { call: "desk_take", said: &said };
     let (mut log, mut written) = (vec![rng.draw() as u8; log_size], lent_entries(rng, places));
     let (mut ours, our_frame) = (table.lend(), lent::bytes(frame));
     let (mut our_log, mut our_written) = (lent::bytes(&log), lent::numbers(&written));
     let answer = raw::desk_take(
         our_frame.now(),
+        second,
         ours.numbers.part(),
         ours.live.part(),
         ours.run.part(),
@@ -129,16 +132,21 @@ pub fn take(
         our_written.part(),
     );
     let result = match table.desk() {
-        Some(desk) if places >= 1 => desk::take(&desk, frame, &mut table.live, &mut table.run, &mut log),
+        Some(desk) if places >= 1 => {
+            desk::take(&desk, frame, second, &mut table.live, &mut table.run, &mut log)
+        }
         _ => Err(Refusal::Room),
     };
     judge.number(&input, answer, number(&result));
     marks::frame_given(judge, frame);
+    table.past = marks::second_given(judge, &old, frame, second, number(&result));
     if let Ok(taken) = result {
         table.put(&taken.desk);
         written[0] = taken.logged as u64;
         let before = old.desk().expect("a desk that took a frame");
-        marks::frame_taken(judge, frame, &before, &taken.desk, &log[..taken.logged]);
+        if !desk::gap(&before, second) {
+            marks::frame_taken(judge, frame, &before, &taken.desk, &log[..taken.logged]);
+        }
     }
     same_table(judge, &input, &ours, table);
     judge.lent(&input, "the log", &our_log, &log);
@@ -187,6 +195,7 @@ pub fn take_book(rng: &mut Rng, judge: &mut Judge, table: &mut Table) {
     judge.number(&input, answer, number(&result));
     if let Ok(desk) = result {
         table.put(&desk);
+        table.past.taken_in = true;
     }
     same_table(judge, &input, &ours, table);
     judge.lent(&input, "the book's numbers", &our_book, &numbers);
@@ -198,16 +207,50 @@ pub fn history(rng: &mut Rng, judge: &mut Judge) {
     let scene = scene(rng);
     let made = desk::new(scene.solution, scene.processor, scene.constellation).expect("in range");
     let mut table = tables::fresh(rng, &made);
-    for frame in &scene.frames {
+    for (frame, &second) in scene.frames.iter().zip(&scene.seconds) {
         // now and then, instead, a frame for the desk as it stands: of the run's book, which may no longer be live
         let own = if rng.one_in(3) { table.frame(rng) } else { frame.clone() };
-        take(rng, judge, &mut table, &own, LOG_BYTES, 1);
+        take(rng, judge, &mut table, (&own, second), LOG_BYTES, 1);
         match rng.below(12) {
             0..=3 => find(rng, judge, &table),
             4 => sound(judge, &table),
             5 if rng.one_in(3) => take_book(rng, judge, &mut table),
             _ => {}
         }
+    }
+}
+
+/// A desk as it stands, frames of every sort with and without a gap before them, kept books taken between; after each the
+/// next frame, without a gap, shows what was left.
+pub fn gaps(rng: &mut Rng, judge: &mut Judge) {
+    let made = second::generate::table(rng);
+    let mut table = tables::of(made);
+    for _ in 0..rng.between(1, 5) {
+        if rng.one_in(4) {
+            take_book(rng, judge, &mut table);
+        }
+        let accepted = rng.pick(&SORTS[..5]);
+        let any = rng.pick(&SORTS);
+        let sort = rng.pick(&[accepted, any]);
+        let frame = table.frame_of(rng, sort);
+        let second = match table.desk().expect("eleven numbers").last {
+            Last::At(last) if rng.one_in(2) => gap_second(rng, last).unwrap_or(u64::MAX),
+            _ => table.second(rng),
+        };
+        take(rng, judge, &mut table, (&frame, second), LOG_BYTES, 1);
+        if rng.one_in(2) {
+            find(rng, judge, &table);
+        }
+        if rng.one_in(8) {
+            sound(judge, &table);
+        }
+        let sort = rng.pick(&[Sort::OfRun, Sort::OtherTag, Sort::OtherTag, Sort::Gad, Sort::Against]);
+        let next = table.frame_of(rng, sort);
+        let second = match table.desk().expect("eleven numbers").last {
+            Last::At(last) => near_second(rng, last),
+            _ => first_second(rng),
+        };
+        take(rng, judge, &mut table, (&next, second), LOG_BYTES, 1);
     }
 }
 
@@ -242,10 +285,12 @@ pub fn full(rng: &mut Rng, judge: &mut Judge) {
         processor: made.processor,
     };
     let gad = assemble(&parts, None, &gad_sheet(rng, aiou, &[grid]).payload(), &[]);
-    take(rng, judge, &mut table, &gad, LOG_BYTES, 1);
+    let second = first_second(rng);
+    take(rng, judge, &mut table, (&gad, second), LOG_BYTES, 1);
     if let Some(payload) = hpac {
         let parts = Plain { type_: 1, subtype: made.constellation, ..parts };
-        take(rng, judge, &mut table, &assemble(&parts, None, &payload, &[]), LOG_BYTES, 1);
+        let second = near_second(rng, second);
+        take(rng, judge, &mut table, (&assemble(&parts, None, &payload, &[]), second), LOG_BYTES, 1);
     }
 }
 
@@ -258,5 +303,6 @@ pub fn odd(rng: &mut Rng, judge: &mut Judge) {
     let frame = if rng.one_in(6) { odd_frame(rng) } else { table.frame(rng) };
     let log = if rng.one_in(6) { buffer_size(rng, LOG_BYTES) } else { LOG_BYTES };
     let places = rng.pick(&[1, 1, 1, 1, 1, 1, 1, 1, 1, 2, 0]);
-    take(rng, judge, &mut table.clone(), &frame, log, places);
+    let second = table.second(rng);
+    take(rng, judge, &mut table.clone(), (&frame, second), log, places);
 }

@@ -23,7 +23,7 @@ use second::generate::Rng;
 type Case = fn(&mut Rng, &mut Judge);
 
 /// What is tried, and its share of the turns.
-const CASES: [(u64, Case); 25] = [
+const CASES: [(u64, Case); 26] = [
     (18, frames::check),
     (8, frames::write),
     (20, payloads::read),
@@ -43,6 +43,7 @@ const CASES: [(u64, Case); 25] = [
     (2, desks::new),
     (12, desks::odd),
     (10, desks::history),
+    (12, desks::gaps),
     (1, desks::full),
     (12, prepares::odd),
     (10, prepares::whole),

@@ -3,10 +3,10 @@
 use crate::entries::Role;
 use crate::judge::Judge;
 use crate::logs::{entries, Entry};
-use crate::tables::Table;
-use second::answer::Refusal;
+use crate::tables::{Past, Table};
+use second::answer::{number, Refusal};
 use second::book;
-use second::desk::{Desk, HALF_DAY};
+use second::desk::{self, Desk, Last, GAP, HALF_DAY, LOG_BYTES};
 use second::entries;
 use second::frame;
 use second::generate::TWELVE;
@@ -17,7 +17,7 @@ use second::values::{Residual, Yaw};
 use second::views::{Satellite, SatelliteView};
 
 /// What a run of many inputs has to meet besides.
-pub const MARKS: [&str; 49] = [
+pub const MARKS: [&str; 50] = [
     "GAD: a book begins",
     "GAD: a book of 32",
     "GAD: the book grows",
@@ -51,6 +51,7 @@ pub const MARKS: [&str; 49] = [
     "log: 3, left out by 4",
     "log: over 1,000 bytes of a frame",
     "unsound: constellation",
+    "unsound: flag of the last second",
     "unsound: flag of the run",
     "unsound: live book",
     "unsound: processor",
@@ -67,6 +68,64 @@ pub const MARKS: [&str; 49] = [
     "view: yaw absent",
     "view: yaw an angle",
     "view: yaw invalid",
+];
+
+/// What the seconds were, and what a gap before a frame made of it; but for the first few there was a live book to empty.
+pub const SECONDS: [&str; 38] = [
+    "second: 449 after the last",
+    "second: 450 after the last",
+    "second: 451 after the last",
+    "second: a frame told by finish",
+    "second: before any accepted frame",
+    "second: before any accepted frame, over a kept book",
+    "second: earlier than the last",
+    "second: large",
+    "second: long after the last",
+    "second: no gap can follow the last",
+    "second: the end of u64",
+    "second: the last one again",
+    "second: the same in two cuttings",
+    "second: under 449 after the last",
+    "second: within 450 of the end of u64",
+    "gap: GAD taken",
+    "gap: GAD taken, it would have added to the old book",
+    "gap: GAD taken, the old book alone against it",
+    "gap: GAD taken, the old book alone without room",
+    "gap: HPAC of another tag",
+    "gap: HPAC of the open run, its copy empty",
+    "gap: HPAC of the open run, its copy with areas",
+    "gap: HPAC of the open run, then a run without a book",
+    "gap: HPAC, no run open",
+    "gap: ROOM, the live book lent short",
+    "gap: STATE, the live book alone unsound",
+    "gap: a book taken in since the last frame",
+    "gap: at finish",
+    "gap: before another portion",
+    "gap: no live book to empty",
+    "gap: refused by AREA_OFF, the old book by CONFLICT",
+    "gap: refused, then no gap for the old book",
+    "gap: refused, then the old book is emptied",
+    "gap: to the end of u64",
+    "no gap: CONFLICT with the live book alone",
+    "no gap: a second earlier than the last, and the live book stays",
+    "no gap: at 449 a run with a book",
+    "no gap: the run goes on over an emptied live book",
+];
+
+/// The refusals after a gap over a live book, by their numbers.
+pub const REFUSED: [(u8, &str); 12] = [
+    (1, "gap: refused, SHORT"),
+    (2, "gap: refused, PREAMBLE"),
+    (3, "gap: refused, FRAME_CRC"),
+    (4, "gap: refused, LENGTH"),
+    (5, "gap: refused, MESSAGE_CRC"),
+    (7, "gap: refused, MASK_EMPTY"),
+    (8, "gap: refused, FIELD"),
+    (10, "gap: refused, SEALED"),
+    (11, "gap: refused, TAG"),
+    (12, "gap: refused, NOT_OURS"),
+    (13, "gap: refused, AREA_OFF"),
+    (14, "gap: refused, CONFLICT"),
 ];
 
 /// The twelve types, as `TWELVE` lists them.
@@ -201,7 +260,8 @@ pub const FORM_AT: [&str; 14] = [
 
 /// All that has to be met.
 pub fn all() -> Vec<&'static str> {
-    [&MARKS[..], &TYPES, &VIEWS, &ENTRIES, &SHORT_AT, &FORM_AT].concat()
+    let refused = REFUSED.map(|(_, name)| name);
+    [&MARKS[..], &SECONDS, &refused, &TYPES, &VIEWS, &ENTRIES, &SHORT_AT, &FORM_AT].concat()
 }
 
 /// Counts the type of a frame that is given to a desk.
@@ -212,7 +272,145 @@ pub fn frame_given(judge: &mut Judge, frame: &[u8]) {
     }
 }
 
-/// Counts what a frame was to the desk.
+/// Counts what the second of a frame was to the desk, and what a gap made of the frame. What came before goes on with it.
+pub fn second_given(judge: &mut Judge, before: &Table, frame: &[u8], second: u64, answer: u8) -> Past {
+    let past = before.past;
+    let Some(desk) = before.desk() else { return past };
+    let (gap, held) = (desk::gap(&desk, second), desk.live.count > 0);
+    // ROOM and STATE are answered before the second counts, of a live book too that would be emptied
+    if [9, 17].contains(&answer) {
+        let emptied = Desk { live: book::Book::default(), ..desk };
+        if gap && answer == 9 && before.live.len() < book::BOOK_BYTES {
+            judge.mark("gap: ROOM, the live book lent short");
+        }
+        if gap && answer == 17 && desk::sound(&emptied, &before.live, &before.run) {
+            judge.mark("gap: STATE, the live book alone unsound");
+        }
+        return past;
+    }
+    judge.mark(match desk.last {
+        Last::At(last) => match second.checked_sub(last) {
+            None => "second: earlier than the last",
+            Some(0) => "second: the last one again",
+            Some(1..=448) => "second: under 449 after the last",
+            Some(449) => "second: 449 after the last",
+            Some(450) => "second: 450 after the last",
+            Some(451) => "second: 451 after the last",
+            Some(_) => "second: long after the last",
+        },
+        _ if held => "second: before any accepted frame, over a kept book",
+        _ => "second: before any accepted frame",
+    });
+    if matches!(desk.last, Last::At(last) if last > u64::MAX - GAP) {
+        judge.mark("second: no gap can follow the last");
+    }
+    match second {
+        u64::MAX => judge.mark("second: the end of u64"),
+        _ if second > u64::MAX - GAP => judge.mark("second: within 450 of the end of u64"),
+        _ if second >= 1 << 63 => judge.mark("second: large"),
+        _ => {}
+    }
+    if gap && !held {
+        judge.mark("gap: no live book to empty");
+    }
+    if answer != 0 {
+        if gap && held {
+            refused_after_gap(judge, before, &desk, frame, answer);
+        } else if !gap && answer == 14 && own_answer(before, &desk, frame) == 0 {
+            judge.mark("no gap: CONFLICT with the live book alone");
+        }
+        return Past { refused: past.refused || gap && held, ..past };
+    }
+    let header = frame::check(frame).expect("a frame that was taken");
+    let of_run = header.type_ == 1 && desk.run.is_some_and(|open| open.tag == header.tag % HALF_DAY);
+    if !gap {
+        taken_without_gap(judge, &desk, second, past, header.type_, of_run);
+        // an HPAC of the same run leaves the live book as it was
+        return Past { emptied: past.emptied && of_run, ..Past::default() };
+    }
+    if held {
+        taken_after_gap(judge, before, &desk, frame, header.type_, of_run);
+        if past.taken_in {
+            judge.mark("gap: a book taken in since the last frame");
+        }
+        if past.refused {
+            judge.mark("gap: refused, then the old book is emptied");
+        }
+        if second == u64::MAX {
+            judge.mark("gap: to the end of u64");
+        }
+    }
+    Past { emptied: of_run && held, ..Past::default() }
+}
+
+/// The answer to a frame, on copies, of a desk on which no time has passed.
+fn timeless_answer(before: &Table, desk: &Desk, frame: &[u8]) -> (u8, Desk) {
+    let desk = Desk { last: Last::Never, ..*desk };
+    let (mut live, mut run) = (before.live.clone(), before.run.clone());
+    let result = desk::take(&desk, frame, 0, &mut live, &mut run, &mut [0; LOG_BYTES]);
+    (number(&result), result.map_or(desk, |taken| taken.desk))
+}
+
+/// The same, of the desk without its live book.
+fn own_answer(before: &Table, desk: &Desk, frame: &[u8]) -> u8 {
+    timeless_answer(before, &Desk { live: book::Book::default(), ..*desk }, frame).0
+}
+
+fn refused_after_gap(judge: &mut Judge, before: &Table, desk: &Desk, frame: &[u8], answer: u8) {
+    if let Some((_, name)) = REFUSED.iter().find(|(number, _)| *number == answer) {
+        judge.mark(name);
+    }
+    if answer == 13 && timeless_answer(before, desk, frame).0 == 14 {
+        judge.mark("gap: refused by AREA_OFF, the old book by CONFLICT");
+    }
+}
+
+fn taken_without_gap(judge: &mut Judge, desk: &Desk, second: u64, past: Past, type_: u64, of_run: bool) {
+    let held = desk.live.count > 0;
+    if past.refused && held {
+        judge.mark("gap: refused, then no gap for the old book");
+    }
+    if type_ != 1 {
+        return;
+    }
+    if past.emptied && of_run && desk.run.is_some_and(|open| open.book.count > 0) {
+        judge.mark("no gap: the run goes on over an emptied live book");
+    }
+    if past.emptied && !of_run {
+        judge.mark("gap: HPAC of the open run, then a run without a book");
+    }
+    if let (Last::At(last), true, false) = (desk.last, held, of_run) {
+        if second < last {
+            judge.mark("no gap: a second earlier than the last, and the live book stays");
+        }
+        if second.checked_sub(last) == Some(449) {
+            judge.mark("no gap: at 449 a run with a book");
+        }
+    }
+}
+
+/// A frame that emptied a live book.
+fn taken_after_gap(judge: &mut Judge, before: &Table, desk: &Desk, frame: &[u8], type_: u64, of_run: bool) {
+    if type_ == 2 {
+        judge.mark("gap: GAD taken");
+        return match timeless_answer(before, desk, frame) {
+            (14, _) => judge.mark("gap: GAD taken, the old book alone against it"),
+            (15, _) => judge.mark("gap: GAD taken, the old book alone without room"),
+            (_, then) if then.live.aiou == desk.live.aiou && then.live.count > desk.live.count => {
+                judge.mark("gap: GAD taken, it would have added to the old book")
+            }
+            _ => {}
+        };
+    }
+    judge.mark(match desk.run {
+        None => "gap: HPAC, no run open",
+        Some(open) if of_run && open.book.count > 0 => "gap: HPAC of the open run, its copy with areas",
+        Some(_) if of_run => "gap: HPAC of the open run, its copy empty",
+        Some(_) => "gap: HPAC of another tag",
+    });
+}
+
+/// Counts what a frame was to the desk; there was no gap before it.
 pub fn frame_taken(judge: &mut Judge, frame: &[u8], before: &Desk, after: &Desk, log: &[u8]) {
     let header = frame::check(frame).expect("a frame that was taken");
     if header.type_ == 2 {
@@ -310,6 +508,7 @@ pub fn unsound_by(desk: &Desk, table: &Table) -> &'static str {
         _ if desk.processor > 15 => "unsound: processor",
         _ if desk.constellation > 4 => "unsound: constellation",
         _ if table.numbers[5] > 1 => "unsound: flag of the run",
+        _ if table.numbers[9] > 1 => "unsound: flag of the last second",
         _ if !book::sound(&desk.live, &table.live) => "unsound: live book",
         Some(open) if open.tag >= HALF_DAY => "unsound: tag",
         _ => "unsound: the run's book",

@@ -1,4 +1,4 @@
-//! Stream and desk together: portion by portion, with trays and desks of every kind.
+//! Stream and desk together: portion by portion, each call with its second, with trays and desks of every kind.
 
 use crate::desks::same_table;
 use crate::entries;
@@ -15,7 +15,7 @@ use second::frame::LONGEST_FRAME;
 use second::frame::{self, assemble};
 use second::generate::*;
 use second::prepare::{self, Event, Prepared, State};
-use second::stream::Tray;
+use second::stream::{self, Tray};
 
 /// The sizes of a call's buffers beside the tray's bytes and the desk.
 struct Places {
@@ -32,6 +32,33 @@ struct Job {
     tray: Tray,
     bytes: Vec<u8>,
     table: Table,
+    /// the second and the answer of each frame that was told, and the log so far
+    told: Vec<(u64, u8)>,
+    log: Vec<u8>,
+}
+
+impl Job {
+    fn new(tray: Tray, bytes: Vec<u8>, table: Table) -> Job {
+        Job { tray, bytes, table, told: Vec::new(), log: Vec::new() }
+    }
+
+    /// Will the call tell a frame? Asked of the second program's tray, on a copy.
+    fn tells_frame(&self, portion: Option<&[u8]>) -> bool {
+        let mut bytes = self.bytes.clone();
+        let step = match portion {
+            Some(portion) => stream::call(&self.tray, &mut bytes, portion),
+            None => stream::finish(&self.tray, &mut bytes),
+        };
+        step.is_ok_and(|step| matches!(step.event, stream::Event::Frame { .. }))
+    }
+}
+
+/// Where the seconds of a stream come from.
+enum Seconds<'a> {
+    /// each portion has one, and finish one
+    OfPortions,
+    /// each frame has its own; a call that tells none is handed any
+    OfFrames(&'a [(u64, u8)]),
 }
 
 /// One call on both sides: the job goes on. None if it was refused.
@@ -39,15 +66,15 @@ fn step(
     rng: &mut Rng,
     judge: &mut Judge,
     job: &mut Job,
-    portion: Option<&[u8]>,
+    (portion, second): (Option<&[u8]>, u64),
     places: &Places,
 ) -> Option<Prepared> {
     let (old_tray, old_bytes, old_table) = (job.tray, job.bytes.clone(), job.table.clone());
     let said = || {
         let portion = portion.map_or("finish".to_string(), |p| format!("portion {}", hex(p)));
         let (t, l, o, h) = (places.tray, places.log, places.told, places.header);
-        let table = old_table.said();
-        format!("{old_tray:?} bytes {}, {table}, {portion}, places {t} {l} {o} {h}", hex(&old_bytes))
+        let (bytes, table) = (hex(&old_bytes), old_table.said());
+        format!("{old_tray:?} bytes {bytes}, {table}, {portion}, second {second}, places {t} {l} {o} {h}")
     };
     let call = if portion.is_some() { "prepare_call" } else { "prepare_finish" };
     let input = Input { call, said: &said };
@@ -67,6 +94,7 @@ fn step(
             ours.run.part(),
             our_log.part(),
             portion,
+            second,
             our_told.part(),
             our_header.part(),
         ),
@@ -77,6 +105,7 @@ fn step(
             ours.live.part(),
             ours.run.part(),
             our_log.part(),
+            second,
             our_told.part(),
             our_header.part(),
         ),
@@ -91,8 +120,8 @@ fn step(
                 log: &mut log,
             };
             match portion {
-                Some(portion) => prepare::call(&state, &mut lent, portion),
-                None => prepare::finish(&state, &mut lent),
+                Some(portion) => prepare::call(&state, &mut lent, portion, second),
+                None => prepare::finish(&state, &mut lent, second),
             }
         }
         _ => Err(Refusal::Room),
@@ -109,10 +138,20 @@ fn step(
             judge.same(&input, "the length of the frame shown", &(shown.length as u64), &length);
             header[..15].copy_from_slice(&header_of(&shown));
             judge.count("prepare, of a frame", answer);
-            if answer == 0 {
-                let before = old_table.desk().expect("a desk that took a frame");
+            job.table.past = marks::second_given(judge, &old_table, &job.bytes, second, answer);
+            let before = old_table.desk().expect("a desk that was shown a frame");
+            let gap = desk::gap(&before, second);
+            if answer == 0 && !gap {
                 marks::frame_taken(judge, &job.bytes, &before, &done.state.desk, &log[..logged]);
             }
+            if portion.is_none() {
+                judge.mark("second: a frame told by finish");
+                if answer == 0 && gap && before.live.count > 0 {
+                    judge.mark("gap: at finish");
+                }
+            }
+            job.told.push((second, answer));
+            job.log.extend_from_slice(&our_log.now()[..logged]);
         }
     }
     judge.lent(&input, "the tray's bytes", &our_bytes, &job.bytes);
@@ -148,7 +187,12 @@ pub fn whole(rng: &mut Rng, judge: &mut Judge) {
             *frame = around(rng, frame);
         }
     }
-    let input = joined(rng, &scene.frames);
+    let mut input = joined(rng, &scene.frames);
+    if rng.one_in(3) {
+        // the last frames lie in one that ends too soon, so finish tells them
+        let last = scene.frames.iter().rev().take(3).find(|frame| frame.len() <= 1000);
+        input.extend(last.map_or(Vec::new(), |frame| unfinished(rng, frame)));
+    }
     prepare_all(rng, judge, &scene, &input);
 }
 
@@ -171,24 +215,80 @@ fn around(rng: &mut Rng, inner: &[u8]) -> Vec<u8> {
     outer
 }
 
-/// A stream cut anyhow, from a fresh tray and a new desk to done.
+/// A frame around a frame, that ends before its own check does.
+fn unfinished(rng: &mut Rng, inner: &[u8]) -> Vec<u8> {
+    let parts = parts(rng);
+    let mut outer = assemble(&parts, None, inner, &[]);
+    let check = parts.check_type + 1;
+    outer.truncate(outer.len() - rng.between(1, check) as usize);
+    outer
+}
+
+/// A stream cut anyhow, from a fresh tray and a new desk to done; then in another cutting, where frame i has the second
+/// that it had in the first: the same answers and the same log, and the same is left.
 fn prepare_all(rng: &mut Rng, judge: &mut Judge, scene: &Scene, input: &[u8]) {
     let made = desk::new(scene.solution, scene.processor, scene.constellation).expect("in range");
-    let mut job = Job { tray: Tray::default(), bytes: vec![0; LONGEST_FRAME], table: tables::fresh(rng, &made) };
+    let table = tables::fresh(rng, &made);
+    let one = prepare_cut(rng, judge, &table, input, Seconds::OfPortions);
+    let two = prepare_cut(rng, judge, &table, input, Seconds::OfFrames(&one.told));
+    let said = || format!("{}, stream {}, frames {:?}", table.said(), hex(input), one.told);
+    let input = Input { call: "prepare_call", said: &said };
+    judge.same(&input, "seconds and answers of two cuttings", &one.told, &two.told);
+    judge.same(&input, "the log of two cuttings", &one.log, &two.log);
+    judge.same(&input, "the desk's numbers of two cuttings", &one.table.numbers, &two.table.numbers);
+    judge.same(&input, "the live book of two cuttings", &one.table.live, &two.table.live);
+    judge.same(&input, "the run's book of two cuttings", &one.table.run, &two.table.run);
+    if one.told.len() > 1 {
+        judge.mark("second: the same in two cuttings");
+    }
+}
+
+/// One cutting.
+fn prepare_cut(rng: &mut Rng, judge: &mut Judge, table: &Table, input: &[u8], seconds: Seconds) -> Job {
+    let mut job = Job::new(Tray::default(), vec![0; LONGEST_FRAME], table.clone());
     let cuts = cutting(rng, input.len());
     let mut rest = input;
-    for size in cuts.into_iter().chain([usize::MAX]) {
-        let (mut portion, behind) = rest.split_at(size.min(rest.len()));
-        rest = behind;
+    let mut latest = first_second(rng);
+    // of many small portions most have the second of the one before, so that books grow between two gaps
+    let tenth = cuts.len() as u64 / 10 + 1;
+    let (gaps, steps) = (tenth * rng.pick(&[3, 10]), tenth * 2);
+    // none is finish
+    for size in cuts.into_iter().chain([usize::MAX]).map(Some).chain([None]) {
+        let of_portion = match size {
+            _ if rng.one_in(gaps) => gap_second(rng, latest).unwrap_or(latest),
+            None if rng.one_in(2) => next_second(rng, latest),
+            _ if rng.one_in(steps) => near_second(rng, latest),
+            _ => latest,
+        };
+        latest = latest.max(of_portion);
+        let mut portion = size.map(|size| {
+            let (portion, behind) = rest.split_at(size.min(rest.len()));
+            rest = behind;
+            portion
+        });
         loop {
-            let went = step(rng, judge, &mut job, Some(portion), &ENOUGH).expect("a sound job");
-            portion = &portion[went.used..];
-            if went.event == Event::Hungry {
-                break;
+            let second = match seconds {
+                Seconds::OfPortions => of_portion,
+                Seconds::OfFrames(of) if job.tells_frame(portion) => {
+                    of.get(job.told.len()).map_or(0, |(second, _)| *second)
+                }
+                Seconds::OfFrames(_) => first_second(rng),
+            };
+            let before = job.table.desk().expect("eleven numbers");
+            let went = step(rng, judge, &mut job, (portion, second), &ENOUGH).expect("a sound job");
+            portion = portion.map(|portion| &portion[went.used..]);
+            match went.event {
+                Event::Hungry | Event::Done => break,
+                Event::Frame { answer: 0, .. } if desk::gap(&before, second) && before.live.count > 0 => {
+                    if let (Seconds::OfPortions, Some(_)) = (&seconds, portion) {
+                        judge.mark("gap: before another portion");
+                    }
+                }
+                _ => {}
             }
         }
     }
-    while step(rng, judge, &mut job, None, &ENOUGH).expect("a sound job").event != Event::Done {}
+    job
 }
 
 /// One call on a tray and a desk of any kind, with buffers of any size.
@@ -205,7 +305,7 @@ pub fn odd(rng: &mut Rng, judge: &mut Judge) {
         }
         _ => tray(rng),
     };
-    let mut job = Job { tray, bytes, table };
+    let mut job = Job::new(tray, bytes, table);
     if rng.one_in(12) {
         let size = buffer_size(rng, LONGEST_FRAME);
         job.bytes.resize(size, 0);
@@ -230,5 +330,6 @@ pub fn odd(rng: &mut Rng, judge: &mut Judge) {
         portion.extend(noise(rng, more));
     }
     let portion = if rng.one_in(3) { None } else { Some(&portion[..]) };
-    step(rng, judge, &mut job, portion, &places);
+    let second = job.table.second(rng);
+    step(rng, judge, &mut job, (portion, second), &places);
 }

@@ -1,10 +1,10 @@
-//! A desk as it is lent: nine numbers and two books, of every kind.
+//! A desk as it is lent: eleven numbers and two books, of every kind.
 
 use crate::judge::hex;
 use crate::lent::{self, Lent};
 use second::book::BOOK_BYTES;
 use second::book;
-use second::desk::Desk;
+use second::desk::{Desk, Last, PLACES};
 use second::generate::{self, *};
 
 #[derive(Clone)]
@@ -12,6 +12,18 @@ pub struct Table {
     pub numbers: Vec<u64>,
     pub live: Vec<u8>,
     pub run: Vec<u8>,
+    pub past: Past,
+}
+
+/// What came before on a desk, for counting what a frame then met.
+#[derive(Clone, Copy, Default)]
+pub struct Past {
+    /// a book was taken in since the last frame that was answered OK
+    pub taken_in: bool,
+    /// since the last frame that was answered OK, one was refused after a gap, over a live book
+    pub refused: bool,
+    /// the last frame that was answered OK was an HPAC of the open run, and emptied the live book
+    pub emptied: bool,
 }
 
 /// The same, lent to a call.
@@ -22,15 +34,15 @@ pub struct LentTable {
 }
 
 impl Table {
-    /// The desk of the numbers; none if they are under nine.
+    /// The desk of the numbers; none if they are under eleven.
     pub fn desk(&self) -> Option<Desk> {
-        let nine = self.numbers.get(..9)?;
-        Some(Desk::of_numbers(nine.try_into().expect("nine")))
+        let eleven = self.numbers.get(..PLACES)?;
+        Some(Desk::of_numbers(eleven.try_into().expect("eleven")))
     }
 
     /// The desk as a call left it.
     pub fn put(&mut self, desk: &Desk) {
-        self.numbers[..9].copy_from_slice(&desk.numbers());
+        self.numbers[..PLACES].copy_from_slice(&desk.numbers());
     }
 
     pub fn lend(&self) -> LentTable {
@@ -55,6 +67,22 @@ impl Table {
         }
     }
 
+    /// A frame of a sort for a sound desk as it stands; where it has none, any.
+    pub fn frame_of(&self, rng: &mut Rng, sort: Sort) -> Vec<u8> {
+        let of_sort = self.desk().and_then(|desk| {
+            frame_of(rng, &generate::Table { desk, live: self.live.clone(), run: self.run.clone() }, sort)
+        });
+        of_sort.unwrap_or_else(|| self.frame(rng))
+    }
+
+    /// A second for the desk as it stands.
+    pub fn second(&self, rng: &mut Rng) -> u64 {
+        match self.desk() {
+            Some(desk) => second_for(rng, &desk),
+            None => first_second(rng),
+        }
+    }
+
     /// An area ID: of the run's book, of the live book, or any.
     pub fn id(&self, rng: &mut Rng) -> u8 {
         let any = rng.below(256);
@@ -75,27 +103,43 @@ pub fn fresh(rng: &mut Rng, desk: &Desk) -> Table {
         numbers: desk.numbers().to_vec(),
         live: lent_bytes(rng, BOOK_BYTES + surplus),
         run: lent_bytes(rng, BOOK_BYTES + surplus),
+        past: Past::default(),
     }
+}
+
+/// A table of these.
+pub fn of(made: generate::Table) -> Table {
+    Table { numbers: made.desk.numbers().to_vec(), live: made.live, run: made.run, past: Past::default() }
 }
 
 /// A desk in the middle of its work, sound or not, with buffers of any size.
 pub fn any(rng: &mut Rng) -> Table {
     let made = if rng.one_in(3) { unsound_table(rng) } else { table(rng) };
-    let mut table = Table { numbers: made.desk.numbers().to_vec(), live: made.live, run: made.run };
-    if made.desk.live.count == 0 && rng.one_in(2) {
+    let desk = made.desk;
+    let mut table = of(made);
+    if desk.live.count == 0 && rng.one_in(2) {
         table.numbers[3] = wild(rng, 0);
     }
-    if made.desk.run.is_none() {
+    if desk.run.is_none() {
         for place in 6..9 {
             table.numbers[place] = rng.pick(&[0, 1, 33, 43200, u64::MAX]);
         }
     }
+    // with flag 0 the second does not count, and is not always 0
+    if desk.last == Last::Never && rng.one_in(2) {
+        table.numbers[10] = first_second(rng);
+    }
+    // a flag that says neither, cut to fewer bits it may be one that does
+    if desk.last == Last::Neither || rng.one_in(12) {
+        table.numbers[9] = rng.pick(&[2, 3, 255, 256, 257, 1 << 32, (1 << 32) + 1, 1 << 63, u64::MAX]);
+        table.numbers[10] = first_second(rng);
+    }
     if rng.one_in(4) {
-        let place = rng.below(9) as usize;
+        let place = rng.below(PLACES as u64) as usize;
         table.numbers[place] = wild(rng, table.numbers[place]);
     }
     match rng.below(20) {
-        0 => table.numbers.truncate(rng.pick(&[0, 3, 8])),
+        0 => table.numbers.truncate(rng.pick(&[0, 3, 8, 9, 10])),
         1 => table.live.truncate(rng.pick(&[0, 6, 191])),
         2 => table.run.truncate(rng.pick(&[0, 6, 191])),
         3 => table.numbers.push(rng.draw()),

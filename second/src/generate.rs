@@ -1138,7 +1138,7 @@ pub fn broken_entry(rng: &mut Rng) -> Vec<u8> {
 pub fn first_second(rng: &mut Rng) -> u64 {
     let (small, any) = (rng.below(2000), rng.draw());
     let near_end = u64::MAX - rng.below(1000);
-    rng.pick(&[0, 1, small, small, any, 1 << 63, u64::MAX - GAP, near_end, u64::MAX])
+    rng.pick(&[0, 1, small, small, small, small, any, any, 1 << 63, u64::MAX - GAP, near_end, u64::MAX])
 }
 
 /// A second less than 450 after another one: the same, beside it, just no gap, or earlier.
