@@ -103,17 +103,10 @@ mod tests {
 
     #[test]
     fn a_refused_frame_is_an_event_and_adds_no_entry() {
-        let hpac = |tag, payload: &[u8]| {
-            let parts =
-                Plain { type_: 1, check_type: 0, subtype: 0, tag_kind: 0, tag, solution: 5, processor: 11 };
-            assemble(&parts, None, payload, &[])
-        };
-        // SIOU 0, AIOU 3, reserved 0, one area: ID 5, SF039 0, SF040 0 and 0
-        let payload = [0b00000000, 0b00011000, 0b00000000, 0b10100000, 0];
         let mut input = vec![0xFF];
-        input.extend(hpac(43199, &payload));
-        input.extend(hpac(43200, &payload));
-        input.extend(hpac(43199, &payload));
+        for tag in [43199, 43200, 43199] {
+            input.extend(plain(1, tag, &HPAC));
+        }
         let (mut tray, mut live, mut run, mut log) =
             (vec![0; LONGEST_FRAME], vec![0; BOOK_BYTES], vec![0; BOOK_BYTES], vec![0; LOG_BYTES]);
         let mut lent = Lent { tray: &mut tray, live: &mut live, run: &mut run, log: &mut log };
@@ -157,6 +150,89 @@ mod tests {
             let expected = if short < 4 { Refusal::Room } else { Refusal::State };
             assert_eq!(call(&state, &mut lent, &[1], 0), Err(expected));
             assert_eq!(finish(&state, &mut lent, 0), Err(expected));
+        }
+    }
+    /// A desk of solution 5 with the tray empty and both books as found; the log of each frame told.
+    struct Line {
+        state: State,
+        buffers: [Vec<u8>; 4],
+    }
+
+    impl Line {
+        fn new() -> Line {
+            let sizes = [LONGEST_FRAME, BOOK_BYTES, BOOK_BYTES, LOG_BYTES];
+            Line { state: new(5, 11, 0).unwrap(), buffers: sizes.map(|size| vec![0; size]) }
+        }
+
+        /// All of a portion, or finish to done, at a second: the logs of the frames told, the noise.
+        fn at(&mut self, second: u64, portion: Option<&[u8]>) -> (Vec<Vec<u8>>, u64) {
+            let (mut logs, mut noise, mut used) = (Vec::new(), 0, 0);
+            loop {
+                let [tray, live, run, log] = &mut self.buffers;
+                let mut lent = Lent { tray, live, run, log };
+                let said = match portion {
+                    Some(portion) => call(&self.state, &mut lent, &portion[used..], second).unwrap(),
+                    None => finish(&self.state, &mut lent, second).unwrap(),
+                };
+                self.state = said.state;
+                used += said.used;
+                match said.event {
+                    Event::Hungry | Event::Done => return (logs, noise),
+                    Event::Noise { count } => noise += count,
+                    Event::Frame { answer, logged, .. } => {
+                        assert_eq!(answer, 0);
+                        logs.push(self.buffers[3][..logged].to_vec());
+                    }
+                }
+            }
+        }
+    }
+
+    fn plain(type_: u64, tag: u64, payload: &[u8]) -> Vec<u8> {
+        let parts = Plain { type_, check_type: 0, subtype: 0, tag_kind: 0, tag, solution: 5, processor: 11 };
+        assemble(&parts, None, payload, &[])
+    }
+
+    /// SIOU 0, AIOU 3, reserved 0, one area: ID 5, SF039 0, SF040 0 and 0
+    const HPAC: [u8; 5] = [0b00000000, 0b00011000, 0b00000000, 0b10100000, 0];
+    /// SIOU 0, AIOU 3, reserved 0, one area: ID 5, latitude 900, one node
+    const GAD: [u8; 9] = [0b00000000, 0b00011000, 0b00000000, 0b10101110, 0b00010000, 0, 0, 0, 0];
+
+    #[test]
+    fn a_second_counts_for_the_frame_that_its_call_tells() {
+        let next = plain(1, 7, &HPAC);
+        let (first, second) = next.split_at(9);
+        for (told_at, opened) in [(1449, [1, 7, 4, 1, 2]), (1450, [1, 7, 0, 0, 3])] {
+            let mut line = Line::new();
+            assert_eq!(line.at(1000, Some(&plain(2, 0, &GAD))), (vec![vec![]], 0));
+            // noise and the first half of a frame: no frame is told, so these seconds don't count
+            assert_eq!(line.at(u64::MAX, Some(&[0, 0, 0])), (vec![], 0));
+            assert_eq!(line.at(1100, Some(first)), (vec![], 0));
+            assert_eq!(line.at(u64::MAX, Some(&[])), (vec![], 0));
+            assert_eq!(line.state.desk.last, desk::Last::At(1000));
+            let (logs, noise) = line.at(told_at, Some(second));
+            assert_eq!((&logs[0][..5], noise), (&opened[..], 3));
+            assert_eq!(line.state.desk.last, desk::Last::At(told_at));
+        }
+    }
+
+    #[test]
+    fn the_second_of_finish_counts_for_the_frames_that_finish_tells() {
+        // two frames inside one that ends before its check does
+        let inner = [plain(1, 7, &HPAC), plain(1, 8, &HPAC)].concat();
+        let mut outer = plain(9, 0, &inner);
+        outer.pop();
+        for (finished_at, opened) in [(1449, [4, 1]), (1450, [0, 0])] {
+            let mut line = Line::new();
+            line.at(1000, Some(&plain(2, 0, &GAD)));
+            assert_eq!(line.at(1001, Some(&outer)), (vec![], 0));
+            assert_eq!(line.state.desk.last, desk::Last::At(1000));
+            let (logs, noise) = line.at(finished_at, None);
+            assert_eq!((logs.len(), noise), (2, (outer.len() - inner.len()) as u64));
+            assert_eq!(logs[0][..4], [&[1, 7], &opened[..]].concat());
+            // no time passes between the two, but the book is gone
+            assert_eq!(logs[1][..4], [&[1, 8], &opened[..]].concat());
+            assert_eq!(line.state.desk.last, desk::Last::At(finished_at));
         }
     }
 }
