@@ -71,7 +71,7 @@ pub const MARKS: [&str; 50] = [
 ];
 
 /// What the seconds were, and what a gap before a frame made of it; but for the first few there was a live book to empty.
-pub const SECONDS: [&str; 38] = [
+pub const SECONDS: [&str; 39] = [
     "second: 449 after the last",
     "second: 450 after the last",
     "second: 451 after the last",
@@ -87,6 +87,7 @@ pub const SECONDS: [&str; 38] = [
     "second: the same in two cuttings",
     "second: under 449 after the last",
     "second: within 450 of the end of u64",
+    "gap: 450 exactly, and a live book is emptied",
     "gap: GAD taken",
     "gap: GAD taken, it would have added to the old book",
     "gap: GAD taken, the old book alone against it",
@@ -338,6 +339,9 @@ pub fn second_given(judge: &mut Judge, before: &Table, frame: &[u8], second: u64
         }
         if second == u64::MAX {
             judge.mark("gap: to the end of u64");
+        }
+        if desk.last == Last::At(second - GAP) {
+            judge.mark("gap: 450 exactly, and a live book is emptied");
         }
     }
     Past { emptied: of_run && held, ..Past::default() }
