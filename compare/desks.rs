@@ -5,7 +5,7 @@ use crate::entries;
 use crate::judge::{hex, Input, Judge};
 use crate::lent;
 use crate::marks;
-use crate::tables::{self, LentTable, Table};
+use crate::tables::{self, LentTable, Past, Table};
 use homralgyu::raw;
 use second::answer::{number, Refusal};
 use second::book::BOOK_BYTES;
@@ -195,7 +195,7 @@ pub fn take_book(rng: &mut Rng, judge: &mut Judge, table: &mut Table) {
     judge.number(&input, answer, number(&result));
     if let Ok(desk) = result {
         table.put(&desk);
-        table.past.taken_in = true;
+        table.past = Past { taken_in: true, ..Past::default() };
     }
     same_table(judge, &input, &ours, table);
     judge.lent(&input, "the book's numbers", &our_book, &numbers);

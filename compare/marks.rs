@@ -70,8 +70,8 @@ pub const MARKS: [&str; 50] = [
     "view: yaw invalid",
 ];
 
-/// What the seconds were, and what a gap before a frame made of it; but for the first few there was a live book to empty.
-pub const SECONDS: [&str; 39] = [
+/// What the seconds were, and what a gap before a frame made of it: there was a live book to empty, unless it says otherwise.
+pub const SECONDS: [&str; 40] = [
     "second: 449 after the last",
     "second: 450 after the last",
     "second: 451 after the last",
@@ -102,6 +102,7 @@ pub const SECONDS: [&str; 39] = [
     "gap: a book taken in since the last frame",
     "gap: at finish",
     "gap: before another portion",
+    "gap: in another cutting",
     "gap: no live book to empty",
     "gap: refused by AREA_OFF, the old book by CONFLICT",
     "gap: refused, then no gap for the old book",
@@ -377,10 +378,10 @@ fn taken_without_gap(judge: &mut Judge, desk: &Desk, second: u64, past: Past, ty
     if type_ != 1 {
         return;
     }
-    if past.emptied && of_run && desk.run.is_some_and(|open| open.book.count > 0) {
+    if past.emptied && !held && of_run && desk.run.is_some_and(|open| open.book.count > 0) {
         judge.mark("no gap: the run goes on over an emptied live book");
     }
-    if past.emptied && !of_run {
+    if past.emptied && !held && !of_run {
         judge.mark("gap: HPAC of the open run, then a run without a book");
     }
     if let (Last::At(last), true, false) = (desk.last, held, of_run) {

@@ -140,15 +140,11 @@ fn step(
             judge.count("prepare, of a frame", answer);
             job.table.past = marks::second_given(judge, &old_table, &job.bytes, second, answer);
             let before = old_table.desk().expect("a desk that was shown a frame");
-            let gap = desk::gap(&before, second);
-            if answer == 0 && !gap {
+            if answer == 0 && !desk::gap(&before, second) {
                 marks::frame_taken(judge, &job.bytes, &before, &done.state.desk, &log[..logged]);
             }
             if portion.is_none() {
                 judge.mark("second: a frame told by finish");
-                if answer == 0 && gap && before.live.count > 0 {
-                    judge.mark("gap: at finish");
-                }
             }
             job.told.push((second, answer));
             job.log.extend_from_slice(&our_log.now()[..logged]);
@@ -189,7 +185,7 @@ pub fn whole(rng: &mut Rng, judge: &mut Judge) {
     }
     let mut input = joined(rng, &scene.frames);
     if rng.one_in(3) {
-        // the last frames lie in one that ends too soon, so finish tells them
+        // the last frame lies in one that ends too soon, so finish tells it
         let last = scene.frames.iter().rev().take(3).find(|frame| frame.len() <= 1000);
         input.extend(last.map_or(Vec::new(), |frame| unfinished(rng, frame)));
     }
@@ -280,9 +276,11 @@ fn prepare_cut(rng: &mut Rng, judge: &mut Judge, table: &Table, input: &[u8], se
             match went.event {
                 Event::Hungry | Event::Done => break,
                 Event::Frame { answer: 0, .. } if desk::gap(&before, second) && before.live.count > 0 => {
-                    if let (Seconds::OfPortions, Some(_)) = (&seconds, portion) {
-                        judge.mark("gap: before another portion");
-                    }
+                    judge.mark(match (&seconds, portion) {
+                        (Seconds::OfPortions, Some(_)) => "gap: before another portion",
+                        (Seconds::OfPortions, None) => "gap: at finish",
+                        (Seconds::OfFrames(_), _) => "gap: in another cutting",
+                    });
                 }
                 _ => {}
             }
