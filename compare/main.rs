@@ -46,7 +46,7 @@ const CASES: [(u64, Case); 26] = [
     (12, desks::gaps),
     (1, desks::full),
     (12, prepares::odd),
-    (10, prepares::whole),
+    (6, prepares::whole),
     (2, entries::small),
     (1, entries::large),
     (6, entries::odd),
