@@ -1,5 +1,5 @@
 -- Document 01, "Measured cases": one table against the definitions, with a single proof. Definitions to believe.
-use mathlib.Core.Path.{_≡_, refl, ap, sym, _∙_}
+use mathlib.Core.Path.{_≡_, refl, ap, ap₂, sym, _∙_}
 use mathlib.Core.Bool.{Bool, true, false}
 use mathlib.Core.List.{List, [], _∷_, _++_, map}
 use Prim.Native.Nat.{ℕ, _+_, _*_, _^_}
@@ -177,3 +177,11 @@ any-second second (runAfter frame) =
     ap opens (no-gap-run (hands first frame second book book log) refl ∙ first-run second frame ∙ sym (no-gap-run (hands first frame 0 book book log) refl))
 any-second second (logAfter frame) =
     ap bytes (no-gap-logged (hands first frame second book book log) refl ∙ first-logged second frame ∙ sym (no-gap-logged (hands first frame 0 book book log) refl))
+
+-- So the table holds at every second.
+pub hold-at-any-second : (second : ℕ) → map (λ (c : Case). said second (c .asked)) measured ≡ map (λ (c : Case). c .answer) measured
+hold-at-any-second second = go measured ∙ measured-hold
+  where
+    go : (cases : List Case) → map (λ (c : Case). said second (c .asked)) cases ≡ map (λ (c : Case). said 0 (c .asked)) cases
+    go [] = refl
+    go (c ∷ cases) = ap₂ (λ x xs. x ∷ xs) (any-second second (c .asked)) (go cases)

@@ -35,7 +35,7 @@ abbrev with-other : Desk → Book → Last → Desk
 with-other desk book last = dated (deskWith desk book (desk .run)) last
 
 module _ (runBook : Book) (message : Hpac) where
-  past : (b : Bool) (why : Refusal) (rest : Verdict) → stop b (refused why) rest ≡ continues runBook message → (b ≡ false) × (rest ≡ continues runBook message)
+  pub past : (b : Bool) (why : Refusal) (rest : Verdict) → stop b (refused why) rest ≡ continues runBook message → (b ≡ false) × (rest ≡ continues runBook message)
   past true why rest e = let z : _≡_ {A = ℕ} 0 1 = cc in absurd (omega arith)
   past false why rest e = (refl, e)
 
@@ -67,7 +67,7 @@ module _ (runBook : Book) (message : Hpac) where
         ∙ ap (λ b. stop b (refused refusal.Sealed) (byPayload (with-other desk book last) bytes header payload o)) (q .0)
         ∙ on-payload header payload o (q .1)
 
-    on-frame : (frame : List ℕ) (c : Checked) → byFrame desk live c frame ≡ continues runBook message → byFrame (with-other desk book last) bytes c frame ≡ continues runBook message
+    pub on-frame : (frame : List ℕ) (c : Checked) → byFrame desk live c frame ≡ continues runBook message → byFrame (with-other desk book last) bytes c frame ≡ continues runBook message
     on-frame frame (check.Accepted header) e = on-header header (payloadIn header frame) e
     on-frame frame (check.Short wanted) e = let z : _≡_ {A = ℕ} 0 1 = cc in absurd (omega arith)
     on-frame frame (check.Refused why) e = let z : _≡_ {A = ℕ} 0 1 = cc in absurd (omega arith)

@@ -1,30 +1,33 @@
 -- Theorems of document 02, request 1, "Old grid after a radio gap": what a gap changes, and that without one all is as document 01 lays down. Proved; assumes nothing.
-use mathlib.Core.Path.{_≡_, refl, ap, sym, _∙_, subst}
+use mathlib.Core.Path.{_≡_, refl, ap, ap₂, sym, _∙_, subst}
 use mathlib.Core.Bool.{Bool, true, false, cond, not, true≢false}
-use mathlib.Core.List.{List, [], _∷_}
-use Prim.Native.Nat.{ℕ, _+_, _≤_}
+use mathlib.Core.List.{List, [], _∷_, _++_}
+use Prim.Native.Nat.{ℕ, _+_, _-_, _≤_}
 use native.Mathlib.Omega.{arith}
-use lib.Dec.{ltb}
+use lib.Dec.{leb, ltb}
 use lib.ListN.{length}
-use borrow.Author.Tests.{ltb-false, le-ltb, ne-eqb}
+use borrow.Author.Tests.{ltb-false, le-ltb, ne-eqb, le-leb, lt-leb}
 use Rattle.sizes.specs.Sizes.{bookBytes}
 use Rattle.answer.specs.Stop.{stop}
 use Rattle.answer.specs.declared.Refusal.{Refusal}
 use Rattle.answer.specs.declared.Refusal.the-variants as refusal
 use Rattle.layout.specs.Layout as layout
-use Rattle.frame.specs.Check.{checked}
-use Rattle.hpac.specs.Hpac.{Hpac}
+use Rattle.frame.specs.Check.{checked, payloadIn}
+use Rattle.frame.specs.declared.Frame.{Frame}
+use Rattle.frame.specs.declared.Checked.the-variants as check
+use Rattle.hpac.specs.Hpac.{Area, Hpac}
 use Rattle.gad.specs.Gad.{Gad}
-use Rattle.message.specs.Messages.{gadMessage}
+use Rattle.message.specs.Messages.{Message, gadMessage}
 use Rattle.sheet.specs.Sheet.{judging}
 use Rattle.groups.specs.Groups.{groupsOfAll}
+use Rattle.log.specs.Log.{opened, reasonFor, reasonOf, logOf}
 use Rattle.book.specs.Book.{noBook, areasIn}
-use Rattle.book.specs.Take.{areasOf, takeAll, before, outcome}
+use Rattle.book.specs.Take.{Outcome, reading, areasOf, takeAll, before, outcome, answerOf, leftBy}
 use Rattle.book.specs.declared.Book.{Book}
 use Rattle.desk.specs.Desk.{deskWith, deskSound}
-use Rattle.desk.specs.Take.{Handed, hands, Verdict, refused, defines, continues, opens, byFrame, counted, isGap, handling, noRoom, verdict, takenBy, liveBy, runBytesBy, loggedBy, logBy, saidBy, dated, accepting, leaving, leavingBy, Result, results, resultBy, settledBy, frameTaken, BookHanded, bookVerdict, bookTaken, deskBy}
-use Rattle.desk.specs.Steps.{settled}
-use Rattle.desk.specs.Fits.{empty-sound, handling-sound}
+use Rattle.desk.specs.Take.{Handed, hands, Verdict, refused, defines, continues, opens, byBook, byPayload, ours, isSealed, byHeader, byFrame, outage, counted, isGap, handling, noRoom, verdict, takenBy, liveBy, runBytesBy, loggedBy, logBy, saidBy, deskBy, dated, accepting, leaving, leavingBy, Result, results, resultBy, settledBy, frameTaken, settledAs, settled, withSecond, BookHanded, bookTaken}
+use Rattle.desk.specs.Fits.{empty-sound, handling-sound, has-room}
+use Rattle.desk.specs.Continues.{past, on-frame}
 use Rattle.desk.specs.History.{Held, Given, frameWith, keptBook, verdictOn, handled, after, Course, onward, along}
 use Rattle.desk.specs.declared.Desk.{Desk}
 use Rattle.desk.specs.declared.Last.{Last}
@@ -32,6 +35,7 @@ use Rattle.desk.specs.declared.Last.the-variants.{Never, At}
 use Rattle.desk.specs.declared.Run.the-variants.{Open}
 use Rattle.desk.specs.declared.Said.{Said}
 use Rattle.desk.specs.declared.Said.the-variants as said
+use Rattle.desk.specs.declared.Taken.{Taken}
 
 -- ---- what is left is what the desk that handled the frame leaves, with the second; or all as lent
 
@@ -56,11 +60,7 @@ module _ (desk : Desk) (second : ℕ) (live run log : List ℕ) where
   same-log (continues book message) = refl
   same-log (opens tag message) = refl
 
-  -- what another desk leaves, with the second of an accepted frame kept, and the desk as lent beside a refusal
-  abbrev pub withSecond : Result → Result
-  withSecond left = results (settled desk second (left .answer)) (left .live) (left .run) (left .log)
-
-  pub settled-is : (v : Verdict) → withSecond (resultBy (handling desk second) live run log v) ≡ settledBy desk second live run log v
+  pub settled-is : (v : Verdict) → withSecond desk second (resultBy (handling desk second) live run log v) ≡ settledBy desk second live run log v
   settled-is v = λ i. results (settles v i) (liveBy live v) (same-run v i) (same-log v i)
 
 -- ---- without a gap, and before the first accepted frame, all is as it was: document 01's definitions, which have no second, are the special case
@@ -90,13 +90,13 @@ module _ (handed : Handed) (e : isGap (handed .desk .last) (handed .second) ≡ 
       (byFrame d (handed .live) (checked (handed .frame)) (handed .frame)))) (handles-same (handed .desk) (handed .second) e)
 
   -- The answer, every lent byte and the desk are those of document 01; the desk keeps the second beside them if the frame is accepted.
-  pub no-gap : frameTaken handed ≡ withSecond (handed .desk) (handed .second) (handed .live) (handed .run) (handed .log) (plainTaken handed)
+  pub no-gap : frameTaken handed ≡ withSecond (handed .desk) (handed .second) (plainTaken handed)
   unfolding frameTaken plainTaken
   no-gap =
       sym (settled-is (handed .desk) (handed .second) (handed .live) (handed .run) (handed .log) (verdict handed))
-      ∙ ap (λ d. withSecond (handed .desk) (handed .second) (handed .live) (handed .run) (handed .log) (resultBy d (handed .live) (handed .run) (handed .log) (verdict handed)))
+      ∙ ap (λ d. withSecond (handed .desk) (handed .second) (resultBy d (handed .live) (handed .run) (handed .log) (verdict handed)))
       (handles-same (handed .desk) (handed .second) e)
-      ∙ ap (λ v. withSecond (handed .desk) (handed .second) (handed .live) (handed .run) (handed .log) (resultBy (handed .desk) (handed .live) (handed .run) (handed .log) v)) no-gap-verdict
+      ∙ ap (λ v. withSecond (handed .desk) (handed .second) (resultBy (handed .desk) (handed .live) (handed .run) (handed .log) v)) no-gap-verdict
 
   by-same : accepting (handed .desk) (handed .second) .book ≡ handed .desk .book
   by-same = ap (λ d. d .book) (handles-same (handed .desk) (handed .second) e)
@@ -140,6 +140,22 @@ module _ (handed : Handed) where
 
 -- ---- after a gap, for a sound desk: "judged and handled with an empty live book"
 
+-- A GAD over no book begins with no area: what it leaves are its own blocks' areas.
+pub from-none : (live payload : List ℕ) → bookBytes ≤ length live → (message : Gad) (codes : List ℕ) (bits : ℕ)
+    → judging 2 0 payload ≡ layout.accepted (gadMessage message) codes bits
+    → outcome noBook live payload ≡ takeAll (areasOf (message .blocks)) []
+unfolding outcome before
+from-none live payload h message codes bits q =
+    rw (le-ltb (length live) bookBytes h, empty-sound live h, q)
+    (ap (λ b. takeAll (areasOf (message .blocks)) (cond b (areasIn 0 live) [])) (ne-eqb 0 (message .aiou + 1) (λ z. omega arith)))
+
+settled-said : (desk : Desk) (second : ℕ) (answer : Taken) → settled desk second answer .said ≡ answer .said
+settled-said desk second answer = go (answer .said)
+  where
+    go : (s : Said) → settledAs desk second s (answer .desk) .said ≡ s
+    go (said.Accepted log) = refl
+    go (said.Refused why) = refl
+
 module _ (handed : Handed) (w : deskSound (handed .desk) (handed .live) (handed .run) ≡ true) (e : isGap (handed .desk .last) (handed .second) ≡ true) where
   -- the same desk with an empty live book
   abbrev pub emptied : Desk
@@ -151,75 +167,43 @@ module _ (handed : Handed) (w : deskSound (handed .desk) (handed .live) (handed 
   handles-empty : handling (handed .desk) (handed .second) ≡ emptied
   handles-empty = ap (λ b. deskWith (handed .desk) (cond b noBook (handed .desk .book)) (handed .desk .run)) e
 
-  empty-handles : handling emptied (handed .second) ≡ emptied
-  empty-handles = ap (λ b. deskWith (handed .desk) (cond b noBook noBook) (handed .desk .run)) e
-
   empty-is-sound : deskSound emptied (handed .live) (handed .run) ≡ true
   empty-is-sound =
       subst (λ d. deskSound d (handed .live) (handed .run) ≡ true) handles-empty (handling-sound (handed .desk) (handed .second) (handed .live) (handed .run) w)
 
-  pub gap-verdict : verdict handed ≡ verdict fromEmpty
-  unfolding verdict
+  -- The verdict is document 01's of the same desk with an empty live book ..
+  pub gap-verdict : verdict handed ≡ plainVerdict fromEmpty
+  unfolding verdict plainVerdict
   gap-verdict =
       rw (w, empty-is-sound)
       (ap (λ d. stop (noRoom (handed .live) (handed .run) (handed .log)) (refused refusal.Room) (byFrame d (handed .live) (checked (handed .frame)) (handed .frame)))
-      (handles-empty ∙ sym empty-handles))
+      handles-empty)
 
-  accepts-same : accepting (handed .desk) (handed .second) ≡ accepting emptied (handed .second)
-  accepts-same = ap (λ d. dated d (At (counted (handed .desk .last) (handed .second)))) (handles-empty ∙ sym empty-handles)
+  -- .. and so is all that is answered and left, refusals included; the second is kept if the frame is accepted, and beside a refusal the desk is as lent.
+  pub gap : frameTaken handed ≡ withSecond (handed .desk) (handed .second) (plainTaken fromEmpty)
+  unfolding frameTaken plainTaken
+  gap =
+      sym (settled-is (handed .desk) (handed .second) (handed .live) (handed .run) (handed .log) (verdict handed))
+      ∙ ap (λ d. withSecond (handed .desk) (handed .second) (resultBy d (handed .live) (handed .run) (handed .log) (verdict handed))) handles-empty
+      ∙ ap (λ v. withSecond (handed .desk) (handed .second) (resultBy emptied (handed .live) (handed .run) (handed .log) v)) gap-verdict
 
-  -- what is said and what is logged do not depend on the rest of what is left
-  said-same : (v : Verdict) → saidBy v (length (loggedBy (leaving (handed .desk) (handed .second) v) (handed .live) (handed .run) v))
-      ≡ saidBy v (length (loggedBy (leaving emptied (handed .second) v) (handed .live) (handed .run) v))
-  said-same (refused why) = refl
-  said-same (defines book bytes) = ap (λ d. saidBy (defines book bytes) (length (loggedBy d (handed .live) (handed .run) (defines book bytes)))) accepts-same
-  said-same (continues book message) = ap (λ d. saidBy (continues book message) (length (loggedBy d (handed .live) (handed .run) (continues book message)))) accepts-same
-  said-same (opens tag message) = ap (λ d. saidBy (opens tag message) (length (loggedBy d (handed .live) (handed .run) (opens tag message)))) accepts-same
+  -- So number and log are those of that desk,
+  pub gap-said : frameTaken handed .answer .said ≡ plainTaken fromEmpty .answer .said
+  gap-said = ap (λ x. x .answer .said) gap ∙ settled-said (handed .desk) (handed .second) (plainTaken fromEmpty .answer)
 
-  log-same : (v : Verdict) → logBy (leaving (handed .desk) (handed .second) v) (handed .live) (handed .run) (handed .log) v
-      ≡ logBy (leaving emptied (handed .second) v) (handed .live) (handed .run) (handed .log) v
-  unfolding loggedBy
-  log-same (refused why) = refl
-  log-same (defines book bytes) = refl
-  log-same (continues book message) = refl
-  log-same (opens tag message) = ap (λ d. logBy d (handed .live) (handed .run) (handed .log) (opens tag message)) accepts-same
+  pub gap-log : frameTaken handed .log ≡ plainTaken fromEmpty .log
+  gap-log = ap (λ x. x .log) gap
 
-  -- Number and log are those of the same desk with an empty live book, refusals included ..
-  pub gap-said : frameTaken handed .answer .said ≡ frameTaken fromEmpty .answer .said
-  unfolding frameTaken
-  gap-said =
-      said-same (verdict handed)
-      ∙ ap (λ v. saidBy v (length (loggedBy (leaving emptied (handed .second) v) (handed .live) (handed .run) v))) gap-verdict
-
-  pub gap-log : frameTaken handed .log ≡ frameTaken fromEmpty .log
-  unfolding frameTaken
-  gap-log = log-same (verdict handed) ∙ ap (λ v. logBy (leaving emptied (handed .second) v) (handed .live) (handed .run) (handed .log) v) gap-verdict
-
-  -- .. and so is all that is left, if it is accepted. (If it is refused all is as lent: `all-as-lent`.)
-  pub gap-accepted : (n : ℕ) → frameTaken handed .answer .said ≡ said.Accepted n → frameTaken handed ≡ frameTaken fromEmpty
-  unfolding frameTaken
+  -- and what is left is what that desk leaves, with the second, if the frame is accepted. (If it is refused all is as lent: `all-as-lent`.)
+  pub gap-accepted : (n : ℕ) → plainTaken fromEmpty .answer .said ≡ said.Accepted n
+      → frameTaken handed
+      ≡ results (record { said = said.Accepted n; desk = dated (plainTaken fromEmpty .answer .desk) (At (counted (handed .desk .last) (handed .second))) })
+      (plainTaken fromEmpty .live) (plainTaken fromEmpty .run) (plainTaken fromEmpty .log)
   gap-accepted n a =
-      go (verdict handed) (length (loggedBy (leavingBy handed) (handed .live) (handed .run) (verdict handed))) a
-      ∙ ap (settledBy emptied (handed .second) (handed .live) (handed .run) (handed .log)) gap-verdict
-    where
-      go : (v : Verdict) (m : ℕ) → saidBy v m ≡ said.Accepted n
-          → settledBy (handed .desk) (handed .second) (handed .live) (handed .run) (handed .log) v ≡ settledBy emptied (handed .second) (handed .live) (handed .run) (handed .log) v
-      go (refused why) m a = let z : _≡_ {A = ℕ} 0 1 = cc in absurd (omega arith)
-      go (defines book bytes) m a = ap (λ d. resultBy d (handed .live) (handed .run) (handed .log) (defines book bytes)) accepts-same
-      go (continues book message) m a = ap (λ d. resultBy d (handed .live) (handed .run) (handed .log) (continues book message)) accepts-same
-      go (opens tag message) m a = ap (λ d. resultBy d (handed .live) (handed .run) (handed .log) (opens tag message)) accepts-same
+      gap
+      ∙ ap (λ s. results (settledAs (handed .desk) (handed .second) s (plainTaken fromEmpty .answer .desk)) (plainTaken fromEmpty .live) (plainTaken fromEmpty .run) (plainTaken fromEmpty .log)) a
 
   -- ---- what that is
-
-  -- A GAD leaves its own areas and no others: they are taken from no area on (`from-none`).
-  pub gap-defines : (book : Book) (bytes : List ℕ) → verdict handed ≡ defines book bytes
-      → (frameTaken handed .answer .desk .book ≡ book) × (frameTaken handed .live ≡ bytes)
-      × (frameTaken handed .answer .desk .run ≡ handed .desk .run) × (frameTaken handed .run ≡ handed .run)
-  unfolding frameTaken
-  gap-defines book bytes q =
-      let s : frameTaken handed ≡ settledBy (handed .desk) (handed .second) (handed .live) (handed .run) (handed .log) (defines book bytes)
-      = ap (settledBy (handed .desk) (handed .second) (handed .live) (handed .run) (handed .log)) q in
-      (ap (λ x. x .answer .desk .book) s, ap (λ x. x .live) s, ap (λ x. x .answer .desk .run) s, ap (λ x. x .run) s)
 
   -- An HPAC message of the open run leaves no live book, and the run with its copy. No byte of a book is written.
   pub gap-continues : (book : Book) (message : Hpac) → verdict handed ≡ continues book message
@@ -243,14 +227,69 @@ module _ (handed : Handed) (w : deskSound (handed .desk) (handed .live) (handed 
       (ap (λ x. x .answer .desk .book) s ∙ b, ap (λ x. x .live) s, ap (λ x. x .answer .desk .run) s ∙ ap (Open tag) b,
       ap (λ x. x .run) s ∙ ap (λ d. runBytesBy d (handed .live) (handed .run) (opens tag message)) handles-empty)
 
--- A GAD over no book begins with no area: what it leaves are its own blocks' areas, and no area of an old book can conflict with them.
-pub from-none : (live payload : List ℕ) → bookBytes ≤ length live → (message : Gad) (codes : List ℕ) (bits : ℕ)
-    → judging 2 0 payload ≡ layout.accepted (gadMessage message) codes bits
-    → outcome noBook live payload ≡ takeAll (areasOf (message .blocks)) []
-unfolding outcome before
-from-none live payload h message codes bits q =
-    rw (le-ltb (length live) bookBytes h, empty-sound live h, q)
-    (ap (λ b. takeAll (areasOf (message .blocks)) (cond b (areasIn 0 live) [])) (ne-eqb 0 (message .aiou + 1) (λ z. omega arith)))
+  -- Its log begins with a run on no book, "1, tag, 0, 0"; every area of it is left out for reason 1 (`no-book-reason`).
+  pub gap-opens-log : (tag : ℕ) (message : Hpac) → verdict handed ≡ opens tag message
+      → loggedBy (leavingBy handed) (handed .live) (handed .run) (verdict handed) ≡ groupsOfAll (opened tag noBook ++ logOf noBook (handed .run) message)
+  unfolding loggedBy
+  gap-opens-log tag message q =
+      ap (λ v. loggedBy (leaving (handed .desk) (handed .second) v) (handed .live) (handed .run) v) q
+      ∙ ap (λ d. loggedBy d (handed .live) (handed .run) (opens tag message)) handles-empty
+
+  -- A GAD of ours, plain, leaves the book of its own areas, taken from no area on: no area of an old book can conflict with them, and only bytes of its areas are written.
+  module _ (room : noRoom (handed .live) (handed .run) (handed .log) ≡ false) (header : Frame) (c : checked (handed .frame) ≡ check.Accepted header)
+      (o : ours (handed .desk) header ≡ true) (p : isSealed (header .seal) ≡ false) (k : header .«message_type» ≡ 2) (z : header .subtype ≡ 0)
+      (message : Gad) (codes : List ℕ) (bits : ℕ) (r : judging 2 0 (payloadIn header (handed .frame)) ≡ layout.accepted (gadMessage message) codes bits) where
+    abbrev fromNone : Outcome
+    fromNone = takeAll (areasOf (message .blocks)) []
+
+    abbrev payload : List ℕ
+    payload = payloadIn header (handed .frame)
+
+    judged : byFrame emptied (handed .live) (checked (handed .frame)) (handed .frame) ≡ byPayload emptied (handed .live) header payload (judging 2 0 payload)
+    unfolding byHeader
+    judged =
+        let rest : layout.Outcome Message → Verdict = λ x. byPayload emptied (handed .live) header payload x in
+        ap (λ x. byFrame emptied (handed .live) x (handed .frame)) c
+        ∙ ap (λ b. stop (not b) (refused refusal.NotOurs) (stop (isSealed (header .seal)) (refused refusal.Sealed) (rest (judging (header .«message_type») (header .subtype) payload)))) o
+        ∙ ap (λ b. stop b (refused refusal.Sealed) (rest (judging (header .«message_type») (header .subtype) payload))) p
+        ∙ ap₂ (λ x y. rest (judging x y payload)) k z
+
+    pub gap-gad : verdict handed ≡ byBook (answerOf fromNone (message .aiou)) (leftBy fromNone (handed .live))
+    unfolding plainVerdict
+    gap-gad =
+        let h : bookBytes ≤ length (handed .live) = has-room (handed .live) (handed .run) (handed .log) room .live-room in
+        let n : outcome noBook (handed .live) payload ≡ fromNone = from-none (handed .live) payload h message codes bits r in
+        gap-verdict
+        ∙ ap₂ (λ a b. stop a (refused refusal.Room) (stop (not b) (refused refusal.State) (byFrame emptied (handed .live) (checked (handed .frame)) (handed .frame)))) room empty-is-sound
+        ∙ judged
+        ∙ ap (byPayload emptied (handed .live) header payload) r
+        ∙ ap₂ (λ x y. byBook (answerOf x (reading y (λ m. m .aiou) (λ why. 0))) (leftBy x (handed .live))) n r
+
+-- A message of the open run is one after a gap as without: told by the run's copy.
+pub still-the-run : (handed : Handed) (book : Book) (message : Hpac) → plainVerdict handed ≡ continues book message → verdict handed ≡ continues book message
+unfolding verdict plainVerdict
+still-the-run handed book message q =
+    let rest : Verdict = byFrame (handed .desk) (handed .live) (checked (handed .frame)) (handed .frame) in
+    let a = past book message (noRoom (handed .live) (handed .run) (handed .log)) refusal.Room (stop (not (deskSound (handed .desk) (handed .live) (handed .run))) (refused refusal.State) rest) q in
+    let b = past book message (not (deskSound (handed .desk) (handed .live) (handed .run))) refusal.State rest (a .1) in
+    rw (a .0, b .0)
+    (on-frame book message (handed .desk) (handed .live) (handling (handed .desk) (handed .second) .book) (handed .live) (handed .desk .last) (handed .frame) (checked (handed .frame)) (b .1))
+
+-- Where there is no book every area is left out for reason 1.
+pub no-book-reason : (bytes : List ℕ) (aiou : ℕ) (area : Area) → reasonOf noBook bytes aiou area ≡ 1
+unfolding reasonFor
+no-book-reason bytes aiou area = refl
+
+-- "449 is no gap, 450 is"
+pub no-gap-449 : (second : ℕ) → isGap (At second) (second + 449) ≡ false
+unfolding isGap
+no-gap-449 second =
+    ap (λ b. leb outage (cond b second (second + 449) - second)) (le-ltb (second + 449) second (omega arith)) ∙ lt-leb outage (second + 449 - second) (omega arith)
+
+pub gap-450 : (second : ℕ) → isGap (At second) (second + 450) ≡ true
+unfolding isGap
+gap-450 second =
+    ap (λ b. leb outage (cond b second (second + 450) - second)) (le-ltb (second + 450) second (omega arith)) ∙ le-leb outage (second + 450 - second) (omega arith)
 
 -- ---- the kept second never falls
 

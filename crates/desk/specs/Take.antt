@@ -232,11 +232,12 @@ abbrev pub resultBy : Desk → (live run log : List ℕ) → Verdict → Result
 resultBy desk live run log v =
     results (takenBy desk live run v) (liveBy live v) (runBytesBy desk live run v) (logBy desk live run log v)
 
--- the desk that handled a frame which it takes, with the second of this frame, as it counts, for the last accepted one's
+-- the same desk with another second of the last accepted frame
 abbrev pub dated : Desk → Last → Desk
 dated desk last =
     record { solution = desk .solution; processor = desk .processor; constellation = desk .constellation; book = desk .book; run = desk .run; last = last }
 
+-- the desk that handled a frame which it takes, with this frame's second, as it counts, for the last accepted one's
 abbrev pub accepting : Desk → (second : ℕ) → Desk
 accepting desk second = dated (handling desk second) (At (counted (desk .last) second))
 
@@ -250,11 +251,23 @@ leaving desk second (opens tag message) = accepting desk second
 abbrev pub leavingBy : Handed → Desk
 leavingBy handed = leaving (handed .desk) (handed .second) (verdict handed)
 
+-- what a verdict leaves so, and what `take` leaves
 abbrev pub settledBy : Desk → (second : ℕ) → (live run log : List ℕ) → Verdict → Result
 settledBy desk second live run log v = resultBy (leaving desk second v) live run log v
 
 unfoldable pub frameTaken : Handed → Result
 frameTaken handed = settledBy (handed .desk) (handed .second) (handed .live) (handed .run) (handed .log) (verdict handed)
+
+-- the same of what another desk answered and left of the frame: its second is kept if it was taken; beside a refusal the desk is as lent
+abbrev pub settledAs : Desk → (second : ℕ) → Said → (left : Desk) → Taken
+settledAs desk second (said.Accepted log) left = record { said = said.Accepted log; desk = dated left (At (counted (desk .last) second)) }
+settledAs desk second (said.Refused why) left = record { said = said.Refused why; desk = desk }
+
+abbrev pub settled : Desk → (second : ℕ) → Taken → Taken
+settled desk second answer = settledAs desk second (answer .said) (answer .desk)
+
+abbrev pub withSecond : Desk → (second : ℕ) → Result → Result
+withSecond desk second left = results (settled desk second (left .answer)) (left .live) (left .run) (left .log)
 
 -- the answer's number in document 01
 abbrev pub numberOfSaid : Said → ℕ

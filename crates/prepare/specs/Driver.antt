@@ -3,7 +3,7 @@
 use mathlib.Core.Path.{_≡_}
 use mathlib.Core.Bool.{true}
 use mathlib.Core.List.{List, [], _∷_}
-use Prim.Native.Nat.{ℕ, zero, suc, _≤_}
+use Prim.Native.Nat.{ℕ, suc, _≤_}
 use lib.ListN.{length, take, drop}
 use Rattle.stream.specs.declared.Tray.{Tray}
 use Rattle.stream.specs.Tray.{freshTray, bytesOf}
@@ -91,20 +91,6 @@ laterBy (noise count) seconds = seconds
 unfoldable pub laterAll : List Told → Seconds → Seconds
 laterAll [] seconds = seconds
 laterAll (told ∷ rest) seconds = laterAll rest (laterBy told seconds)
-
--- a second before those of the frames behind, for a frame that is told with it; and for all that is told with one second
-abbrev pub first : (second : ℕ) → Seconds → Seconds
-first second behind zero = second
-first second behind (suc i) = behind i
-
-abbrev pub earlier : Told → (second : ℕ) → Seconds → Seconds
-earlier (accepted header bytes entries) second behind = first second behind
-earlier (refused header bytes why) second behind = first second behind
-earlier (noise count) second behind = behind
-
-unfoldable pub datedBy : (second : ℕ) → List Told → (behind : Seconds) → Seconds
-datedBy second [] behind = behind
-datedBy second (told ∷ rest) behind = earlier told second (datedBy second rest behind)
 
 -- `Feeds caller seconds s portions told s₁`: the calls on the portions tell this, each frame at its second, and leave that state; as the stream's
 pub data Feeds (c : Caller) : Seconds → State → List (List ℕ) → List Told → State → Type 0 where

@@ -18,8 +18,8 @@ use Rattle.desk.specs.History.{Held}
 use Rattle.prepare.specs.declared.Said.the-variants as said
 use Rattle.prepare.specs.Uncut.{Told, accepted, refused, noise as told-noise, verdictOn, handledOn, toldBy, toldOf, booksAfter, Seconds, later, toldAll, booksAll, entriesOf, runLog}
 use Rattle.prepare.specs.Prepare.{Handed, callOutcome, finishOutcome, booksOf, logOf}
-use Rattle.prepare.specs.Driver.{State, Sound, Lent, lent, callSays, callLeaves, callLogs, finishSays, finishLeaves, finishLogs, InTime, laterBy, laterAll, earlier, Feeds, Closes, start, Whole}
-use Rattle.prepare.specs.Lender.{Point, point, Lender, LendsRoom, callAnswers, CallTells, called, FinishTells, finished, FeedsBy, ClosesBy, WholeBy}
+use Rattle.prepare.specs.Driver.{State, Sound, Lent, lent, callSays, callLeaves, callLogs, finishSays, finishLeaves, finishLogs, InTime, laterBy, laterAll, Feeds, Closes, start, Whole}
+use Rattle.prepare.specs.Lender.{Point, point, Lender, LendsRoom, callAnswers, CallTells, called, FinishTells, finished, FeedsBy, ClosesBy, WholeBy, toldThen, secondsFed, secondsClosed, secondsBy}
 use Rattle.prepare.specs.Steps.{guarded-is, forth, back, is-told, tells-so, is-hungry, is-done, hungry-is, done-is}
 use Rattle.prepare.specs.Stays.{sound-after}
 
@@ -294,92 +294,131 @@ module _ (lends : Lender) (rooms : LendsRoom lends) where
       let ends : List ℕ → Tray → ℕ → Held → Type 0 = λ b t u m. ClosesBy lends (point before s left) [] (point before (at b t m) (finishLogs s given)) in
       record { told = []; before₁ = before; books₁ = n; left₁ = finishLogs s given; closes = end-forth s given r h ends (ClosesBy.is-done (w .0)) }
 
--- ---- such calls are calls of `Feeds` and `Closes`, for some seconds: each is lent a log that has room, and each frame is told at the second that its call was handed
+-- ---- such calls are calls of `Feeds` and `Closes`, at the seconds that they were handed: each is lent a log that has room
 
-pub earlier-time : (t : Told) (second : ℕ) (seconds : Seconds) → InTime t second (earlier t second seconds)
-earlier-time (accepted header bytes entries) second seconds = refl
-earlier-time (refused header bytes why) second seconds = refl
-earlier-time (told-noise count) second seconds = tt
+pub then-time : (t : Told) (second : ℕ) (behind : Seconds) → InTime t second (toldThen t second behind)
+then-time (accepted header bytes entries) second behind = refl
+then-time (refused header bytes why) second behind = refl
+then-time (told-noise count) second behind = tt
 
-pub earlier-later : (t : Told) (second : ℕ) (seconds : Seconds) → laterBy t (earlier t second seconds) ≡ seconds
-earlier-later (accepted header bytes entries) second seconds = refl
-earlier-later (refused header bytes why) second seconds = refl
-earlier-later (told-noise count) second seconds = refl
-
-record FedAny (c : Caller) (x x₁ : Point) (ps : List (List ℕ)) (ts : List Told) (rest : Seconds) : Type 0 where
-  seconds : Seconds
-  feeds : Feeds c seconds (x .state) ps ts (x₁ .state)
-  behind : laterAll ts seconds ≡ rest
-
-record ClosedAny (x x₁ : Point) (ts : List Told) : Type 0 where
-  seconds : Seconds
-  closes : Closes seconds (x .state) ts (x₁ .state)
-
--- the same calls as a whole stream of Driver.antt, at some seconds
-pub record Timed {c : Caller} {lends : Lender} {bytes log : List ℕ} {books : Held} {portions : List (List ℕ)} (w : WholeBy c lends bytes books log portions) : Type 0 where
-  pub seconds : Seconds
-  pub whole : Whole c seconds bytes books portions
-  pub same-before : whole .before ≡ w .before
-  pub same-after : whole .after ≡ w .after
-  pub same-end : whole .end ≡ w .end .state
+pub then-later : (t : Told) (second : ℕ) (behind : Seconds) → laterBy t (toldThen t second behind) ≡ behind
+then-later (accepted header bytes entries) second behind = refl
+then-later (refused header bytes why) second behind = refl
+then-later (told-noise count) second behind = refl
 
 module _ (lends : Lender) (rooms : LendsRoom lends) where
-  pub feeds-room : {c : Caller} {x x₁ : Point} {ps : List (List ℕ)} {ts : List Told} → FeedsBy c lends x ps ts x₁ → logRoom ≤ length (x .left) → logRoom ≤ length (x₁ .left)
+  feeds-room : {c : Caller} {x x₁ : Point} {ps : List (List ℕ)} {ts : List Told} → FeedsBy c lends x ps ts x₁ → logRoom ≤ length (x .left) → logRoom ≤ length (x₁ .left)
   feeds-room FeedsBy.no-more h = h
   feeds-room (FeedsBy.an-event {x} {p = p} k f) h = let l = lent (x .state) (lends x) in feeds-room f (logs-room l (callOutcome l p) (rooms x h))
   feeds-room (FeedsBy.all-used {x} {p = p} k f) h = let l = lent (x .state) (lends x) in feeds-room f (logs-room l (callOutcome l p) (rooms x h))
   feeds-room (FeedsBy.passed-over g f) h = feeds-room f h
 
-  feeds-any : {c : Caller} {x x₁ : Point} {ps : List (List ℕ)} {ts : List Told} → FeedsBy c lends x ps ts x₁ → logRoom ≤ length (x .left) → (rest : Seconds) → FedAny c x x₁ ps ts rest
-  unfolding laterAll
-  feeds-any FeedsBy.no-more h rest = record { seconds = rest; feeds = Feeds.no-more; behind = refl }
-  feeds-any {c} (FeedsBy.an-event {x} {x₁} {p} {ps} {t} {ts} k f) h rest =
+  feeds-any : {c : Caller} {x x₁ : Point} {ps : List (List ℕ)} {ts : List Told} (f : FeedsBy c lends x ps ts x₁) → logRoom ≤ length (x .left) → (behind : Seconds)
+      → (Feeds c (secondsFed f behind) (x .state) ps ts (x₁ .state)) × (laterAll ts (secondsFed f behind) ≡ behind)
+  unfolding laterAll secondsFed
+  feeds-any FeedsBy.no-more h behind = (Feeds.no-more, refl)
+  feeds-any {c} (FeedsBy.an-event {x} {x₁} {p} {ps} {t} {ts} k f) h behind =
       let l = lent (x .state) (lends x) in
-      let y = feeds-any f (logs-room l (callOutcome l p) (rooms x h)) rest in
-      let n = lends x .second in
-      record {
-        seconds = earlier t n (y .seconds);
-        feeds = Feeds.an-event (lends x) (rooms x h) k (earlier-time t n (y .seconds))
-            (subst (λ z. Feeds c z (callLeaves (x .state) (lends x) p) (drop (callSays (x .state) (lends x) p .used) p ∷ ps) ts (x₁ .state)) (sym (earlier-later t n (y .seconds))) (y .feeds));
-        behind = ap (laterAll ts) (earlier-later t n (y .seconds)) ∙ y .behind;
-      }
-  feeds-any (FeedsBy.all-used {x} {p = p} k f) h rest =
+      let y = feeds-any f (logs-room l (callOutcome l p) (rooms x h)) behind in
+      let e = then-later t (lends x .second) (secondsFed f behind) in (
+        Feeds.an-event (lends x) (rooms x h) k (then-time t (lends x .second) (secondsFed f behind))
+            (subst (λ z. Feeds c z (callLeaves (x .state) (lends x) p) (drop (callSays (x .state) (lends x) p .used) p ∷ ps) ts (x₁ .state)) (sym e) (y .0)),
+        ap (laterAll ts) e ∙ y .1,
+      )
+  feeds-any (FeedsBy.all-used {x} {p = p} k f) h behind =
       let l = lent (x .state) (lends x) in
-      let y = feeds-any f (logs-room l (callOutcome l p) (rooms x h)) rest in
-      record { seconds = y .seconds; feeds = Feeds.all-used (lends x) (rooms x h) k (y .feeds); behind = y .behind }
-  feeds-any (FeedsBy.passed-over g f) h rest = let y = feeds-any f h rest in record { seconds = y .seconds; feeds = Feeds.passed-over g (y .feeds); behind = y .behind }
+      let y = feeds-any f (logs-room l (callOutcome l p) (rooms x h)) behind in
+      (Feeds.all-used (lends x) (rooms x h) k (y .0), y .1)
+  feeds-any (FeedsBy.passed-over g f) h behind = let y = feeds-any f h behind in (Feeds.passed-over g (y .0), y .1)
 
-  closes-any : {x x₁ : Point} {ts : List Told} → ClosesBy lends x ts x₁ → logRoom ≤ length (x .left) → ClosedAny x x₁ ts
+  closes-any : {x x₁ : Point} {ts : List Told} (f : ClosesBy lends x ts x₁) → logRoom ≤ length (x .left) → Closes (secondsClosed f) (x .state) ts (x₁ .state)
+  unfolding secondsClosed
   closes-any (ClosesBy.an-event {x} {x₁} {t} {ts} k f) h =
       let l = lent (x .state) (lends x) in
       let y = closes-any f (logs-room l (finishOutcome l) (rooms x h)) in
-      let n = lends x .second in
-      record {
-        seconds = earlier t n (y .seconds);
-        closes = Closes.an-event (lends x) (rooms x h) k (earlier-time t n (y .seconds))
-            (subst (λ z. Closes z (finishLeaves (x .state) (lends x)) ts (x₁ .state)) (sym (earlier-later t n (y .seconds))) (y .closes));
-      }
-  closes-any (ClosesBy.is-done {x} k) h = record { seconds = λ i. 0; closes = Closes.is-done (lends x) (rooms x h) k }
+      Closes.an-event (lends x) (rooms x h) k (then-time t (lends x .second) (secondsClosed f))
+      (subst (λ z. Closes z (finishLeaves (x .state) (lends x)) ts (x₁ .state)) (sym (then-later t (lends x .second) (secondsClosed f))) y)
+  closes-any (ClosesBy.is-done {x} k) h = Closes.is-done (lends x) (rooms x h) k
 
   pub any-whole : {c : Caller} {bytes log : List ℕ} {books : Held} {ps : List (List ℕ)} → (w : WholeBy c lends bytes books log ps) → logRoom ≤ length log
-      → Timed w
+      → Whole c (secondsBy w) bytes books ps
   any-whole w room =
+      let f = feeds-any (w .feeds) room (secondsClosed (w .closes)) in
       let g = closes-any (w .closes) (feeds-room (w .feeds) room) in
-      let f = feeds-any (w .feeds) room (g .seconds) in
       record {
-        seconds = f .seconds;
-        whole = record {
-          before = w .before;
-          between = w .between .state;
-          feeds = f .feeds;
-          after = w .after;
-          end = w .end .state;
-          closes = subst (λ z. Closes z (w .between .state) (w .after) (w .end .state)) (sym (f .behind)) (g .closes);
-        };
-        same-before = refl;
-        same-after = refl;
-        same-end = refl;
+        before = w .before;
+        between = w .between .state;
+        feeds = f .0;
+        after = w .after;
+        end = w .end .state;
+        closes = subst (λ z. Closes z (w .between .state) (w .after) (w .end .state)) (sym (f .1)) g;
       }
+
+-- ---- and at any seconds there are such calls: each is handed that of the next frame
+
+in-time : (books : Held) (seconds : Seconds) (e : Event) → (InTime (toldOf books (seconds 0) e) (seconds 0) seconds) × (laterBy (toldOf books (seconds 0) e) seconds ≡ later e seconds)
+in-time books seconds (noise n) = (tt, refl)
+in-time books seconds (frame f b) = go (handledOn books (seconds 0) b) (verdictOn books (seconds 0) b)
+  where
+    go : (h : Held) (v : desk.Verdict) → (InTime (toldBy h f b v) (seconds 0) seconds) × (laterBy (toldBy h f b v) seconds ≡ later (frame f b) seconds)
+    go h (desk.refused why) = (refl, refl)
+    go h (desk.defines book live) = (refl, refl)
+    go h (desk.continues book message) = (refl, refl)
+    go h (desk.opens tag message) = (refl, refl)
+
+pub later-told : (d : Held) (seconds : Seconds) (es : List Event) → laterAll (toldAll d seconds es) seconds ≡ laterOn es seconds
+unfolding laterAll toldAll laterOn
+later-told d seconds [] = refl
+later-told d seconds (e ∷ es) =
+    ap (laterAll (toldAll (booksAfter d (seconds 0) e) (later e seconds) es)) (in-time d seconds e .1) ∙ later-told (booksAfter d (seconds 0) e) (later e seconds) es
+
+module _ (log : List ℕ) (h : logRoom ≤ length log) where
+  pub feeds-at : {c : Caller} {b b₁ : List ℕ} {t t₁ : Tray} {ps : List (List ℕ)} {es : List Event} → streaming.Feeds c b t ps es b₁ t₁ → (d : Held) → Ready (at b t d) → (seconds : Seconds)
+      → Feeds c seconds (at b t d) ps (toldAll d seconds es) (at b₁ t₁ (booksAll d seconds es))
+  unfolding toldAll booksAll
+  feeds-at streaming.Feeds.no-more d r seconds = Feeds.no-more
+  feeds-at {c} (streaming.Feeds.an-event {b} {b₁} {t} {t₁} {p} {ps} {e} {es} k f) d r seconds =
+      let s = at b t d in
+      let given : Lent = record { log = log; second = seconds 0 } in
+      let w = tells-so (lent s given) (callOutcome (lent s given) p) (call-o s given r h p) (call-is s given p r h) (call-good s given r h p) e k in
+      let i = in-time d seconds e in
+      let n = booksAfter d (seconds 0) e in
+      let q = later e seconds in
+      let x = feeds-at f n (record { tray-ready = call-ready (r .tray-ready) p; books-sound = sound-after (r .books-sound) (seconds 0) e }) q in
+      let y = subst (λ m. Feeds c q (at (stream.callBytes b t p) (stream.callAnswer b t p .tray) m) (drop (stream.callAnswer b t p .used) p ∷ ps) (toldAll n q es) (at b₁ t₁ (booksAll n q es)))
+      (sym (w .1)) x in
+      let z = call-back s given r h p (λ b t u m. Feeds c q (at b t m) (drop u p ∷ ps) (toldAll n q es) (at b₁ t₁ (booksAll n q es))) y in
+      Feeds.an-event given h (w .0) (i .0)
+      (subst (λ v. Feeds c v (callLeaves s given p) (drop (callSays s given p .used) p ∷ ps) (toldAll n q es) (at b₁ t₁ (booksAll n q es))) (sym (i .1)) z)
+  feeds-at {c} (streaming.Feeds.all-used {b} {b₁} {t} {t₁} {p} {ps} {es} k f) d r seconds =
+      let s = at b t d in
+      let given : Lent = record { log = log; second = 0 } in
+      let w = hungry-is (lent s given) (callOutcome (lent s given) p) (call-o s given r h p) (call-is s given p r h) k in
+      let x = feeds-at f d (record { tray-ready = call-ready (r .tray-ready) p; books-sound = r .books-sound }) seconds in
+      let y = subst (λ m. Feeds c seconds (at (stream.callBytes b t p) (stream.callAnswer b t p .tray) m) ps (toldAll d seconds es) (at b₁ t₁ (booksAll d seconds es))) (sym (w .1)) x in
+      Feeds.all-used given h (w .0) (call-back s given r h p (λ b t u m. Feeds c seconds (at b t m) ps (toldAll d seconds es) (at b₁ t₁ (booksAll d seconds es))) y)
+  feeds-at (streaming.Feeds.passed-over g f) d r seconds = Feeds.passed-over g (feeds-at f d r seconds)
+
+  pub closes-at : {b b₁ : List ℕ} {t t₁ : Tray} {es : List Event} → streaming.Closes b t es b₁ t₁ → (d : Held) → Ready (at b t d) → (seconds : Seconds)
+      → Closes seconds (at b t d) (toldAll d seconds es) (at b₁ t₁ (booksAll d seconds es))
+  unfolding toldAll booksAll
+  closes-at (streaming.Closes.an-event {b} {b₁} {t} {t₁} {e} {es} k f) d r seconds =
+      let s = at b t d in
+      let given : Lent = record { log = log; second = seconds 0 } in
+      let w = tells-so (lent s given) (finishOutcome (lent s given)) (end-o s given r h) (finish-is s given r h) (end-good s given r h) e k in
+      let i = in-time d seconds e in
+      let n = booksAfter d (seconds 0) e in
+      let q = later e seconds in
+      let x = closes-at f n (record { tray-ready = finish-ready (r .tray-ready); books-sound = sound-after (r .books-sound) (seconds 0) e }) q in
+      let y = subst (λ m. Closes q (at (stream.finishBytes b t) (stream.finishAnswer b t .tray) m) (toldAll n q es) (at b₁ t₁ (booksAll n q es))) (sym (w .1)) x in
+      let z = end-back s given r h (λ b t u m. Closes q (at b t m) (toldAll n q es) (at b₁ t₁ (booksAll n q es))) y in
+      Closes.an-event given h (w .0) (i .0) (subst (λ v. Closes v (finishLeaves s given) (toldAll n q es) (at b₁ t₁ (booksAll n q es))) (sym (i .1)) z)
+  closes-at (streaming.Closes.is-done {b} {t} k) d r seconds =
+      let s = at b t d in
+      let given : Lent = record { log = log; second = 0 } in
+      let w = done-is (lent s given) (finishOutcome (lent s given)) (end-o s given r h) (finish-is s given r h) k in
+      let y = end-forth s given r h (λ b t u m. Closes seconds s [] (at b t m)) (Closes.is-done given h (w .0)) in
+      subst (λ m. Closes seconds s [] (at (stream.finishBytes b t) (stream.finishAnswer b t .tray) m)) (w .1) y
 
 -- ---- what a lender may look at is all that was told
 

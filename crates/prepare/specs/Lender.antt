@@ -2,14 +2,14 @@
 -- and on what the last call left of its log. So one log may be lent again and again, and any clock may give the seconds.
 use mathlib.Core.Path.{_≡_}
 use mathlib.Core.List.{List, [], _∷_, _++_}
-use Prim.Native.Nat.{ℕ, _≤_}
+use Prim.Native.Nat.{ℕ, zero, suc, _≤_}
 use lib.ListN.{length, drop}
 use Rattle.stream.specs.Driver.{Caller, GoesOn}
 use Rattle.sizes.specs.Sizes.{logRoom}
 use Rattle.desk.specs.History.{Held}
 use Rattle.prepare.specs.declared.Said.the-variants as said
 use Rattle.prepare.specs.declared.Answer.{Answer}
-use Rattle.prepare.specs.Uncut.{Told}
+use Rattle.prepare.specs.Uncut.{Told, accepted, refused, noise, Seconds}
 use Rattle.prepare.specs.Driver.{State, Lent, callSays, callLeaves, callLogs, finishSays, finishLeaves, finishLogs, Tells, start}
 
 -- between two calls: all that was told so far, the state, and the log as the last call left it
@@ -81,3 +81,35 @@ pub record WholeBy (c : Caller) (lends : Lender) (bytes : List ℕ) (books : Hel
   pub after : List Told
   pub end : Point
   pub closes : ClosesBy lends between after end
+
+-- ---- the seconds of the frames told: each that of the call which told it
+
+-- a second, and behind it those of the frames behind
+abbrev pub secondThen : (second : ℕ) → Seconds → Seconds
+secondThen second behind zero = second
+secondThen second behind (suc i) = behind i
+
+-- for what is told with it, if that is a frame
+abbrev pub toldThen : Told → (second : ℕ) → Seconds → Seconds
+toldThen (accepted header bytes entries) second behind = secondThen second behind
+toldThen (refused header bytes why) second behind = secondThen second behind
+toldThen (noise count) second behind = behind
+
+-- for all that is told with one second
+unfoldable pub allThen : List Told → (second : ℕ) → (behind : Seconds) → Seconds
+allThen [] second behind = behind
+allThen (told ∷ rest) second behind = toldThen told second (allThen rest second behind)
+
+-- for the calls on portions, and for those of finish
+unfoldable pub secondsFed : {c : Caller} {lends : Lender} {x x₁ : Point} {ps : List (List ℕ)} {ts : List Told} → FeedsBy c lends x ps ts x₁ → (behind : Seconds) → Seconds
+secondsFed FeedsBy.no-more behind = behind
+secondsFed {lends = lends} (FeedsBy.an-event {x} {t = t} k f) behind = toldThen t (lends x .second) (secondsFed f behind)
+secondsFed (FeedsBy.all-used k f) behind = secondsFed f behind
+secondsFed (FeedsBy.passed-over g f) behind = secondsFed f behind
+
+unfoldable pub secondsClosed : {lends : Lender} {x x₁ : Point} {ts : List Told} → ClosesBy lends x ts x₁ → Seconds
+secondsClosed {lends = lends} (ClosesBy.an-event {x} {t = t} k f) = toldThen t (lends x .second) (secondsClosed f)
+secondsClosed {lends = lends} (ClosesBy.is-done {x} k) = λ i. lends x .second
+
+abbrev pub secondsBy : {c : Caller} {lends : Lender} {bytes log : List ℕ} {books : Held} {portions : List (List ℕ)} → WholeBy c lends bytes books log portions → Seconds
+secondsBy w = secondsFed (w .feeds) (secondsClosed (w .closes))

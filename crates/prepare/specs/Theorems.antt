@@ -4,7 +4,8 @@
 use mathlib.Core.Path.{_≡_, refl, sym, ap, ap₂, _∙_, subst}
 use mathlib.Core.List.{List, [], _∷_, _++_, append-assoc, append-nil, flatten}
 use Prim.Native.Nat.{ℕ, _≤_}
-use lib.ListN.{length, take, drop}
+use native.Mathlib.Omega.{arith}
+use lib.ListN.{length, take, drop, replicate, length-replicate}
 use lib.Seq.{take-at}
 use Rattle.groups.specs.Groups.{groupsOfAll}
 use Rattle.frame.specs.declared.Frame.{Frame}
@@ -26,12 +27,12 @@ use Rattle.desk.specs.Desk.{newDesk}
 use Rattle.desk.specs.Theorems.{new-sound, closed-kept}
 use Rattle.prepare.specs.Uncut.{Told, accepted, refused, verdictOn, toldBy, toldOf, booksAfter, Seconds, toldAll, booksAll, entriesOf, runLog, uncutTold, uncutLog, uncutBooks}
 use Rattle.prepare.specs.Prepare.{Handed, callOutcome, finishOutcome, answerOf, booksOf, written, booksIn, Result, byCall, byFinish}
-use Rattle.prepare.specs.Driver.{State, Sound, Lent, lent, callLeaves, finishLeaves, Feeds, start, Whole}
-use Rattle.prepare.specs.Lender.{Point, Lender, LendsRoom, oneLog, WholeBy}
+use Rattle.prepare.specs.Driver.{State, Sound, Lent, lent, callLeaves, finishLeaves, Feeds, Closes, start, Whole}
+use Rattle.prepare.specs.Lender.{Point, Lender, LendsRoom, oneLog, WholeBy, secondsBy}
 use Rattle.prepare.specs.Placed.{placedLog, openingAll}
 use Rattle.prepare.specs.Placing.{placed, still-kept}
 use Rattle.prepare.specs.Stays.{verdict-past, new-closed}
-use Rattle.prepare.specs.Driving.{Ready, laterOn, feeds-so, feeds-ready, closes-so, whole-on, so-feeds, so-closes, Timed, any-whole, feeds-before, closes-before, told-append, books-append, log-append}
+use Rattle.prepare.specs.Driving.{Ready, laterOn, feeds-so, feeds-ready, closes-so, whole-on, so-feeds, so-closes, any-whole, later-told, feeds-at, closes-at, feeds-before, closes-before, told-append, books-append, log-append}
 
 one : (l : List ℕ) → flatten (l ∷ []) ≡ l
 unfolding flatten
@@ -68,6 +69,23 @@ module _ {bytes : List ℕ} {books : Held} (clear : streaming.Clear bytes) (soun
       let f = so-feeds lends rooms (w .feeds) books ready [] log room in
       whole-on f
       (so-closes lends rooms (w .closes) (f .books₁) (record { tray-ready = stream-ready (w .feeds) (stream.fresh-sound clear); books-sound = f .is-sound }) (f .before₁) (f .left₁) (f .room))
+
+  -- At any seconds there are such calls, whatever the portions are.
+  pub any-seconds : {c : Caller} (seconds : Seconds) (portions : List (List ℕ)) → Whole c seconds bytes books portions
+  any-seconds seconds portions =
+      let log = replicate {A = ℕ} logRoom 0 in
+      let room : logRoom ≤ length log = omega (arith, length-replicate {A = ℕ} logRoom 0) in
+      let w = stream.stream-ends clear portions in
+      let f = feeds-at log room (w .feeds) books ready seconds in
+      let g = closes-at log room (w .closes) (booksAll books seconds (w .before)) (feeds-ready f ready) (laterOn (w .before) seconds) in
+      record {
+        before = toldAll books seconds (w .before);
+        between = _;
+        feeds = f;
+        after = _;
+        end = _;
+        closes = subst (λ z. Closes z _ _ _) (sym (later-told books seconds (w .before))) g;
+      }
 
   -- So they do for one log that is lent again and again, and any clock.
   pub one-log-ends : {c : Caller} (clock : Point → ℕ) (log : List ℕ) → logRoom ≤ length log → (portions : List (List ℕ)) → WholeBy c (oneLog clock) bytes books log portions
@@ -131,9 +149,9 @@ module _ {bytes : List ℕ} {books : Held} (clear : streaming.Clear bytes) (soun
 -- ---- who lends the logs
 
 module _ {bytes log : List ℕ} {books : Held} {c : Caller} {lends : Lender} {portions : List (List ℕ)} (w : WholeBy c lends bytes books log portions) where
-  -- Whoever lends, and whatever the clock is, such calls are calls of `Driver.antt`, where the second of frame i is the one that the call which told it was handed: so `prepared`
-  -- and `in-force` hold of them, and before finish `cut` and `prefix`.
-  pub any-lender : LendsRoom lends → logRoom ≤ length log → Timed w
+  -- Whoever lends, and whatever the clock is, such calls are calls of `Driver.antt`, where the second of frame i is the one that the call which told it was handed (`secondsBy`): so
+  -- `prepared` and `in-force` hold of them, and before finish `cut` and `prefix`.
+  pub any-lender : LendsRoom lends → logRoom ≤ length log → Whole c (secondsBy w) bytes books portions
   any-lender rooms room = any-whole lends rooms w room
 
   -- What a lender may look at is all that was told before.

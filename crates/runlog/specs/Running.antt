@@ -13,7 +13,8 @@ use Rattle.stream.specs.Tray.{freshTray}
 use Rattle.desk.specs.declared.Desk.{Desk}
 use Rattle.prepare.specs.Uncut as uncut
 use Rattle.prepare.specs.Uncut.{Seconds}
-use Rattle.prepare.specs.Driver.{State, datedBy}
+use Rattle.prepare.specs.Driver.{State}
+use Rattle.prepare.specs.Lender.{allThen}
 use Rattle.runlog.specs.declared.hearing.Turn.{Turn}
 use Rattle.runlog.specs.declared.hearing.Stop.{Stop}
 use Rattle.runlog.specs.declared.Job.{Job}
@@ -35,7 +36,7 @@ toldIn (Reads.a-portion second at told rest) = told .told ++ toldIn rest
 -- the seconds of the frames told, each that of its portion, and then those behind them
 unfoldable pub secondsIn : {raw : Bool} {s s₁ : State} {o o₁ : List ℕ} {ps : List (List ℕ)} → Reads raw s o ps s₁ o₁ → (behind : Seconds) → Seconds
 secondsIn Reads.no-more behind = behind
-secondsIn (Reads.a-portion second at told rest) behind = datedBy second (told .told) (secondsIn rest behind)
+secondsIn (Reads.a-portion second at told rest) behind = allThen (told .told) second (secondsIn rest behind)
 
 -- A read is told, if something came. It goes on where something came and the log went out.
 pub record Came (raw : Bool) (state : State) (out portion : List ℕ) (state′ : State) (out′ : List ℕ) (turn : Turn) : Type 0 where

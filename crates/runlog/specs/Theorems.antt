@@ -22,8 +22,9 @@ use Rattle.desk.specs.History.{Held, Snapshot, Course, KeptOn}
 use Rattle.desk.specs.Entries.{BooksInBytes}
 use Rattle.prepare.specs.Uncut as uncut
 use Rattle.prepare.specs.Uncut.{Seconds, uncutTold, uncutLog}
-use Rattle.prepare.specs.Driver.{State, Sound, callSays, callLeaves, InTime, laterBy, laterAll, earlier, datedBy, Feeds, Closes, Whole, start}
-use Rattle.prepare.specs.Driving.{earlier-later}
+use Rattle.prepare.specs.Driver.{State, Sound, callSays, callLeaves, InTime, laterBy, laterAll, Feeds, Closes, Whole, start}
+use Rattle.prepare.specs.Lender.{toldThen, allThen}
+use Rattle.prepare.specs.Driving.{then-later}
 use Rattle.prepare.specs.Entries.{uncutEntries}
 use Rattle.prepare.specs.Theorems.{prepared, fresh-sound, fresh-kept}
 use Rattle.prepare.specs.Display.{uncut-reads}
@@ -39,20 +40,20 @@ use Rattle.runlog.specs.Outgoing.{outIn, outOf}
 use Rattle.runlog.specs.Joined.{later-always, logs-join, raw-short, logs-parts, logs-flat}
 use Rattle.runlog.specs.Lines.{allIn, log-read, all-lines, words-short, told-read, zeros-bytes}
 
-in-time : (t : uncut.Told) (n second : ℕ) (behind : Seconds) → InTime t n (always second) → InTime t n (earlier t second behind)
+in-time : (t : uncut.Told) (n second : ℕ) (behind : Seconds) → InTime t n (always second) → InTime t n (toldThen t second behind)
 in-time (uncut.accepted header bytes entries) n second behind i = i
 in-time (uncut.refused header bytes why) n second behind i = i
 in-time (uncut.noise count) n second behind i = tt
 
 portion-then : {second : ℕ} {behind seconds : Seconds} {s s₁ s₂ : State} {p : List ℕ} {ps : List (List ℕ)} {ts us : List uncut.Told}
     → Feeds waits seconds s (p ∷ []) ts s₁ → seconds ≡ always second → Feeds waits behind s₁ ps us s₂
-    → Feeds waits (datedBy second ts behind) s (p ∷ ps) (ts ++ us) s₂
-unfolding datedBy
+    → Feeds waits (allThen ts second behind) s (p ∷ ps) (ts ++ us) s₂
+unfolding allThen
 portion-then {second} {behind} {s₂ = s₂} {ps = ps} {us = us} (Feeds.an-event {seconds} {s} {p = p} {t = t} {ts} given room k i f) e g =
-    let n : Seconds = datedBy second ts behind in
+    let n : Seconds = allThen ts second behind in
     let x = portion-then f (ap (laterBy t) e ∙ later-always t second) g in
     Feeds.an-event given room k (in-time t (given .second) second n (subst (λ z. InTime t (given .second) z) e i))
-    (subst (λ z. Feeds waits z (callLeaves s given p) (drop (callSays s given p .used) p ∷ ps) (ts ++ us) s₂) (sym (earlier-later t second n)) x)
+    (subst (λ z. Feeds waits z (callLeaves s given p) (drop (callSays s given p .used) p ∷ ps) (ts ++ us) s₂) (sym (then-later t second n)) x)
 portion-then (Feeds.all-used given room k Feeds.no-more) e g = Feeds.all-used given room k g
 portion-then (Feeds.passed-over z f) e g = absurd z
 
@@ -63,10 +64,10 @@ portions-feed Reads.no-more behind = Feeds.no-more
 portions-feed (Reads.a-portion second at told rest) behind = portion-then (told .feeds) refl (portions-feed rest behind)
 
 -- behind what is told of the portions come the seconds of the end
-behind-portion : (second : ℕ) (ts us : List uncut.Told) (seconds : Seconds) → laterAll (ts ++ us) (datedBy second ts seconds) ≡ laterAll us seconds
-unfolding laterAll datedBy
+behind-portion : (second : ℕ) (ts us : List uncut.Told) (seconds : Seconds) → laterAll (ts ++ us) (allThen ts second seconds) ≡ laterAll us seconds
+unfolding laterAll allThen
 behind-portion second [] us seconds = refl
-behind-portion second (t ∷ ts) us seconds = ap (laterAll (ts ++ us)) (earlier-later t second (datedBy second ts seconds)) ∙ behind-portion second ts us seconds
+behind-portion second (t ∷ ts) us seconds = ap (laterAll (ts ++ us)) (then-later t second (allThen ts second seconds)) ∙ behind-portion second ts us seconds
 
 behind-all : {raw : Bool} {s s₁ : State} {o o₁ : List ℕ} {ps : List (List ℕ)} (r : Reads raw s o ps s₁ o₁) (behind : Seconds) → laterAll (toldIn r) (secondsIn r behind) ≡ behind
 unfolding toldIn secondsIn laterAll
