@@ -26,7 +26,7 @@ use Rattle.export.specs.Back.{tray-back}
 use Rattle.exportprepare.specs.Prepares.{Lent, handedIn, noRoom, eventOf, toldSaid, toldAnswer, stateSaid, callLeaves, finishLeaves}
 use Rattle.exportprepare.specs.NextState.{next-call, next-finish}
 use Rattle.exportprepare.specs.Driver.{Heard, frame, noise, eventIn, usedIn, Hears, a-frame, some-noise, InTime, laterBy, laterAll, Feeds, FeedsStream, Closes, heardOf}
-use Rattle.exportprepare.specs.Lender.{Point, point, Lender, LendsRoom, HasRoom, Cutter, GivesMore, MayStop, lentAt, called, finished, FeedsBy, FeedsStreamBy, ClosesBy}
+use Rattle.exportprepare.specs.Lender.{Point, point, Lender, LendsRoom, HasRoom, Cutter, GivesMore, MayStop, lentAt, called, finished, FeedsBy, FeedsStreamBy, ClosesBy, heardThen, secondsFed, secondsStreamed, secondsClosed}
 use Rattle.exportprepare.specs.Driving.{leftBy, there-room, call-left, finish-left, says-hears, said-hungry, said-done}
 use Rattle.exportprepare.specs.Cutting.{all-of-it, on-used}
 use Rattle.exportprepare.specs.Along.{Fit, fit-anew, call-fit, finish-fit, call-is-zero, finish-is-zero}
@@ -298,37 +298,15 @@ module _ (lends : Lender) (rooms : LendsRoom lends) where
       let y = idle (lentAt lends x) g t in
       goes-on d (call-fit (lentAt lends x) g []) (y .2) (omega (arith, some, y .1, length-drop (usedIn (called lends x [])) rest))
 
--- ---- such calls are calls of Driver.antt, for some seconds: before each of them the slices are lent anew, and each frame is heard at the second that its call was handed
+-- ---- such calls are calls of Driver.antt, at the seconds that they were handed: before each of them the slices are lent anew
 
-abbrev first : ℕ → Seconds → Seconds
-first second seconds zero = second
-first second seconds (suc i) = seconds i
+then-time : (h : Heard) (second : ℕ) (behind : Seconds) → InTime h second (heardThen h second behind)
+then-time (frame header bytes number entries) second behind = refl
+then-time (noise count) second behind = tt
 
-abbrev earlier : Heard → ℕ → Seconds → Seconds
-earlier (frame header bytes number entries) second seconds = first second seconds
-earlier (noise count) second seconds = seconds
-
-earlier-time : (h : Heard) (second : ℕ) (seconds : Seconds) → InTime h second (earlier h second seconds)
-earlier-time (frame header bytes number entries) second seconds = refl
-earlier-time (noise count) second seconds = tt
-
-earlier-later : (h : Heard) (second : ℕ) (seconds : Seconds) → laterBy h (earlier h second seconds) ≡ seconds
-earlier-later (frame header bytes number entries) second seconds = refl
-earlier-later (noise count) second seconds = refl
-
-pub record FedAny (c : Caller) (l l₁ : Lent) (ps : List (List ℕ)) (hs : List Heard) (rest : Seconds) : Type 0 where
-  pub seconds : Seconds
-  pub feeds : Feeds c seconds l ps hs l₁
-  pub behind : laterAll hs seconds ≡ rest
-
-pub record FedStreamAny (l l₁ : Lent) (left : List ℕ) (hs : List Heard) (rest : Seconds) : Type 0 where
-  pub seconds : Seconds
-  pub feeds : FeedsStream seconds l left hs l₁
-  pub behind : laterAll hs seconds ≡ rest
-
-pub record ClosedAny (l l₁ : Lent) (hs : List Heard) : Type 0 where
-  pub seconds : Seconds
-  pub closes : Closes seconds l hs l₁
+then-later : (h : Heard) (second : ℕ) (behind : Seconds) → laterBy h (heardThen h second behind) ≡ behind
+then-later (frame header bytes number entries) second behind = refl
+then-later (noise count) second behind = refl
 
 module _ (lends : Lender) (rooms : LendsRoom lends) where
   pub feeds-fit : {c : Caller} {x x₁ : Point} {ps : List (List ℕ)} {hs : List Heard} → FeedsBy c lends x ps hs x₁ → Fit (x .left) → Fit (x₁ .left)
@@ -337,54 +315,48 @@ module _ (lends : Lender) (rooms : LendsRoom lends) where
   feeds-fit (FeedsBy.all-used {x} {p = p} q k d) f = feeds-fit d (call-fit (lentAt lends x) (fit-lent lends rooms x f) p)
   feeds-fit (FeedsBy.passed-over g d) f = feeds-fit d f
 
-  pub feeds-any : {c : Caller} {x x₁ : Point} {ps : List (List ℕ)} {hs : List Heard} → FeedsBy c lends x ps hs x₁ → Fit (x .left) → (rest : Seconds)
-      → FedAny c (x .left) (x₁ .left) ps hs rest
-  unfolding laterAll
-  feeds-any FeedsBy.no-more f rest = record { seconds = rest; feeds = Feeds.no-more; behind = refl }
-  feeds-any {c} (FeedsBy.an-event {x} {x₁} {p} {ps} {h} {hs} q k d) f rest =
-      let y = feeds-any d (call-fit (lentAt lends x) (fit-lent lends rooms x f) p) rest in
+  pub feeds-any : {c : Caller} {x x₁ : Point} {ps : List (List ℕ)} {hs : List Heard} (d : FeedsBy c lends x ps hs x₁) → Fit (x .left) → (behind : Seconds)
+      → (Feeds c (secondsFed d behind) (x .left) ps hs (x₁ .left)) × (laterAll hs (secondsFed d behind) ≡ behind)
+  unfolding laterAll secondsFed
+  feeds-any FeedsBy.no-more f behind = (Feeds.no-more, refl)
+  feeds-any {c} (FeedsBy.an-event {x} {x₁} {p} {ps} {h} {hs} q k d) f behind =
+      let y = feeds-any d (call-fit (lentAt lends x) (fit-lent lends rooms x f) p) behind in
       let n = lends x .second in
-      let z = subst (λ z. Feeds c z (called lends x p) (drop (usedIn (called lends x p)) p ∷ ps) hs (x₁ .left)) (sym (earlier-later h n (y .seconds))) (y .feeds) in
-      record {
-        seconds = earlier h n (y .seconds);
-        feeds = Feeds.lent-anew (has-room lends rooms x f) (Feeds.an-event q k (earlier-time h n (y .seconds)) z);
-        behind = ap (laterAll hs) (earlier-later h n (y .seconds)) ∙ y .behind;
-      }
-  feeds-any (FeedsBy.all-used {x} {p = p} q k d) f rest =
-      let y = feeds-any d (call-fit (lentAt lends x) (fit-lent lends rooms x f) p) rest in
-      record { seconds = y .seconds; feeds = Feeds.lent-anew (has-room lends rooms x f) (Feeds.all-used q k (y .feeds)); behind = y .behind }
-  feeds-any (FeedsBy.passed-over g d) f rest = let y = feeds-any d f rest in record { seconds = y .seconds; feeds = Feeds.passed-over g (y .feeds); behind = y .behind }
+      let e = then-later h n (secondsFed d behind) in
+      let z = subst (λ z. Feeds c z (called lends x p) (drop (usedIn (called lends x p)) p ∷ ps) hs (x₁ .left)) (sym e) (y .0) in
+      (Feeds.lent-anew (has-room lends rooms x f) (Feeds.an-event q k (then-time h n (secondsFed d behind)) z), ap (laterAll hs) e ∙ y .1)
+  feeds-any (FeedsBy.all-used {x} {p = p} q k d) f behind =
+      let y = feeds-any d (call-fit (lentAt lends x) (fit-lent lends rooms x f) p) behind in
+      (Feeds.lent-anew (has-room lends rooms x f) (Feeds.all-used q k (y .0)), y .1)
+  feeds-any (FeedsBy.passed-over g d) f behind = let y = feeds-any d f behind in (Feeds.passed-over g (y .0), y .1)
 
   pub stream-fit : {c : Caller} {cuts : Cutter} {x x₁ : Point} {rest : List ℕ} {hs : List Heard} → FeedsStreamBy c lends cuts x rest hs x₁ → Fit (x .left) → Fit (x₁ .left)
   stream-fit (FeedsStreamBy.no-more m) f = f
   stream-fit {cuts = cuts} (FeedsStreamBy.an-event {x} {rest = rest} q k d) f = stream-fit d (call-fit (lentAt lends x) (fit-lent lends rooms x f) (take (cuts x rest) rest))
   stream-fit {cuts = cuts} (FeedsStreamBy.all-used {x} {rest = rest} q k d) f = stream-fit d (call-fit (lentAt lends x) (fit-lent lends rooms x f) (take (cuts x rest) rest))
 
-  pub stream-any : {c : Caller} {cuts : Cutter} {x x₁ : Point} {left : List ℕ} {hs : List Heard} → FeedsStreamBy c lends cuts x left hs x₁ → Fit (x .left) → (rest : Seconds)
-      → FedStreamAny (x .left) (x₁ .left) left hs rest
-  unfolding laterAll
-  stream-any (FeedsStreamBy.no-more m) f rest = record { seconds = rest; feeds = FeedsStream.no-more; behind = refl }
-  stream-any {cuts = cuts} (FeedsStreamBy.an-event {x} {x₁} {rest = left} {h} {hs} q k d) f rest =
+  pub stream-any : {c : Caller} {cuts : Cutter} {x x₁ : Point} {left : List ℕ} {hs : List Heard} (d : FeedsStreamBy c lends cuts x left hs x₁) → Fit (x .left) → (behind : Seconds)
+      → (FeedsStream (secondsStreamed d behind) (x .left) left hs (x₁ .left)) × (laterAll hs (secondsStreamed d behind) ≡ behind)
+  unfolding laterAll secondsStreamed
+  stream-any (FeedsStreamBy.no-more m) f behind = (FeedsStream.no-more, refl)
+  stream-any {cuts = cuts} (FeedsStreamBy.an-event {x} {x₁} {rest = left} {h} {hs} q k d) f behind =
       let p = take (cuts x left) left in
-      let y = stream-any d (call-fit (lentAt lends x) (fit-lent lends rooms x f) p) rest in
+      let y = stream-any d (call-fit (lentAt lends x) (fit-lent lends rooms x f) p) behind in
       let n = lends x .second in
-      let z = subst (λ z. FeedsStream z (called lends x p) (drop (usedIn (called lends x p)) left) hs (x₁ .left)) (sym (earlier-later h n (y .seconds))) (y .feeds) in
-      record {
-        seconds = earlier h n (y .seconds);
-        feeds = FeedsStream.lent-anew (has-room lends rooms x f) (FeedsStream.an-event (cuts x left) q k (earlier-time h n (y .seconds)) z);
-        behind = ap (laterAll hs) (earlier-later h n (y .seconds)) ∙ y .behind;
-      }
-  stream-any {cuts = cuts} (FeedsStreamBy.all-used {x} {rest = left} q k d) f rest =
-      let y = stream-any d (call-fit (lentAt lends x) (fit-lent lends rooms x f) (take (cuts x left) left)) rest in
-      record { seconds = y .seconds; feeds = FeedsStream.lent-anew (has-room lends rooms x f) (FeedsStream.all-used (cuts x left) q k (y .feeds)); behind = y .behind }
+      let e = then-later h n (secondsStreamed d behind) in
+      let z = subst (λ z. FeedsStream z (called lends x p) (drop (usedIn (called lends x p)) left) hs (x₁ .left)) (sym e) (y .0) in
+      (FeedsStream.lent-anew (has-room lends rooms x f) (FeedsStream.an-event (cuts x left) q k (then-time h n (secondsStreamed d behind)) z), ap (laterAll hs) e ∙ y .1)
+  stream-any {cuts = cuts} (FeedsStreamBy.all-used {x} {rest = left} q k d) f behind =
+      let y = stream-any d (call-fit (lentAt lends x) (fit-lent lends rooms x f) (take (cuts x left) left)) behind in
+      (FeedsStream.lent-anew (has-room lends rooms x f) (FeedsStream.all-used (cuts x left) q k (y .0)), y .1)
 
-  pub closes-any : {x x₁ : Point} {hs : List Heard} → ClosesBy lends x hs x₁ → Fit (x .left) → ClosedAny (x .left) (x₁ .left) hs
+  pub closes-any : {x x₁ : Point} {hs : List Heard} (d : ClosesBy lends x hs x₁) → Fit (x .left) → Closes (secondsClosed d) (x .left) hs (x₁ .left)
+  unfolding secondsClosed
   closes-any (ClosesBy.an-event {x} {x₁} {h} {hs} q k d) f =
-      let y = closes-any d (finish-fit (lentAt lends x) (fit-lent lends rooms x f)) in
       let n = lends x .second in
-      let z = subst (λ z. Closes z (finished lends x) hs (x₁ .left)) (sym (earlier-later h n (y .seconds))) (y .closes) in
-      record { seconds = earlier h n (y .seconds); closes = Closes.lent-anew (has-room lends rooms x f) (Closes.an-event q k (earlier-time h n (y .seconds)) z) }
-  closes-any (ClosesBy.is-done {x} q k) f = record { seconds = λ i. 0; closes = Closes.lent-anew (has-room lends rooms x f) (Closes.is-done q k) }
+      let z = subst (λ z. Closes z (finished lends x) hs (x₁ .left)) (sym (then-later h n (secondsClosed d))) (closes-any d (finish-fit (lentAt lends x) (fit-lent lends rooms x f))) in
+      Closes.lent-anew (has-room lends rooms x f) (Closes.an-event q k (then-time h n (secondsClosed d)) z)
+  closes-any (ClosesBy.is-done {x} q k) f = Closes.lent-anew (has-room lends rooms x f) (Closes.is-done q k)
 
 -- ---- what a lender may look at is all that was heard
 

@@ -6,8 +6,10 @@ use mathlib.Core.List.{List, [], _∷_, _++_}
 use Prim.Native.Nat.{ℕ, _≤_}
 use lib.ListN.{length, take, drop}
 use Rattle.stream.specs.Driver.{Caller, waits, hurries, GoesOn}
+use Rattle.prepare.specs.Uncut.{Seconds}
+use Rattle.prepare.specs.Lender.{secondThen}
 use Rattle.exportprepare.specs.Prepares.{Lent, callNumber, callLeaves, finishNumber, finishLeaves}
-use Rattle.exportprepare.specs.Driver.{Heard, eventIn, usedIn, Hears, Rooms, lentAnew}
+use Rattle.exportprepare.specs.Driver.{Heard, frame, noise, eventIn, usedIn, Hears, Rooms, lentAnew}
 
 -- between two calls: all that was heard so far, and all that the last call left; before the first, what there is to lend
 pub record Point : Type 0 where
@@ -127,3 +129,31 @@ pub record WholeStreamBy (c : Caller) (lends : Lender) (cuts : Cutter) (lent : L
   pub after : List Heard
   pub end : Point
   pub closes : ClosesBy lends between after end
+
+-- ---- the seconds of the frames heard: each that of the call by which it was heard (as `secondsBy` of crate prepare)
+
+abbrev pub heardThen : Heard → (second : ℕ) → Seconds → Seconds
+heardThen (frame header bytes number entries) second behind = secondThen second behind
+heardThen (noise count) second behind = behind
+
+unfoldable pub secondsFed : {c : Caller} {lends : Lender} {x x₁ : Point} {ps : List (List ℕ)} {hs : List Heard} → FeedsBy c lends x ps hs x₁ → (behind : Seconds) → Seconds
+secondsFed FeedsBy.no-more behind = behind
+secondsFed {lends = lends} (FeedsBy.an-event {x} {h = h} q k d) behind = heardThen h (lends x .second) (secondsFed d behind)
+secondsFed (FeedsBy.all-used q k d) behind = secondsFed d behind
+secondsFed (FeedsBy.passed-over g d) behind = secondsFed d behind
+
+unfoldable pub secondsStreamed : {c : Caller} {lends : Lender} {cuts : Cutter} {x x₁ : Point} {rest : List ℕ} {hs : List Heard} → FeedsStreamBy c lends cuts x rest hs x₁ → (behind : Seconds)
+    → Seconds
+secondsStreamed (FeedsStreamBy.no-more m) behind = behind
+secondsStreamed {lends = lends} (FeedsStreamBy.an-event {x} {h = h} q k d) behind = heardThen h (lends x .second) (secondsStreamed d behind)
+secondsStreamed (FeedsStreamBy.all-used q k d) behind = secondsStreamed d behind
+
+unfoldable pub secondsClosed : {lends : Lender} {x x₁ : Point} {hs : List Heard} → ClosesBy lends x hs x₁ → Seconds
+secondsClosed {lends = lends} (ClosesBy.an-event {x} {h = h} q k d) = heardThen h (lends x .second) (secondsClosed d)
+secondsClosed {lends = lends} (ClosesBy.is-done {x} q k) = λ i. lends x .second
+
+abbrev pub secondsBy : {c : Caller} {lends : Lender} {lent : Lent} {portions : List (List ℕ)} → WholeBy c lends lent portions → Seconds
+secondsBy w = secondsFed (w .feeds) (secondsClosed (w .closes))
+
+abbrev pub secondsCut : {c : Caller} {lends : Lender} {cuts : Cutter} {lent : Lent} {stream : List ℕ} → WholeStreamBy c lends cuts lent stream → Seconds
+secondsCut w = secondsStreamed (w .feeds) (secondsClosed (w .closes))

@@ -35,7 +35,7 @@ use Rattle.exportdesk.specs.Theorems.{reads-back}
 use Rattle.exportprepare.specs.Prepares.{Lent, callNumber, finishNumber}
 use Rattle.exportprepare.specs.NextState.{state, stateIn}
 use Rattle.exportprepare.specs.Driver.{Heard, laterAll, Feeds, FeedsStream, Closes, Whole, Called, none-yet, Starts, booksLent, Ends, heardOf, heardAll, entriesOf, logHeard}
-use Rattle.exportprepare.specs.Lender.{Point, point, Lender, sameAgain, LendsRoom, Cutter, GivesMore, WholeBy, WholeStreamBy}
+use Rattle.exportprepare.specs.Lender.{Point, point, Lender, sameAgain, LendsRoom, Cutter, GivesMore, WholeBy, WholeStreamBy, secondsClosed, secondsBy, secondsCut}
 use Rattle.exportprepare.specs.Driving.{counts, no-number, longer, later-all, feeds-so, closes-so}
 use Rattle.exportprepare.specs.Cutting.{into-portions}
 use Rattle.exportprepare.specs.Along.{fresh-tray, sound-whole, starts-sound, starts-fit, call-is-zero, finish-is-zero, called-fit, feeds-called, closes-called, feeds-beyond, closes-numbers}
@@ -144,20 +144,26 @@ module _ {lent : Lent} (s : Starts lent) where
   nothing-handed {lends = lends} rooms some w = goes-on lends rooms (w .feeds) (starts-fit s) (fresh-tray (lent .tray) (s .tray-fresh) .1) some
 
   -- Whoever lends and whoever cuts, and whatever the clock is, such calls are calls of Driver.antt, where the second of frame i is the one that the call by which it was heard was
-  -- handed: so all that is said here of `Whole`, `FeedsStream` and `Closes` holds of them.
-  pub any-lender : {c : Caller} {lends : Lender} {portions : List (List ℕ)} → LendsRoom lends → (w : WholeBy c lends lent portions)
-      → (seconds : Seconds) × (Feeds c seconds lent portions (w .before) (w .between .left)) × (Closes (laterAll (w .before) seconds) (w .between .left) (w .after) (w .end .left))
+  -- handed (`secondsBy`, `secondsCut`): so all that is said here of `Whole`, `FeedsStream` and `Closes` holds of them.
+  pub any-lender : {c : Caller} {lends : Lender} {portions : List (List ℕ)} → LendsRoom lends → (w : WholeBy c lends lent portions) → Whole c (secondsBy w) lent portions
   any-lender {lends = lends} rooms w =
+      let f = feeds-any lends rooms (w .feeds) (starts-fit s) (secondsClosed (w .closes)) in
       let g = closes-any lends rooms (w .closes) (feeds-fit lends rooms (w .feeds) (starts-fit s)) in
-      let f = feeds-any lends rooms (w .feeds) (starts-fit s) (g .seconds) in
-      (f .seconds, f .feeds, subst (λ n. Closes n (w .between .left) (w .after) (w .end .left)) (sym (f .behind)) (g .closes))
+      record {
+        before = w .before;
+        between = w .between .left;
+        feeds = f .0;
+        after = w .after;
+        end = w .end .left;
+        closes = subst (λ n. Closes n (w .between .left) (w .after) (w .end .left)) (sym (f .1)) g;
+      }
 
   pub any-cutter : {c : Caller} {lends : Lender} {cuts : Cutter} {stream : List ℕ} → LendsRoom lends → (w : WholeStreamBy c lends cuts lent stream)
-      → (seconds : Seconds) × (FeedsStream seconds lent stream (w .before) (w .between .left)) × (Closes (laterAll (w .before) seconds) (w .between .left) (w .after) (w .end .left))
+      → (FeedsStream (secondsCut w) lent stream (w .before) (w .between .left)) × (Closes (laterAll (w .before) (secondsCut w)) (w .between .left) (w .after) (w .end .left))
   any-cutter {lends = lends} rooms w =
+      let f = stream-any lends rooms (w .feeds) (starts-fit s) (secondsClosed (w .closes)) in
       let g = closes-any lends rooms (w .closes) (stream-fit lends rooms (w .feeds) (starts-fit s)) in
-      let f = stream-any lends rooms (w .feeds) (starts-fit s) (g .seconds) in
-      (f .seconds, f .feeds, subst (λ n. Closes n (w .between .left) (w .after) (w .end .left)) (sym (f .behind)) (g .closes))
+      (f .0, subst (λ n. Closes n (w .between .left) (w .after) (w .end .left)) (sym (f .1)) g)
 
   -- Each of these calls has the number 0, as has every call and every finish, in any order and on any input, whatever log and places are lent and whatever the seconds are.
   pub never-refused : {l : Lent} → Called lent l → ((input : List ℕ) → callNumber l input ≡ 0) × (finishNumber l ≡ 0)

@@ -78,13 +78,17 @@ module _ {bytes : List ℕ} {books : Held} (clear : streaming.Clear bytes) (soun
       let w = stream.stream-ends clear portions in
       let f = feeds-at log room (w .feeds) books ready seconds in
       let g = closes-at log room (w .closes) (booksAll books seconds (w .before)) (feeds-ready f ready) (laterOn (w .before) seconds) in
+      let d = booksAll books seconds (w .before) in
+      let behind = laterOn (w .before) seconds in
+      let s₁ : State = record { bytes = w .bytes₁; tray = w .tray₁; books = d } in
+      let s₂ : State = record { bytes = w .bytes₂; tray = w .tray₂; books = booksAll d behind (w .after) } in
       record {
         before = toldAll books seconds (w .before);
-        between = _;
+        between = s₁;
         feeds = f;
-        after = _;
-        end = _;
-        closes = subst (λ z. Closes z _ _ _) (sym (later-told books seconds (w .before))) g;
+        after = toldAll d behind (w .after);
+        end = s₂;
+        closes = subst (λ z. Closes z s₁ (toldAll d behind (w .after)) s₂) (sym (later-told books seconds (w .before))) g;
       }
 
   -- So they do for one log that is lent again and again, and any clock.
