@@ -209,10 +209,11 @@ enum homralgyu_desk {
     HOMRALGYU_DESK                /* the room that a desk wants: 11 */
 };
 
-/* Seconds. Each frame is handed to a desk with the second it came in: a running count of seconds that the caller keeps, as of a monotonic clock,
- * and no second of the day; every number is one. A frame that the desk answers with 0 is accepted, and its second is kept; a refused one,
- * NOT_OURS too, moves none. A second earlier than the last accepted frame's counts as that one, so the second kept never falls. Before the first
- * accepted frame no time counts as passed.
+/* Seconds. Each frame is handed to a desk with the second it came in: a running count of seconds that the caller keeps, as of a clock that nobody
+ * sets and that goes on while the machine sleeps (on Linux CLOCK_BOOTTIME; CLOCK_MONOTONIC stands still then), and no second of the day; every
+ * number is one. A frame that the desk answers with 0 is accepted, and its second is kept; a refused one, NOT_OURS too, moves none. A second
+ * earlier than the last accepted frame's counts as that one, so the second kept never falls. Before the first accepted frame no time counts as
+ * passed.
  * A gap: if 450 seconds or more have passed since the last accepted frame (SF068), this one is judged and handled with an empty live book. If it
  * is accepted, the old book is gone: a GAD leaves its own areas, an HPAC message none. If it is refused, the old book stays. An open run keeps
  * its copy.
@@ -220,6 +221,11 @@ enum homralgyu_desk {
  *   - the same count goes on for as long as a desk is in use. On one that is kept over a restart of the machine or handed to another, where the
  *     count has another start, no gap is seen until the new count has caught up with the old one; where it is 450 or more ahead, a gap is seen
  *     at once. A clock that stands still while the machine sleeps does not count that time;
+ *   - a second that is too far ahead, once, is kept if its frame is accepted: later ones count as it, and no gap is seen until the count has
+ *     caught up with it, which may be never;
+ *   - every accepted frame counts, HPAC too: while HPAC messages alone keep coming, a live book is used however long ago its GAD came;
+ *   - homralgyu_prepare_call and homralgyu_prepare_finish hand a frame over with the second of the call that tells it. Behind bytes that look like
+ *     the start of a longer frame that may be a later call than the one that brought its last byte; behind a stall it counts as come after the gap;
  *   - lookup and keeping get no second: after a gap they show the old book until a frame is accepted;
  *   - a kept book that is taken before any accepted frame is used however old it is; one that is taken later is emptied 450 seconds after the
  *     last accepted frame, however new it is;

@@ -208,7 +208,7 @@ static void listen(struct job *job, const struct input *input)
     } while (tell(job));
 }
 
-/* The same with a desk. The seconds are a running count, here one a portion; a program counts those of a monotonic clock. */
+/* The same with a desk. The seconds are a running count, here one a portion; a program counts those of a clock that nobody sets. */
 static void prepare(struct job *job, const struct input *input)
 {
     uint64_t second = START;

@@ -1158,14 +1158,20 @@ impl Book {
 /// A desk: what it was made for, its live book and its run, with the bytes of both books, and the second of the last frame
 /// that it accepted.
 ///
-/// Each frame is handed in with the second it came in: a running count of seconds that the caller keeps, as of a monotonic
-/// clock, and no second of the day. If 450 or more have passed since the last accepted frame, the frame is judged and handled
-/// with an empty live book (SF068); if it is refused, the old book stays. An open run keeps its copy.
+/// Each frame is handed in with the second it came in: a running count of seconds that the caller keeps, as of a clock that
+/// nobody sets, and no second of the day. If 450 or more have passed since the last accepted frame, the frame is judged and
+/// handled with an empty live book (SF068); if it is refused, the old book stays. An open run keeps its copy, which has no
+/// second and outlives the 510 seconds of SF005.
+///
+/// Every accepted frame counts, HPAC too: while HPAC messages alone keep coming, a live book is used however long ago its
+/// GAD came.
 ///
 /// The same count goes on over the life of a desk. An earlier second counts as that of the last accepted frame. So on a desk
 /// that is kept over a restart of the machine or handed to another, where the count has another start, no gap is seen until
-/// the new count has caught up with the old one; where it is 450 or more ahead, a gap is seen at once. A clock that stands
-/// still while the machine sleeps does not count that time.
+/// the new count has caught up with the old one; where it is 450 or more ahead, a gap is seen at once. A second that is too
+/// far ahead, once, is kept if its frame is accepted, and hides gaps until the count has caught up with it, which may be
+/// never. A clock that stands still while the machine sleeps, as `std::time::Instant` does on Linux, does not count that
+/// time.
 #[derive(Clone, Debug)]
 pub struct Desk {
     numbers: [u64; 11],
@@ -1256,7 +1262,8 @@ impl Prepare {
     }
 
     /// Takes input until an event is due or all of it is used: the event, and how many bytes were used. A frame that it tells
-    /// is handed to the desk with this second, of the caller's running count as `Desk` says.
+    /// is handed to the desk with this second, of the caller's running count as `Desk` says. A frame may be told by a later
+    /// call than the one that brought its last byte; it then has the later second.
     pub fn call(&mut self, input: &[u8], second: u64) -> Result<(Prepared, usize), Refusal> {
         let (mut told, mut header) = ([0; 5], [0; 15]);
         let number = raw::prepare_call(

@@ -223,9 +223,12 @@ module _ (handed : Handed) (w : deskSound (handed .desk) (handed .live) (handed 
   gap-opens tag message q =
       let s : frameTaken handed ≡ settledBy (handed .desk) (handed .second) (handed .live) (handed .run) (handed .log) (opens tag message)
       = ap (settledBy (handed .desk) (handed .second) (handed .live) (handed .run) (handed .log)) q in
-      let b : handling (handed .desk) (handed .second) .book ≡ noBook = ap (λ d. d .book) handles-empty in
-      (ap (λ x. x .answer .desk .book) s ∙ b, ap (λ x. x .live) s, ap (λ x. x .answer .desk .run) s ∙ ap (Open tag) b,
-      ap (λ x. x .run) s ∙ ap (λ d. runBytesBy d (handed .live) (handed .run) (opens tag message)) handles-empty)
+      let b : handling (handed .desk) (handed .second) .book ≡ noBook = ap (λ d. d .book) handles-empty in (
+        ap (λ x. x .answer .desk .book) s ∙ b,
+        ap (λ x. x .live) s,
+        ap (λ x. x .answer .desk .run) s ∙ ap (Open tag) b,
+        ap (λ x. x .run) s ∙ ap (λ d. runBytesBy d (handed .live) (handed .run) (opens tag message)) handles-empty,
+      )
 
   -- Its log begins with a run on no book, "1, tag, 0, 0"; every area of it is left out for reason 1 (`no-book-reason`).
   pub gap-opens-log : (tag : ℕ) (message : Hpac) → verdict handed ≡ opens tag message

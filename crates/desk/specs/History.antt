@@ -1,4 +1,5 @@
--- Definitions to believe: a desk that is given frames and kept books one after the other, and the live book as it was when the open run was opened.
+-- Definitions to believe: a desk that is given frames and kept books one after the other, and the live book as it was when the open run was opened. That is, here and wherever these
+-- words stand, the live book as the frame that opened the run was handled with: after a gap an empty one.
 use mathlib.Core.Path.{_≡_}
 use mathlib.Core.Bool.{Bool, true, false}
 use mathlib.Core.List.{List, [], _∷_, _++_}
@@ -28,7 +29,8 @@ abbrev pub verdictOn : Held → Given → Verdict
 verdictOn held (frameWith frame second log) = verdict (hands (held .desk) frame second (held .live) (held .run) log)
 verdictOn held (keptBook book bytes) = bookVerdict (handsBook (held .desk) book bytes (held .live) (held .run))
 
--- the desk with its books as a verdict handles with: after a gap an accepted frame is handled with an empty live book (`leaving` of Take.antt)
+-- the desk with its books from which a verdict leaves what it leaves (`leaving` of Take.antt): of a frame that is taken, the desk by which it was handled, after a gap one with an
+-- empty live book, with the frame's second; of one that is refused, the desk as it was
 abbrev pub handledAt : Held → (second : ℕ) → Verdict → Held
 handledAt held second v = record { desk = leaving (held .desk) second v; live = held .live; run = held .run }
 

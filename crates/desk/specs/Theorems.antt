@@ -224,12 +224,16 @@ module _ (held : Held) (book : Book) (bytes : List ℕ) (frame : List ℕ) (seco
     where
       go : (given : Given) → Fits (handledBy held given (defines book bytes) .desk) (handledBy held given (defines book bytes) .live) (handledBy held given (defines book bytes) .run) (defines book bytes)
           → Unchanged (heldBy (handledBy held given (defines book bytes)) (defines book bytes))
-      go (frameWith f s l) (new-areas r w) =
-          (still-continues runBook message (held .desk) (held .live) (held .run) book bytes (At (counted (held .desk .last) s))
-          (sound-by (handledAt held s (defines book bytes)) (r .state) (defines book bytes) (new-areas r w)) frame second log q, refl)
-      go (keptBook b s) (new-areas r w) =
-          (still-continues runBook message (held .desk) (held .live) (held .run) book bytes (held .desk .last)
-          (sound-by held (r .state) (defines book bytes) (new-areas r w)) frame second log q, refl)
+      go (frameWith f s l) (new-areas r w) = (
+        still-continues runBook message (held .desk) (held .live) (held .run) book bytes (At (counted (held .desk .last) s))
+            (sound-by (handledAt held s (defines book bytes)) (r .state) (defines book bytes) (new-areas r w)) frame second log q,
+        refl,
+      )
+      go (keptBook b s) (new-areas r w) = (
+        still-continues runBook message (held .desk) (held .live) (held .run) book bytes (held .desk .last)
+            (sound-by held (r .state) (defines book bytes) (new-areas r w)) frame second log q,
+        refl,
+      )
 
 -- ---- what the log places is what the lookup shows
 

@@ -58,7 +58,8 @@ unfoldable pub laterAll : List Heard → Seconds → Seconds
 laterAll [] seconds = seconds
 laterAll (heard ∷ rest) seconds = laterAll rest (laterBy heard seconds)
 
--- ---- where only results are put: the log, the places for what is told, and those for a header. Between two calls other slices may be lent for them, and the second goes on
+-- ---- where only results are put: the log, the places for what is told, and those for a header. Between two calls other slices may be lent for them, and another
+-- second handed
 
 pub record Rooms (log told header : List ℕ) : Type 0 where
   pub log-room : logRoom ≤ length log

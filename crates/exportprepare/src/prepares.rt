@@ -152,7 +152,7 @@ fn finish(
     prepare::finish(bytes, held, kept, live, run, log, second)
 }
 
-// A portion of the stream, whose frames go to the desk at this second; one event a call.
+// A portion of the stream; one event a call. A frame that is told goes to the desk with this second.
 #[no_mangle]
 pub extern "C" fn homralgyu_prepare_call(
     bytes: &mut [u8],
@@ -176,7 +176,7 @@ pub extern "C" fn homralgyu_prepare_call(
     tell(answer, tray, desk, told, header)
 }
 
-// The stream's end; called until done.
+// The stream's end; called until done. A frame that is told goes to the desk with this second.
 #[no_mangle]
 pub extern "C" fn homralgyu_prepare_finish(
     bytes: &mut [u8],

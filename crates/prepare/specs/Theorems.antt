@@ -213,7 +213,7 @@ module _ (books : Held) (sound : Sound books) (header : Frame) (second : ℕ) (b
   abbrev handed : desk.Handed
   handed = desk.hands (books .desk) bytes second (books .live) (books .run) log
 
-  -- the desk with its books as a verdict handles with
+  -- the desk with its books from which a verdict leaves what it leaves
   abbrev by : desk.Verdict → Held
   by v = handledAt books second v
 

@@ -22,7 +22,7 @@ pub data Told : Type 0 where
 unfoldable pub verdictOn : Held → (second : ℕ) → (bytes : List ℕ) → desk.Verdict
 verdictOn books second bytes = desk.byFrame (desk.handling (books .desk) second) (books .live) (checked bytes) bytes
 
--- the desk with its books as the frame is handled with
+-- the desk with its books from which the frame's verdict leaves what it leaves (`handledAt` of the desk)
 abbrev pub handledOn : Held → (second : ℕ) → (bytes : List ℕ) → Held
 handledOn books second bytes = handledAt books second (verdictOn books second bytes)
 
@@ -47,7 +47,7 @@ booksAfter books second (stream.noise count) = books
 
 -- ---- events in order, each frame with its second
 
--- frame i of the stream, counted from 0, came in at `seconds i`
+-- frame i of the stream, or of what is left of it, counted from 0, came in at `seconds i`
 abbrev pub Seconds : Type 0
 Seconds = ℕ → ℕ
 

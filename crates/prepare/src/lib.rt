@@ -229,8 +229,8 @@ fn hear_finish(
     step(heard, bytes, desk, live, run, log, second)
 }
 
-// Takes a portion and the second, and moves stream and desk one event on: a frame that is told comes in at that second. Where the tray is not sound the stream refuses with the same number as the desk would, so
-// neither is tested twice.
+// Takes a portion and the second, and moves stream and desk one event on: a frame that is told comes in at that second. Where the tray is not sound the stream
+// refuses with the same number as the desk would, so neither is tested twice.
 pub fn call(
     bytes: &mut [u8],
     tray: Tray,

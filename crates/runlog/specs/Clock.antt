@@ -5,7 +5,7 @@ use Prim.Native.Nat.{ℕ, _+_, _*_, _-_}
 use lib.Dec.{ltb}
 use Rattle.runlog.specs.Command.{isDigit}
 
--- digits behind the number n, up to 18 of them
+-- digits behind the number n, as long as it stays below 10^18
 unfoldable pub secondFrom : List ℕ → (n : ℕ) → ℕ
 secondFrom [] n = n
 secondFrom (x ∷ rest) n = cond (isDigit x && ltb n 100000000000000000) (secondFrom rest (10 * n + (x - 48))) n

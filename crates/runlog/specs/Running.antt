@@ -1,5 +1,6 @@
 -- Definitions to believe: what the program does. It reads until nothing comes, the log no longer goes out, or its 2^64 - 1 turns are used up, tells each portion that came, and
--- then the stream's end (Telling.antt). Each portion, and the end, is told at the second that the machine's monotonic clock gives then; of which second that is nothing is promised.
+-- then the stream's end (Telling.antt). Each portion, and the end, is told at the second that /proc/uptime gives then (Clock.antt); of which second that is nothing is
+-- promised.
 use mathlib.Core.Path.{_≡_}
 use mathlib.Core.Bool.{Bool, false, _&&_}
 use mathlib.Core.Logic.{_⊎_}
@@ -33,7 +34,7 @@ unfoldable pub toldIn : {raw : Bool} {s s₁ : State} {o o₁ : List ℕ} {ps : 
 toldIn Reads.no-more = []
 toldIn (Reads.a-portion second at told rest) = told .told ++ toldIn rest
 
--- the seconds of the frames told, each that of its portion, and then those behind them
+-- the seconds of the frames told, each that of the portion on which it was told, and then those behind them
 unfoldable pub secondsIn : {raw : Bool} {s s₁ : State} {o o₁ : List ℕ} {ps : List (List ℕ)} → Reads raw s o ps s₁ o₁ → (behind : Seconds) → Seconds
 secondsIn Reads.no-more behind = behind
 secondsIn (Reads.a-portion second at told rest) behind = allThen (told .told) second (secondsIn rest behind)

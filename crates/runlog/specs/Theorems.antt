@@ -1,5 +1,5 @@
 -- Theorems: with `raw` the program's bytes are the run log of the uncut stream: those that go out (Outgoing.antt), portion after portion and at the end, are those that document 01 lays down for the
--- portions that were told, joined, their frames at the seconds of the portions, by the desk that the command line asked for, however they are cut. In words they are the lines of this run log's entries, as they are defined for the uncut stream.
+-- portions that were told, joined, their frames at their seconds (`secondsOf`), by the desk that the command line asked for, however they are cut. In words they are the lines of this run log's entries, as they are defined for the uncut stream.
 -- Proved.
 use mathlib.Core.Path.{_≡_, refl, sym, ap, ap₂, _∙_, subst}
 use mathlib.Core.Bool.{Bool, true, false}
@@ -101,7 +101,7 @@ module _ {raw : Bool} {books : Held} {bytes out bytes₂ live₂ run₂ out₂ :
     closes = subst (λ z. Closes z (a .state₁) (a .closes .ends .told) (stateOf bytes₂ (a .closes .tray′) (a .closes .desk′) live₂ run₂)) (sym (behind-all (a .reads) (always (a .closes .second′)))) (a .closes .ends .closes);
   }
 
-  -- What is told is what is told of the uncut stream, its frames at the seconds at which their portions were read.
+  -- What is told is what is told of the uncut stream, its frames at the seconds of the portions on which they were told, or of the end (`secondsOf`).
   pub told-uncut : toldIn (a .reads) ++ a .closes .ends .told ≡ uncutTold books seconds (flatten (a .portions))
   told-uncut = prepared clear sound whole .0
 

@@ -25,8 +25,8 @@ fn second_in(text: &[u8]) -> u64
     n
 }
 
-// The second now: what the system says that it has been up, in whole seconds, or 0 where it does not say it; the desk counts 0 as the last accepted frame's. Which
-// second it is nothing promises. (`clock_gettime` lends a struct, which the borrow checker does not cover.)
+// The second now: what the system says that it has been up, in whole seconds, or 0 where it does not say it; behind an accepted frame the desk counts 0 as that
+// frame's second, before the first one 0 is kept. Which second it is nothing promises. (`clock_gettime` lends a struct, which the borrow checker does not cover.)
 pub fn second_now() -> u64 {
     let file = os::open_read(b"/proc/uptime");
     if file < 0 {
