@@ -7,7 +7,8 @@
  *   - the pointer is not null, even for 0 elements, and is aligned for its elements;
  *   - so many elements with values lie there, and no other thread writes to them, or reads those that the call may write, while the call runs;
  *   - two slices of a call do not overlap if the call may write to one of them.
- * Everything else is tested, but for what the seconds mean that a desk is handed (see there): there is no other way to call these functions wrongly.
+ * Everything else is tested, except what the seconds mean that a desk is handed (see "Seconds" below): there is no other way to call these functions
+ * wrongly.
  *
  * A call writes inside the slices that it may write to and nowhere else. A slice under its stated size is ROOM, unless the call says
  * otherwise; a longer one is fine, its surplus is neither read nor written. A refusal (a number other than 0) changes nothing. On
@@ -210,10 +211,10 @@ enum homralgyu_desk {
 };
 
 /* Seconds. Each frame is handed to a desk with the second it came in: a running count of seconds that the caller keeps, as of a clock that nobody
- * sets and that goes on while the machine sleeps (on Linux CLOCK_BOOTTIME; CLOCK_MONOTONIC stands still then), and no second of the day; every
- * number is one. A frame that the desk answers with 0 is accepted, and its second is kept; a refused one, NOT_OURS too, moves none. A second
- * earlier than the last accepted frame's counts as that one, so the second kept never falls. Before the first accepted frame no time counts as
- * passed.
+ * sets and that goes on while the machine sleeps (on Linux CLOCK_BOOTTIME; CLOCK_MONOTONIC stands still then), and no second of the day. Any
+ * 64-bit number will do. A frame that the desk answers with 0 is accepted, and its second is kept; a refused one, NOT_OURS too, moves none. A
+ * second earlier than the last accepted frame's counts as that one, so the second kept never falls. Before the first accepted frame no time
+ * counts as passed.
  * A gap: if 450 seconds or more have passed since the last accepted frame (SF068), this one is judged and handled with an empty live book. If it
  * is accepted, the old book is gone: a GAD leaves its own areas, an HPAC message none. If it is refused, the old book stays. An open run keeps
  * its copy.
@@ -227,11 +228,12 @@ enum homralgyu_desk {
  *   - homralgyu_prepare_call and homralgyu_prepare_finish hand a frame over with the second of the call that tells it. Behind bytes that look like
  *     the start of a longer frame that may be a later call than the one that brought its last byte; behind a stall it counts as come after the gap;
  *   - lookup and keeping get no second: after a gap they show the old book until a frame is accepted;
- *   - a kept book that is taken before any accepted frame is used however old it is; one that is taken later is emptied 450 seconds after the
- *     last accepted frame, however new it is;
- *   - the copy of an open run has no second: it outlives the 510 seconds of SF005. */
+ *   - a kept book that is taken before any accepted frame is used however old it is; one that is taken later counts as old as the last accepted
+ *     frame: if the next accepted one comes 450 seconds or more after that, the book is emptied, however new it is;
+ *   - the copy of an open run has no second: a message of its tag is told by it after any outage, also one of 510 seconds, after which SF005 has
+ *     the solution taken as changed, and one of twelve hours, after which the tag comes round. */
 
-/* A new desk, without a book and without a run; its books' bytes may be anything.
+/* A new desk, without a book, a run and a last accepted frame; its books' bytes may be anything.
  * Refusals in order: ROOM (desk, 11), FIELD (solution over 127, processor over 15, constellation over 4).
  * Writes the desk. */
 uint8_t homralgyu_desk_new(uint8_t solution, uint8_t processor, uint8_t constellation, uint64_t *desk, size_t desk_len);

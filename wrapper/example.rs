@@ -87,6 +87,7 @@ fn desk() -> Result<(), Refusal> {
 }
 
 /// A message that opens a run, 449 seconds behind the definition and 450, which is a gap; and a frame that is cut, after a gap.
+/// The seconds are a running count that the caller keeps, and no second of the day.
 fn gap(definition: &[u8], message: &[u8]) -> Result<(), Refusal> {
     let mut log = [0; homralgyu::LOG_ROOM];
     let mut desk = Desk::new(5, 11, 0)?;

@@ -1160,8 +1160,10 @@ impl Book {
 ///
 /// Each frame is handed in with the second it came in: a running count of seconds that the caller keeps, as of a clock that
 /// nobody sets, and no second of the day. If 450 or more have passed since the last accepted frame, the frame is judged and
-/// handled with an empty live book (SF068); if it is refused, the old book stays. An open run keeps its copy, which has no
-/// second and outlives the 510 seconds of SF005.
+/// handled with an empty live book (SF068); if it is refused, the old book stays. Before the first accepted frame no time
+/// counts as passed. An open run keeps its copy, which has no second: a message of its tag is told by it after any outage,
+/// also one of 510 seconds, after which SF005 has the solution taken as changed, and one of twelve hours, after which the tag
+/// comes round.
 ///
 /// Every accepted frame counts, HPAC too: while HPAC messages alone keep coming, a live book is used however long ago its
 /// GAD came.
@@ -1180,7 +1182,7 @@ pub struct Desk {
 }
 
 impl Desk {
-    /// A desk for one solution, processor and constellation (0 GPS to 4 QZSS), without a book and without a run.
+    /// A desk for one solution, processor and constellation (0 GPS to 4 QZSS), without a book, a run and a last accepted frame.
     pub fn new(solution: u8, processor: u8, constellation: u8) -> Result<Desk, Refusal> {
         let mut desk = Desk { numbers: [0; 11], live: [0; BOOK_BYTES], run: [0; BOOK_BYTES] };
         answer(raw::desk_new(solution, processor, constellation, &mut desk.numbers), ())?;
@@ -1210,7 +1212,8 @@ impl Desk {
 
     /// Takes a book, as one that was kept, as the live book; an open run stays as it is, and so does the second of the last
     /// accepted frame. A book taken before any frame was accepted is used however old it is, since no frame has dated it;
-    /// one taken later is emptied 450 seconds after the last accepted frame, however new it is.
+    /// one taken later counts as old as the last accepted frame: if the next accepted one comes 450 seconds or more after
+    /// that, the book is emptied, however new it is.
     pub fn take_book(&mut self, book: &Book) -> Result<(), Refusal> {
         let number =
             raw::desk_take_book(&mut self.numbers, &mut self.live, &self.run, &book.numbers, &book.bytes);
@@ -1263,7 +1266,8 @@ impl Prepare {
 
     /// Takes input until an event is due or all of it is used: the event, and how many bytes were used. A frame that it tells
     /// is handed to the desk with this second, of the caller's running count as `Desk` says. A frame may be told by a later
-    /// call than the one that brought its last byte; it then has the later second.
+    /// call than the one that brought its last byte; it then has the later second, and behind a stall it counts as come after
+    /// the gap.
     pub fn call(&mut self, input: &[u8], second: u64) -> Result<(Prepared, usize), Refusal> {
         let (mut told, mut header) = ([0; 5], [0; 15]);
         let number = raw::prepare_call(
