@@ -156,23 +156,23 @@ settled-said desk second answer = go (answer .said)
     go (said.Accepted log) = refl
     go (said.Refused why) = refl
 
+-- the same desk with an empty live book
+abbrev pub emptied : Handed → Desk
+emptied handed = deskWith (handed .desk) noBook (handed .desk .run)
+
+abbrev pub fromEmpty : Handed → Handed
+fromEmpty handed = hands (emptied handed) (handed .frame) (handed .second) (handed .live) (handed .run) (handed .log)
+
 module _ (handed : Handed) (w : deskSound (handed .desk) (handed .live) (handed .run) ≡ true) (e : isGap (handed .desk .last) (handed .second) ≡ true) where
-  -- the same desk with an empty live book
-  abbrev pub emptied : Desk
-  emptied = deskWith (handed .desk) noBook (handed .desk .run)
-
-  abbrev pub fromEmpty : Handed
-  fromEmpty = hands emptied (handed .frame) (handed .second) (handed .live) (handed .run) (handed .log)
-
-  handles-empty : handling (handed .desk) (handed .second) ≡ emptied
+  handles-empty : handling (handed .desk) (handed .second) ≡ emptied handed
   handles-empty = ap (λ b. deskWith (handed .desk) (cond b noBook (handed .desk .book)) (handed .desk .run)) e
 
-  empty-is-sound : deskSound emptied (handed .live) (handed .run) ≡ true
+  empty-is-sound : deskSound (emptied handed) (handed .live) (handed .run) ≡ true
   empty-is-sound =
       subst (λ d. deskSound d (handed .live) (handed .run) ≡ true) handles-empty (handling-sound (handed .desk) (handed .second) (handed .live) (handed .run) w)
 
   -- The verdict is document 01's of the same desk with an empty live book ..
-  pub gap-verdict : verdict handed ≡ plainVerdict fromEmpty
+  pub gap-verdict : verdict handed ≡ plainVerdict (fromEmpty handed)
   unfolding verdict plainVerdict
   gap-verdict =
       rw (w, empty-is-sound)
@@ -180,28 +180,28 @@ module _ (handed : Handed) (w : deskSound (handed .desk) (handed .live) (handed 
       handles-empty)
 
   -- .. and so is all that is answered and left, refusals included; the second is kept if the frame is accepted, and beside a refusal the desk is as lent.
-  pub gap : frameTaken handed ≡ withSecond (handed .desk) (handed .second) (plainTaken fromEmpty)
+  pub gap : frameTaken handed ≡ withSecond (handed .desk) (handed .second) (plainTaken (fromEmpty handed))
   unfolding frameTaken plainTaken
   gap =
       sym (settled-is (handed .desk) (handed .second) (handed .live) (handed .run) (handed .log) (verdict handed))
       ∙ ap (λ d. withSecond (handed .desk) (handed .second) (resultBy d (handed .live) (handed .run) (handed .log) (verdict handed))) handles-empty
-      ∙ ap (λ v. withSecond (handed .desk) (handed .second) (resultBy emptied (handed .live) (handed .run) (handed .log) v)) gap-verdict
+      ∙ ap (λ v. withSecond (handed .desk) (handed .second) (resultBy (emptied handed) (handed .live) (handed .run) (handed .log) v)) gap-verdict
 
   -- So number and log are those of that desk,
-  pub gap-said : frameTaken handed .answer .said ≡ plainTaken fromEmpty .answer .said
-  gap-said = ap (λ x. x .answer .said) gap ∙ settled-said (handed .desk) (handed .second) (plainTaken fromEmpty .answer)
+  pub gap-said : frameTaken handed .answer .said ≡ plainTaken (fromEmpty handed) .answer .said
+  gap-said = ap (λ x. x .answer .said) gap ∙ settled-said (handed .desk) (handed .second) (plainTaken (fromEmpty handed) .answer)
 
-  pub gap-log : frameTaken handed .log ≡ plainTaken fromEmpty .log
+  pub gap-log : frameTaken handed .log ≡ plainTaken (fromEmpty handed) .log
   gap-log = ap (λ x. x .log) gap
 
   -- and what is left is what that desk leaves, with the second, if the frame is accepted. (If it is refused all is as lent: `all-as-lent`.)
-  pub gap-accepted : (n : ℕ) → plainTaken fromEmpty .answer .said ≡ said.Accepted n
+  pub gap-accepted : (n : ℕ) → plainTaken (fromEmpty handed) .answer .said ≡ said.Accepted n
       → frameTaken handed
-      ≡ results (record { said = said.Accepted n; desk = dated (plainTaken fromEmpty .answer .desk) (At (counted (handed .desk .last) (handed .second))) })
-      (plainTaken fromEmpty .live) (plainTaken fromEmpty .run) (plainTaken fromEmpty .log)
+      ≡ results (record { said = said.Accepted n; desk = dated (plainTaken (fromEmpty handed) .answer .desk) (At (counted (handed .desk .last) (handed .second))) })
+      (plainTaken (fromEmpty handed) .live) (plainTaken (fromEmpty handed) .run) (plainTaken (fromEmpty handed) .log)
   gap-accepted n a =
       gap
-      ∙ ap (λ s. results (settledAs (handed .desk) (handed .second) s (plainTaken fromEmpty .answer .desk)) (plainTaken fromEmpty .live) (plainTaken fromEmpty .run) (plainTaken fromEmpty .log)) a
+      ∙ ap (λ s. results (settledAs (handed .desk) (handed .second) s (plainTaken (fromEmpty handed) .answer .desk)) (plainTaken (fromEmpty handed) .live) (plainTaken (fromEmpty handed) .run) (plainTaken (fromEmpty handed) .log)) a
 
   -- ---- what that is
 
@@ -248,11 +248,11 @@ module _ (handed : Handed) (w : deskSound (handed .desk) (handed .live) (handed 
     abbrev payload : List ℕ
     payload = payloadIn header (handed .frame)
 
-    judged : byFrame emptied (handed .live) (checked (handed .frame)) (handed .frame) ≡ byPayload emptied (handed .live) header payload (judging 2 0 payload)
+    judged : byFrame (emptied handed) (handed .live) (checked (handed .frame)) (handed .frame) ≡ byPayload (emptied handed) (handed .live) header payload (judging 2 0 payload)
     unfolding byHeader
     judged =
-        let rest : layout.Outcome Message → Verdict = λ x. byPayload emptied (handed .live) header payload x in
-        ap (λ x. byFrame emptied (handed .live) x (handed .frame)) c
+        let rest : layout.Outcome Message → Verdict = λ x. byPayload (emptied handed) (handed .live) header payload x in
+        ap (λ x. byFrame (emptied handed) (handed .live) x (handed .frame)) c
         ∙ ap (λ b. stop (not b) (refused refusal.NotOurs) (stop (isSealed (header .seal)) (refused refusal.Sealed) (rest (judging (header .«message_type») (header .subtype) payload)))) o
         ∙ ap (λ b. stop b (refused refusal.Sealed) (rest (judging (header .«message_type») (header .subtype) payload))) p
         ∙ ap₂ (λ x y. rest (judging x y payload)) k z
@@ -263,9 +263,9 @@ module _ (handed : Handed) (w : deskSound (handed .desk) (handed .live) (handed 
         let h : bookBytes ≤ length (handed .live) = has-room (handed .live) (handed .run) (handed .log) room .live-room in
         let n : outcome noBook (handed .live) payload ≡ fromNone = from-none (handed .live) payload h message codes bits r in
         gap-verdict
-        ∙ ap₂ (λ a b. stop a (refused refusal.Room) (stop (not b) (refused refusal.State) (byFrame emptied (handed .live) (checked (handed .frame)) (handed .frame)))) room empty-is-sound
+        ∙ ap₂ (λ a b. stop a (refused refusal.Room) (stop (not b) (refused refusal.State) (byFrame (emptied handed) (handed .live) (checked (handed .frame)) (handed .frame)))) room empty-is-sound
         ∙ judged
-        ∙ ap (byPayload emptied (handed .live) header payload) r
+        ∙ ap (byPayload (emptied handed) (handed .live) header payload) r
         ∙ ap₂ (λ x y. byBook (answerOf x (reading y (λ m. m .aiou) (λ why. 0))) (leftBy x (handed .live))) n r
 
 -- A message of the open run is one after a gap as without: told by the run's copy.
@@ -277,6 +277,16 @@ still-the-run handed book message q =
     let b = past book message (not (deskSound (handed .desk) (handed .live) (handed .run))) refusal.State rest (a .1) in
     rw (a .0, b .0)
     (on-frame book message (handed .desk) (handed .live) (handling (handed .desk) (handed .second) .book) (handed .live) (handed .desk .last) (handed .frame) (checked (handed .frame)) (b .1))
+
+-- So number and log are what they are without a gap.
+pub still-told : (handed : Handed) (book : Book) (message : Hpac) → plainVerdict handed ≡ continues book message
+    → (frameTaken handed .answer .said ≡ plainTaken handed .answer .said) × (frameTaken handed .log ≡ plainTaken handed .log)
+unfolding frameTaken plainTaken loggedBy
+still-told handed book message q =
+    let leaves : Verdict → Result = settledBy (handed .desk) (handed .second) (handed .live) (handed .run) (handed .log) in
+    let plain : Verdict → Result = resultBy (handed .desk) (handed .live) (handed .run) (handed .log) in
+    let e = still-the-run handed book message q in
+    (ap (λ v. leaves v .answer .said) e ∙ sym (ap (λ v. plain v .answer .said) q), ap (λ v. leaves v .log) e ∙ sym (ap (λ v. plain v .log) q))
 
 -- Where there is no book every area is left out for reason 1.
 pub no-book-reason : (bytes : List ℕ) (aiou : ℕ) (area : Area) → reasonOf noBook bytes aiou area ≡ 1
