@@ -58,6 +58,15 @@ unfoldable pub laterAll : List Heard → Seconds → Seconds
 laterAll [] seconds = seconds
 laterAll (heard ∷ rest) seconds = laterAll rest (laterBy heard seconds)
 
+-- how many frames were heard
+abbrev pub counting : Heard → ℕ → ℕ
+counting (frame header bytes number entries) more = suc more
+counting (noise count) more = more
+
+unfoldable pub framesIn : List Heard → ℕ
+framesIn [] = 0
+framesIn (heard ∷ rest) = counting heard (framesIn rest)
+
 -- ---- where only results are put: the log, the places for what is told, and those for a header. Between two calls other slices may be lent for them, and another
 -- second handed
 

@@ -198,10 +198,10 @@ module _ (lends : Lender) (rooms : LendsRoom lends) where
       go : ((p : List ℕ) (x : Point) → Fit (x .left) → length (toTell (x .left) p) < n → FedTo c x (p ∷ ps)) → CallSteps l p → FedTo c x (p ∷ ps)
       go again (an-event h k m) =
           let e = simp append-nil at (m []) in
-          let d = again (drop (usedIn (called lends x p)) p) (point (x .heard ++ h ∷ []) (called lends x p)) (call-fit l g p) (omega (arith, few, e)) in
+          let d = again (drop (usedIn (called lends x p)) p) (point (suc (x .calls)) (x .heard ++ h ∷ []) (called lends x p)) (call-fit l g p) (omega (arith, few, e)) in
           record { heard = h ∷ d .heard; end₁ = d .end₁; feeds = FeedsBy.an-event (call-is-zero l g p) k (d .feeds); fit = d .fit }
       go again (all-used k m) =
-          let d = more (point (x .heard) (called lends x p)) (call-fit l g p) in
+          let d = more (point (suc (x .calls)) (x .heard) (called lends x p)) (call-fit l g p) in
           record { heard = d .heard; end₁ = d .end₁; feeds = FeedsBy.all-used (call-is-zero l g p) k (d .feeds); fit = d .fit }
 
   pub feeds-end : {c : Caller} (portions : List (List ℕ)) (x : Point) → Fit (x .left) → FedTo c x portions
@@ -220,9 +220,9 @@ module _ (lends : Lender) (rooms : LendsRoom lends) where
 
       go : ((x : Point) → Fit (x .left) → length (toTell (x .left) []) < n → ClosedTo x) → FinishSteps l → ClosedTo x
       go again (an-event h k m) =
-          let d = again (point (x .heard ++ h ∷ []) (finished lends x)) (finish-fit l g) (omega (arith, few, m)) in
+          let d = again (point (suc (x .calls)) (x .heard ++ h ∷ []) (finished lends x)) (finish-fit l g) (omega (arith, few, m)) in
           record { heard = h ∷ d .heard; end₁ = d .end₁; closes = ClosesBy.an-event (finish-is-zero l g) k (d .closes) }
-      go again (is-done k) = record { heard = []; end₁ = point (x .heard) (finished lends x); closes = ClosesBy.is-done (finish-is-zero l g) k }
+      go again (is-done k) = record { heard = []; end₁ = point (suc (x .calls)) (x .heard) (finished lends x); closes = ClosesBy.is-done (finish-is-zero l g) k }
 
   pub closes-end : (x : Point) → Fit (x .left) → ClosedTo x
   closes-end x f = closes-in (suc (length (toTell (x .left) []))) x f (omega arith)
@@ -258,13 +258,13 @@ module _ (lends : Lender) (rooms : LendsRoom lends) where
         go (an-event h k m) =
             let less = on-used l p (call-is-zero l g p) h k .1 in
             let e = whole ∙ m (drop (cuts x rest) rest) ∙ ap (λ s. suc (length (toTell l₁ s))) (left-behind (cuts x rest) rest u less) in
-            let d = again (drop u rest) (point (x .heard ++ h ∷ []) l₁) (call-fit l g p) (omega (arith, few, e, awake-most (eventIn l₁), length-drop u rest)) in
+            let d = again (drop u rest) (point (suc (x .calls)) (x .heard ++ h ∷ []) l₁) (call-fit l g p) (omega (arith, few, e, awake-most (eventIn l₁), length-drop u rest)) in
             record { heard = h ∷ d .heard; end₁ = d .end₁; feeds = FeedsStreamBy.an-event (call-is-zero l g p) k (d .feeds); fit = d .fit }
         go (all-used k m) =
             let all = all-of-it l p (call-is-zero l g p) k in
             let e = whole ∙ m (drop (cuts x rest) rest) ∙ ap (λ s. length (toTell l₁ s)) (behind-all (cuts x rest) rest u all) in
             let less = fewer (eventIn (x .left)) u rest (λ z. (omega (arith, all, some-handed (cuts x rest) rest (gives x rest z (w z)) (w z)), w z)) in
-            let d = again (drop u rest) (point (x .heard) l₁) (call-fit l g p) (omega (arith, few, e, less, ap awake k)) in
+            let d = again (drop u rest) (point (suc (x .calls)) (x .heard) l₁) (call-fit l g p) (omega (arith, few, e, less, ap awake k)) in
             record { heard = d .heard; end₁ = d .end₁; feeds = FeedsStreamBy.all-used (call-is-zero l g p) k (d .feeds); fit = d .fit }
 
     stop-or-call : (rest : List ℕ) (x : Point) → ((rest ≡ []) × MayStop c x) ⊎ (eventIn (x .left) ≡ 0 → 1 ≤ length rest)

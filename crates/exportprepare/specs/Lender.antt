@@ -1,9 +1,9 @@
 -- Definitions to believe: the calls of Driver.antt, with the one who lends the slices where only results are put and says the second, and the one who cuts what is left of a
--- stream. What a call is lent and handed may depend on all that was heard before it, and on all that the last call left. So the same slices may be lent again and again, and any
--- clock may give the seconds.
+-- stream. What a call is lent and handed may depend on how many calls were made, on all that was heard before it, and on all that the last call left. So the same slices may be lent
+-- again and again, and any clock may give the seconds, read anew for each call.
 use mathlib.Core.Path.{_≡_}
 use mathlib.Core.List.{List, [], _∷_, _++_}
-use Prim.Native.Nat.{ℕ, _≤_}
+use Prim.Native.Nat.{ℕ, suc, _≤_}
 use lib.ListN.{length, take, drop}
 use Rattle.stream.specs.Driver.{Caller, waits, hurries, GoesOn}
 use Rattle.prepare.specs.Uncut.{Seconds}
@@ -11,13 +11,14 @@ use Rattle.prepare.specs.Lender.{secondThen}
 use Rattle.exportprepare.specs.Prepares.{Lent, callNumber, callLeaves, finishNumber, finishLeaves}
 use Rattle.exportprepare.specs.Driver.{Heard, frame, noise, eventIn, usedIn, Hears, Rooms, lentAnew}
 
--- between two calls: all that was heard so far, and all that the last call left; before the first, what there is to lend
+-- between two calls: how many were made, all that was heard so far, and all that the last call left; before the first, what there is to lend
 pub record Point : Type 0 where
+  pub calls : ℕ
   pub heard : List Heard
   pub left : Lent
 
-abbrev pub point : (heard : List Heard) → (left : Lent) → Point
-point heard left = record { heard = heard; left = left }
+abbrev pub point : (calls : ℕ) → (heard : List Heard) → (left : Lent) → Point
+point calls heard left = record { calls = calls; heard = heard; left = left }
 
 -- ---- who lends the log, the places for what is told, and those for a header, and says the second
 
@@ -86,11 +87,11 @@ pub data FeedsBy (c : Caller) (lends : Lender) : Point → List (List ℕ) → L
   no-more : {x : Point} → FeedsBy c lends x [] [] x
   an-event : {x x₁ : Point} {p : List ℕ} {ps : List (List ℕ)} {h : Heard} {hs : List Heard} → callAnswers lends x p ≡ 0
       → Hears (called lends x p) h
-      → FeedsBy c lends (point (x .heard ++ h ∷ []) (called lends x p)) (drop (usedIn (called lends x p)) p ∷ ps) hs x₁
+      → FeedsBy c lends (point (suc (x .calls)) (x .heard ++ h ∷ []) (called lends x p)) (drop (usedIn (called lends x p)) p ∷ ps) hs x₁
       → FeedsBy c lends x (p ∷ ps) (h ∷ hs) x₁
   all-used : {x x₁ : Point} {p : List ℕ} {ps : List (List ℕ)} {hs : List Heard} → callAnswers lends x p ≡ 0
       → eventIn (called lends x p) ≡ 0
-      → FeedsBy c lends (point (x .heard) (called lends x p)) ps hs x₁
+      → FeedsBy c lends (point (suc (x .calls)) (x .heard) (called lends x p)) ps hs x₁
       → FeedsBy c lends x (p ∷ ps) hs x₁
   passed-over : {x x₁ : Point} {ps : List (List ℕ)} {hs : List Heard} → GoesOn c → FeedsBy c lends x ps hs x₁ → FeedsBy c lends x ([] ∷ ps) hs x₁
 
@@ -98,25 +99,25 @@ pub data FeedsStreamBy (c : Caller) (lends : Lender) (cuts : Cutter) : Point →
   no-more : {x : Point} → MayStop c x → FeedsStreamBy c lends cuts x [] [] x
   an-event : {x x₁ : Point} {rest : List ℕ} {h : Heard} {hs : List Heard} → callAnswers lends x (portionAt cuts x rest) ≡ 0
       → Hears (called lends x (portionAt cuts x rest)) h
-      → FeedsStreamBy c lends cuts (point (x .heard ++ h ∷ []) (called lends x (portionAt cuts x rest))) (drop (usedIn (called lends x (portionAt cuts x rest))) rest) hs x₁
+      → FeedsStreamBy c lends cuts (point (suc (x .calls)) (x .heard ++ h ∷ []) (called lends x (portionAt cuts x rest))) (drop (usedIn (called lends x (portionAt cuts x rest))) rest) hs x₁
       → FeedsStreamBy c lends cuts x rest (h ∷ hs) x₁
   all-used : {x x₁ : Point} {rest : List ℕ} {hs : List Heard} → callAnswers lends x (portionAt cuts x rest) ≡ 0
       → eventIn (called lends x (portionAt cuts x rest)) ≡ 0
-      → FeedsStreamBy c lends cuts (point (x .heard) (called lends x (portionAt cuts x rest))) (drop (usedIn (called lends x (portionAt cuts x rest))) rest) hs x₁
+      → FeedsStreamBy c lends cuts (point (suc (x .calls)) (x .heard) (called lends x (portionAt cuts x rest))) (drop (usedIn (called lends x (portionAt cuts x rest))) rest) hs x₁
       → FeedsStreamBy c lends cuts x rest hs x₁
 
 pub data ClosesBy (lends : Lender) : Point → List Heard → Point → Type 0 where
   an-event : {x x₁ : Point} {h : Heard} {hs : List Heard} → finishAnswers lends x ≡ 0
       → Hears (finished lends x) h
-      → ClosesBy lends (point (x .heard ++ h ∷ []) (finished lends x)) hs x₁
+      → ClosesBy lends (point (suc (x .calls)) (x .heard ++ h ∷ []) (finished lends x)) hs x₁
       → ClosesBy lends x (h ∷ hs) x₁
-  is-done : {x : Point} → finishAnswers lends x ≡ 0 → eventIn (finished lends x) ≡ 3 → ClosesBy lends x [] (point (x .heard) (finished lends x))
+  is-done : {x : Point} → finishAnswers lends x ≡ 0 → eventIn (finished lends x) ≡ 3 → ClosesBy lends x [] (point (suc (x .calls)) (x .heard) (finished lends x))
 
 -- a whole stream, in these portions ..
 pub record WholeBy (c : Caller) (lends : Lender) (lent : Lent) (portions : List (List ℕ)) : Type 0 where
   pub before : List Heard
   pub between : Point
-  pub feeds : FeedsBy c lends (point [] lent) portions before between
+  pub feeds : FeedsBy c lends (point 0 [] lent) portions before between
   pub after : List Heard
   pub end : Point
   pub closes : ClosesBy lends between after end
@@ -125,7 +126,7 @@ pub record WholeBy (c : Caller) (lends : Lender) (lent : Lent) (portions : List 
 pub record WholeStreamBy (c : Caller) (lends : Lender) (cuts : Cutter) (lent : Lent) (stream : List ℕ) : Type 0 where
   pub before : List Heard
   pub between : Point
-  pub feeds : FeedsStreamBy c lends cuts (point [] lent) stream before between
+  pub feeds : FeedsStreamBy c lends cuts (point 0 [] lent) stream before between
   pub after : List Heard
   pub end : Point
   pub closes : ClosesBy lends between after end

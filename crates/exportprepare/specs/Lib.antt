@@ -2,6 +2,7 @@ pub mod Prepares
 pub mod Puts
 pub mod Driver
 pub mod Lender
+pub mod Alike
 pub mod Determined
 pub mod Refusals
 pub mod NextState

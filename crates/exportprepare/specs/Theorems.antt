@@ -21,7 +21,7 @@ use Rattle.desk.specs.Desk.{newDesk, deskSound}
 use Rattle.desk.specs.History.{Held, Snapshot, KeptOn}
 use Rattle.desk.specs.Theorems.{new-sound}
 use Rattle.prepare.specs.Uncut as uncut
-use Rattle.prepare.specs.Uncut.{Seconds, uncutTold, uncutLog, uncutBooks, runLog}
+use Rattle.prepare.specs.Uncut.{Seconds, Alike, uncutTold, uncutLog, uncutBooks, runLog}
 use Rattle.prepare.specs.Prepare.{booksIn}
 use Rattle.prepare.specs.Driver.{start}
 use Rattle.prepare.specs.Driver as driver
@@ -34,8 +34,9 @@ use Rattle.exportdesk.specs.Desks.{toldNew, soundOf}
 use Rattle.exportdesk.specs.Theorems.{reads-back}
 use Rattle.exportprepare.specs.Prepares.{Lent, callNumber, finishNumber}
 use Rattle.exportprepare.specs.NextState.{state, stateIn}
-use Rattle.exportprepare.specs.Driver.{Heard, laterAll, Feeds, FeedsStream, Closes, Whole, Called, none-yet, Starts, booksLent, Ends, heardOf, heardAll, entriesOf, logHeard}
+use Rattle.exportprepare.specs.Driver.{Heard, laterAll, framesIn, Feeds, FeedsStream, Closes, Whole, Called, none-yet, Starts, booksLent, Ends, heardOf, heardAll, entriesOf, logHeard}
 use Rattle.exportprepare.specs.Lender.{Point, point, Lender, sameAgain, LendsRoom, Cutter, GivesMore, WholeBy, WholeStreamBy, secondsClosed, secondsBy, secondsCut}
+use Rattle.exportprepare.specs.Alike.{frames-told, whole-alike, clocked, clock-alike}
 use Rattle.exportprepare.specs.Driving.{counts, no-number, longer, later-all, feeds-so, closes-so}
 use Rattle.exportprepare.specs.Cutting.{into-portions}
 use Rattle.exportprepare.specs.Along.{fresh-tray, sound-whole, starts-sound, starts-fit, call-is-zero, finish-is-zero, called-fit, feeds-called, closes-called, feeds-beyond, closes-numbers}
@@ -76,6 +77,24 @@ abbrev pub PlacedBy : Lent → Seconds → Snapshot → (stream : List ℕ) → 
 PlacedBy lent seconds opening stream heard end =
     (logHeard heard ≡ placedLog (booksLent lent) seconds opening (scan stream))
     × KeptOn (record { held = booksLent end; opening = openingAll (booksLent lent) seconds opening (scan stream) })
+
+-- the same tray, bytes, desk and books
+pub record SameLeft (end end′ : Lent) : Type 0 where
+  pub tray-same : end .tray ≡ end′ .tray
+  pub bytes-same : end .bytes ≡ end′ .bytes
+  pub desk-same : end .desk ≡ end′ .desk
+  pub live-same : end .live ≡ end′ .live
+  pub run-same : end .run ≡ end′ .run
+
+ends-same : {lent end end′ : Lent} {books : Held} → Ends lent books end → Ends lent books end′ → SameLeft end end′
+ends-same e e′ =
+    record {
+      tray-same = e .tray-as-lent ∙ sym (e′ .tray-as-lent);
+      bytes-same = e .bytes-as-lent ∙ sym (e′ .bytes-as-lent);
+      desk-same = e .desk-is ∙ sym (e′ .desk-is);
+      live-same = e .live-is ∙ sym (e′ .live-is);
+      run-same = e .run-is ∙ sym (e′ .run-is);
+    }
 
 module _ {lent : Lent} (s : Starts lent) where
   starts-state : stateIn lent ≡ start (lent .bytes) (booksLent lent)
@@ -119,15 +138,15 @@ module _ {lent : Lent} (s : Starts lent) where
       let h = heard-below w ∙ ap heardAll (x .0) in
       (h, ap logHeard h ∙ log-heard (uncutTold (booksLent lent) seconds (flatten portions)), ends-so w (uncutBooks (booksLent lent) seconds (flatten portions)) (x .2), ap (λ s. s .books) (x .2))
 
-  -- And the calls end, whatever the portions are and whoever lends the log and the places and says the seconds: what is lent and said may depend on all that was heard before, and
-  -- on all that the last call left.
+  -- And the calls end, whatever the portions are and whoever lends the log and the places and says the seconds: what is lent and said may depend on how many calls were made, on all
+  -- that was heard before, and on all that the last call left.
   pub prepared-ends : {c : Caller} (lends : Lender) → LendsRoom lends → (portions : List (List ℕ)) → WholeBy c lends lent portions
   prepared-ends lends rooms portions =
-      let f = feeds-end lends rooms portions (point [] lent) (starts-fit s) in
+      let f = feeds-end lends rooms portions (point 0 [] lent) (starts-fit s) in
       let g = closes-end lends rooms (f .end₁) (f .fit) in
       record { before = f .heard; between = f .end₁; feeds = f .feeds; after = g .heard; end = g .end₁; closes = g .closes }
 
-  -- So they end with the same slices lent again and again, and any clock.
+  -- So they end with the same slices lent again and again, and any clock, read anew for each call.
   pub same-again-ends : {c : Caller} (clock : Point → ℕ) (portions : List (List ℕ)) → WholeBy c (sameAgain clock) lent portions
   same-again-ends clock portions = prepared-ends (sameAgain clock) (λ _ r. r) portions
 
@@ -135,7 +154,7 @@ module _ {lent : Lent} (s : Starts lent) where
   -- left; the call behind an event may be handed none.
   pub stream-ends : {c : Caller} (lends : Lender) → LendsRoom lends → (cuts : Cutter) → GivesMore cuts → (stream : List ℕ) → WholeStreamBy c lends cuts lent stream
   stream-ends {c} lends rooms cuts gives stream =
-      let f = stream-end lends rooms c cuts gives stream (point [] lent) (starts-fit s) in
+      let f = stream-end lends rooms c cuts gives stream (point 0 [] lent) (starts-fit s) in
       let g = closes-end lends rooms (f .end₁) (f .fit) in
       record { before = f .heard; between = f .end₁; feeds = f .feeds; after = g .heard; end = g .end₁; closes = g .closes }
 
@@ -143,20 +162,19 @@ module _ {lent : Lent} (s : Starts lent) where
   pub nothing-handed : {c : Caller} {lends : Lender} {stream : List ℕ} → LendsRoom lends → 1 ≤ length stream → WholeStreamBy c lends (λ _ _. 0) lent stream → ⊥
   nothing-handed {lends = lends} rooms some w = goes-on lends rooms (w .feeds) (starts-fit s) (fresh-tray (lent .tray) (s .tray-fresh) .1) some
 
-  -- Whoever lends and whoever cuts, and whatever the clock is, such calls are calls of Driver.antt, where the second of frame i is the one that the call by which it was heard was
-  -- handed (`secondsBy`, `secondsCut`): so all that is said here of `Whole`, `FeedsStream` and `Closes` holds of them.
-  pub any-lender : {c : Caller} {lends : Lender} {portions : List (List ℕ)} → LendsRoom lends → (w : WholeBy c lends lent portions) → Whole c (secondsBy w) lent portions
+  -- Whoever lends and whoever cuts, and whatever the clock is, such calls are calls of Driver.antt, by which the same is heard and which leave the same, where the second of frame i
+  -- is the one that the call by which it was heard was handed (`secondsBy`, `secondsCut`): so all that is said here of `Whole`, `Feeds`, `FeedsStream` and `Closes` holds of them.
+  pub any-lender : {c : Caller} {lends : Lender} {portions : List (List ℕ)} → LendsRoom lends → (w : WholeBy c lends lent portions)
+      → (Feeds c (secondsBy w) lent portions (w .before) (w .between .left)) × (Closes (laterAll (w .before) (secondsBy w)) (w .between .left) (w .after) (w .end .left))
   any-lender {lends = lends} rooms w =
       let f = feeds-any lends rooms (w .feeds) (starts-fit s) (secondsClosed (w .closes)) in
       let g = closes-any lends rooms (w .closes) (feeds-fit lends rooms (w .feeds) (starts-fit s)) in
-      record {
-        before = w .before;
-        between = w .between .left;
-        feeds = f .0;
-        after = w .after;
-        end = w .end .left;
-        closes = subst (λ n. Closes n (w .between .left) (w .after) (w .end .left)) (sym (f .1)) g;
-      }
+      (f .0, subst (λ n. Closes n (w .between .left) (w .after) (w .end .left)) (sym (f .1)) g)
+
+  -- the same as one record
+  abbrev pub wholeBy : {c : Caller} {lends : Lender} {portions : List (List ℕ)} → LendsRoom lends → (w : WholeBy c lends lent portions) → Whole c (secondsBy w) lent portions
+  wholeBy rooms w =
+      let v = any-lender rooms w in record { before = w .before; between = w .between .left; feeds = v .0; after = w .after; end = w .end .left; closes = v .1 }
 
   pub any-cutter : {c : Caller} {lends : Lender} {cuts : Cutter} {stream : List ℕ} → LendsRoom lends → (w : WholeStreamBy c lends cuts lent stream)
       → (FeedsStream (secondsCut w) lent stream (w .before) (w .between .left)) × (Closes (laterAll (w .before) (secondsCut w)) (w .between .left) (w .after) (w .end .left))
@@ -164,6 +182,23 @@ module _ {lent : Lent} (s : Starts lent) where
       let f = stream-any lends rooms (w .feeds) (starts-fit s) (secondsClosed (w .closes)) in
       let g = closes-any lends rooms (w .closes) (stream-fit lends rooms (w .feeds) (starts-fit s)) in
       (f .0, subst (λ n. Closes n (w .between .left) (w .after) (w .end .left)) (sym (f .1)) g)
+
+  -- At any seconds there are such calls, whatever the portions are.
+  pub any-seconds : {c : Caller} (seconds : Seconds) (portions : List (List ℕ)) → Whole c seconds lent portions
+  any-seconds {c} seconds portions =
+      let w : WholeBy c (clocked seconds) lent portions = prepared-ends (clocked seconds) (λ _ r. r) portions in
+      whole-alike (wholeBy (λ _ r. r) w) seconds (clock-alike seconds w)
+
+  -- Two cuttings of one stream, "for equal frames with equal seconds": where each frame comes in at the same second in both, all that is heard is the same, and so are the run log and
+  -- what is left: the tray, its bytes, the desk and both books.
+  pub two-cuttings : {c c′ : Caller} {seconds seconds′ : Seconds} {portions portions′ : List (List ℕ)} (w : Whole c seconds lent portions) (w′ : Whole c′ seconds′ lent portions′)
+      → flatten portions ≡ flatten portions′ → Alike (framesIn (w .before ++ w .after)) seconds seconds′
+      → (w .before ++ w .after ≡ w′ .before ++ w′ .after) × (logHeard (w .before ++ w .after) ≡ logHeard (w′ .before ++ w′ .after)) × SameLeft (w .end) (w′ .end)
+  two-cuttings {seconds′ = seconds′} {portions} w w′ q a =
+      let x = prepared (whole-alike w seconds′ a) in
+      let y = subst (λ stream. LaidDown lent seconds′ stream (w′ .before ++ w′ .after) (w′ .end)) (sym q) (prepared w′) in
+      let h = x .0 ∙ sym (y .0) in
+      (h, ap logHeard h, ends-same (x .2) (y .2))
 
   -- Each of these calls has the number 0, as has every call and every finish, in any order and on any input, whatever log and places are lent and whatever the seconds are.
   pub never-refused : {l : Lent} → Called lent l → ((input : List ℕ) → callNumber l input ≡ 0) × (finishNumber l ≡ 0)
@@ -176,13 +211,14 @@ module _ {lent : Lent} (s : Starts lent) where
       let x = prepare.in-force (s .bytes-clear) (starts-sound s) opening k (below w) in
       (ap logHeard (heard-below w) ∙ log-heard (below w .before ++ below w .after) ∙ x .0, x .1)
 
-  -- Both hold of a caller who hands over each time as much as it likes of what is left of the stream: it cuts the stream into portions all the same.
+  -- All of this holds of a caller who hands over each time as much as it likes of what is left of the stream: it cuts the stream into portions all the same (`portioned`, of which
+  -- `two-cuttings` speaks too).
   module _ {seconds : Seconds} {stream : List ℕ} {before after : List Heard} {between end : Lent} (f : FeedsStream seconds lent stream before between)
       (g : Closes (laterAll before seconds) between after end) where
     pub recut : (portions : List (List ℕ)) × (Feeds hurries seconds lent portions before between) × (flatten portions ≡ stream)
     recut = into-portions f
 
-    abbrev portioned : Whole hurries seconds lent (recut .0)
+    abbrev pub portioned : Whole hurries seconds lent (recut .0)
     portioned = record { before = before; between = between; feeds = recut .1; after = after; end = end; closes = g }
 
     pub prepared-stream : LaidDown lent seconds stream (before ++ after) end
@@ -191,28 +227,31 @@ module _ {lent : Lent} (s : Starts lent) where
     pub in-force-stream : (opening : Snapshot) → KeptOn (record { held = booksLent lent; opening = opening }) → PlacedBy lent seconds opening stream (before ++ after) end
     in-force-stream opening k = subst (λ stream. PlacedBy lent seconds opening stream (before ++ after) end) (recut .2) (in-force opening k portioned)
 
-  -- Before finish, once the last call has said hungry, what is heard and the states as the next call reads them depend on the joined bytes and the frames' seconds alone.
-  pub cut : {seconds : Seconds} {portions portions′ : List (List ℕ)} {hs hs′ : List Heard} {l l′ : Lent}
-      → Feeds waits seconds lent portions hs l → Feeds waits seconds lent portions′ hs′ l′ → flatten portions ≡ flatten portions′
+  -- Before finish, once the last call has said hungry, what is heard and the states as the next call reads them depend on the joined bytes and the seconds of the frames heard alone.
+  pub cut : {seconds seconds′ : Seconds} {portions portions′ : List (List ℕ)} {hs hs′ : List Heard} {l l′ : Lent}
+      → Feeds waits seconds lent portions hs l → Feeds waits seconds′ lent portions′ hs′ l′ → flatten portions ≡ flatten portions′ → Alike (framesIn hs) seconds seconds′
       → (hs ≡ hs′) × (stateIn l ≡ stateIn l′)
-  cut {seconds} {portions} {portions′} {l = l} {l′} f f′ q =
+  cut {seconds} {seconds′} {portions} {portions′} {l = l} {l′} f f′ q a =
       let x = feeds-so f in
       let y = feeds-so f′ in
       let z = prepare.cut (s .bytes-clear) (starts-sound s)
       (subst (λ s. driver.Feeds waits seconds s portions (x .0) (stateIn l)) starts-state (x .1))
-      (subst (λ s. driver.Feeds waits seconds s portions′ (y .0) (stateIn l′)) starts-state (y .1)) q in
+      (subst (λ s. driver.Feeds waits seconds′ s portions′ (y .0) (stateIn l′)) starts-state (y .1)) q
+      (λ i h. a i (omega (arith, h, ap framesIn (x .2), frames-told (x .0)))) in
       (x .2 ∙ ap heardAll (z .0) ∙ sym (y .2), z .1)
 
-  -- What is heard before finish on a stream is heard first on every longer stream that begins with it, where the frames of both have equal seconds.
-  pub prefix : {c : Caller} {seconds : Seconds} {portions portions′ : List (List ℕ)} {hs hs′ : List Heard} {l l′ : Lent}
-      → Feeds c seconds lent portions hs l → Feeds waits seconds lent portions′ hs′ l′ → (more : List ℕ) → flatten portions′ ≡ flatten portions ++ more
+  -- What is heard before finish on a stream is heard first on every longer stream that begins with it, where the frames that both have come in at the same second each.
+  pub prefix : {c : Caller} {seconds seconds′ : Seconds} {portions portions′ : List (List ℕ)} {hs hs′ : List Heard} {l l′ : Lent}
+      → Feeds c seconds lent portions hs l → Feeds waits seconds′ lent portions′ hs′ l′ → (more : List ℕ) → flatten portions′ ≡ flatten portions ++ more
+      → Alike (framesIn hs) seconds seconds′
       → (rest : List Heard) × (hs′ ≡ hs ++ rest)
-  prefix {c} {seconds} {portions} {portions′} {l = l} {l′} f f′ more q =
+  prefix {c} {seconds} {seconds′} {portions} {portions′} {l = l} {l′} f f′ more q a =
       let x = feeds-so f in
       let y = feeds-so f′ in
       let z = prepare.prefix (s .bytes-clear) (starts-sound s)
       (subst (λ s. driver.Feeds c seconds s portions (x .0) (stateIn l)) starts-state (x .1))
-      (subst (λ s. driver.Feeds waits seconds s portions′ (y .0) (stateIn l′)) starts-state (y .1)) more q in
+      (subst (λ s. driver.Feeds waits seconds′ s portions′ (y .0) (stateIn l′)) starts-state (y .1)) more q
+      (λ i h. a i (omega (arith, h, ap framesIn (x .2), frames-told (x .0)))) in
       (heardAll (z .0), y .2 ∙ ap heardAll (z .1) ∙ heard-append (x .0) (z .0) ∙ ap (λ hs. hs ++ heardAll (z .0)) (sym (x .2)))
 
   -- A further stream may follow: what is lent at the end may start.

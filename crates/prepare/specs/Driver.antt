@@ -92,6 +92,16 @@ unfoldable pub laterAll : List Told → Seconds → Seconds
 laterAll [] seconds = seconds
 laterAll (told ∷ rest) seconds = laterAll rest (laterBy told seconds)
 
+-- how many frames were told
+abbrev pub counting : Told → ℕ → ℕ
+counting (accepted header bytes entries) more = suc more
+counting (refused header bytes why) more = suc more
+counting (noise count) more = more
+
+unfoldable pub framesIn : List Told → ℕ
+framesIn [] = 0
+framesIn (told ∷ rest) = counting told (framesIn rest)
+
 -- `Feeds caller seconds s portions told s₁`: the calls on the portions tell this, each frame at its second, and leave that state; as the stream's
 pub data Feeds (c : Caller) : Seconds → State → List (List ℕ) → List Told → State → Type 0 where
   no-more : {seconds : Seconds} {s : State} → Feeds c seconds s [] [] s

@@ -1,7 +1,7 @@
 -- Serves proofs: preparing a stream call by call is reading it call by call, and the desk goes along with the events. Proved; assumes nothing.
 use mathlib.Core.Path.{_≡_, refl, sym, ap, ap₂, _∙_, subst}
 use mathlib.Core.List.{List, [], _∷_, _++_, append-assoc, append-nil}
-use Prim.Native.Nat.{ℕ, _≤_}
+use Prim.Native.Nat.{ℕ, suc, _≤_}
 use native.Mathlib.Omega.{arith}
 use lib.ListN.{length, drop, length-append, length-drop}
 use Rattle.stream.specs.declared.Tray.{Tray}
@@ -18,7 +18,7 @@ use Rattle.desk.specs.History.{Held}
 use Rattle.prepare.specs.declared.Said.the-variants as said
 use Rattle.prepare.specs.Uncut.{Told, accepted, refused, noise as told-noise, verdictOn, handledOn, toldBy, toldOf, booksAfter, Seconds, later, toldAll, booksAll, entriesOf, runLog}
 use Rattle.prepare.specs.Prepare.{Handed, callOutcome, finishOutcome, booksOf, logOf}
-use Rattle.prepare.specs.Driver.{State, Sound, Lent, lent, callSays, callLeaves, callLogs, finishSays, finishLeaves, finishLogs, InTime, laterBy, laterAll, Feeds, Closes, start, Whole}
+use Rattle.prepare.specs.Driver.{State, Sound, Lent, lent, callSays, callLeaves, callLogs, finishSays, finishLeaves, finishLogs, InTime, laterBy, laterAll, Feeds, Closes, start}
 use Rattle.prepare.specs.Lender.{Point, point, Lender, LendsRoom, callAnswers, CallTells, called, FinishTells, finished, FeedsBy, ClosesBy, WholeBy, toldThen, secondsFed, secondsClosed, secondsBy}
 use Rattle.prepare.specs.Steps.{guarded-is, forth, back, is-told, tells-so, is-hungry, is-done, hungry-is, done-is}
 use Rattle.prepare.specs.Stays.{sound-after}
@@ -198,30 +198,32 @@ logs-room handed (stream.done c) h = h
 -- the calls from a point on end, with some log that has room, in a state whose tray and bytes are the stream's
 pub record FedOn (c : Caller) (lends : Lender) (x : Point) (ps : List (List ℕ)) (bytes₁ : List ℕ) (tray₁ : Tray) : Type 0 where
   pub told : List Told
+  pub calls₁ : ℕ
   pub before₁ : List Told
   pub books₁ : Held
   pub left₁ : List ℕ
-  pub feeds : FeedsBy c lends x ps told (point before₁ (at bytes₁ tray₁ books₁) left₁)
+  pub feeds : FeedsBy c lends x ps told (point calls₁ before₁ (at bytes₁ tray₁ books₁) left₁)
   pub room : logRoom ≤ length left₁
   pub is-sound : Sound books₁
 
 pub record ClosedOn (lends : Lender) (x : Point) (bytes₁ : List ℕ) (tray₁ : Tray) : Type 0 where
   pub told : List Told
+  pub calls₁ : ℕ
   pub before₁ : List Told
   pub books₁ : Held
   pub left₁ : List ℕ
-  pub closes : ClosesBy lends x told (point before₁ (at bytes₁ tray₁ books₁) left₁)
+  pub closes : ClosesBy lends x told (point calls₁ before₁ (at bytes₁ tray₁ books₁) left₁)
 
 -- both together
 pub whole-on : {c : Caller} {lends : Lender} {bytes log : List ℕ} {books : Held} {ps : List (List ℕ)} {b b₁ : List ℕ} {t t₁ : Tray}
-    (f : FedOn c lends (point [] (start bytes books) log) ps b t) → ClosedOn lends (point (f .before₁) (at b t (f .books₁)) (f .left₁)) b₁ t₁ → WholeBy c lends bytes books log ps
+    (f : FedOn c lends (point 0 [] (start bytes books) log) ps b t) → ClosedOn lends (point (f .calls₁) (f .before₁) (at b t (f .books₁)) (f .left₁)) b₁ t₁ → WholeBy c lends bytes books log ps
 whole-on {b = b} {b₁} {t} {t₁} f g =
     record {
       before = f .told;
-      between = point (f .before₁) (at b t (f .books₁)) (f .left₁);
+      between = point (f .calls₁) (f .before₁) (at b t (f .books₁)) (f .left₁);
       feeds = f .feeds;
       after = g .told;
-      end = point (g .before₁) (at b₁ t₁ (g .books₁)) (g .left₁);
+      end = point (g .calls₁) (g .before₁) (at b₁ t₁ (g .books₁)) (g .left₁);
       closes = g .closes;
     }
 
@@ -230,69 +232,69 @@ module _ {lends : Lender} {x : Point} {b₁ : List ℕ} {t₁ : Tray} where
   fed-event : {c : Caller} {p : List ℕ} {ps : List (List ℕ)} (t : Told) → CallTells lends x p t
       → FedOn c lends (called lends x p (x .before ++ t ∷ [])) (drop (callAnswers lends x p .used) p ∷ ps) b₁ t₁ → FedOn c lends x (p ∷ ps) b₁ t₁
   fed-event t k y =
-      record { told = t ∷ y .told; before₁ = y .before₁; books₁ = y .books₁; left₁ = y .left₁; feeds = FeedsBy.an-event k (y .feeds); room = y .room; is-sound = y .is-sound }
+      record { told = t ∷ y .told; calls₁ = y .calls₁; before₁ = y .before₁; books₁ = y .books₁; left₁ = y .left₁; feeds = FeedsBy.an-event k (y .feeds); room = y .room; is-sound = y .is-sound }
 
   fed-used : {c : Caller} {p : List ℕ} {ps : List (List ℕ)} → callAnswers lends x p .said ≡ said.Hungry
       → FedOn c lends (called lends x p (x .before)) ps b₁ t₁ → FedOn c lends x (p ∷ ps) b₁ t₁
   fed-used k y =
-      record { told = y .told; before₁ = y .before₁; books₁ = y .books₁; left₁ = y .left₁; feeds = FeedsBy.all-used k (y .feeds); room = y .room; is-sound = y .is-sound }
+      record { told = y .told; calls₁ = y .calls₁; before₁ = y .before₁; books₁ = y .books₁; left₁ = y .left₁; feeds = FeedsBy.all-used k (y .feeds); room = y .room; is-sound = y .is-sound }
 
   fed-over : {c : Caller} {ps : List (List ℕ)} → GoesOn c → FedOn c lends x ps b₁ t₁ → FedOn c lends x ([] ∷ ps) b₁ t₁
   fed-over g y =
-      record { told = y .told; before₁ = y .before₁; books₁ = y .books₁; left₁ = y .left₁; feeds = FeedsBy.passed-over g (y .feeds); room = y .room; is-sound = y .is-sound }
+      record { told = y .told; calls₁ = y .calls₁; before₁ = y .before₁; books₁ = y .books₁; left₁ = y .left₁; feeds = FeedsBy.passed-over g (y .feeds); room = y .room; is-sound = y .is-sound }
 
   closed-event : (t : Told) → FinishTells lends x t → ClosedOn lends (finished lends x (x .before ++ t ∷ [])) b₁ t₁ → ClosedOn lends x b₁ t₁
-  closed-event t k y = record { told = t ∷ y .told; before₁ = y .before₁; books₁ = y .books₁; left₁ = y .left₁; closes = ClosesBy.an-event k (y .closes) }
+  closed-event t k y = record { told = t ∷ y .told; calls₁ = y .calls₁; before₁ = y .before₁; books₁ = y .books₁; left₁ = y .left₁; closes = ClosesBy.an-event k (y .closes) }
 
 module _ (lends : Lender) (rooms : LendsRoom lends) where
   pub so-feeds : {c : Caller} {b b₁ : List ℕ} {t t₁ : Tray} {ps : List (List ℕ)} {es : List Event} → streaming.Feeds c b t ps es b₁ t₁ → (d : Held) → Ready (at b t d)
-      → (before : List Told) (left : List ℕ) → logRoom ≤ length left → FedOn c lends (point before (at b t d) left) ps b₁ t₁
-  so-feeds streaming.Feeds.no-more d r before left room =
-      record { told = []; before₁ = before; books₁ = d; left₁ = left; feeds = FeedsBy.no-more; room = room; is-sound = r .books-sound }
-  so-feeds {c} (streaming.Feeds.an-event {b} {b₁} {t} {t₁} {p} {ps} {e} {es} k f) d r before left room =
+      → (calls : ℕ) (before : List Told) (left : List ℕ) → logRoom ≤ length left → FedOn c lends (point calls before (at b t d) left) ps b₁ t₁
+  so-feeds streaming.Feeds.no-more d r calls before left room =
+      record { told = []; calls₁ = calls; before₁ = before; books₁ = d; left₁ = left; feeds = FeedsBy.no-more; room = room; is-sound = r .books-sound }
+  so-feeds {c} (streaming.Feeds.an-event {b} {b₁} {t} {t₁} {p} {ps} {e} {es} k f) d r calls before left room =
       let s = at b t d in
-      let given = lends (point before s left) in
-      let h = rooms (point before s left) room in
+      let given = lends (point calls before s left) in
+      let h = rooms (point calls before s left) room in
       let w = tells-so (lent s given) (callOutcome (lent s given) p) (call-o s given r h p) (call-is s given p r h) (call-good s given r h p) e k in
       let told = before ++ toldOf d (given .second) e ∷ [] in
       let left₁ = callLogs s given p in
-      let x = so-feeds f (booksAfter d (given .second) e) (record { tray-ready = call-ready (r .tray-ready) p; books-sound = sound-after (r .books-sound) (given .second) e }) told left₁
+      let x = so-feeds f (booksAfter d (given .second) e) (record { tray-ready = call-ready (r .tray-ready) p; books-sound = sound-after (r .books-sound) (given .second) e }) (suc calls) told left₁
       (logs-room (lent s given) (callOutcome (lent s given) p) h) in
-      let y = subst (λ m. FedOn c lends (point told (at (stream.callBytes b t p) (stream.callAnswer b t p .tray) m) left₁) (drop (stream.callAnswer b t p .used) p ∷ ps) b₁ t₁) (sym (w .1)) x in
-      fed-event (toldOf d (given .second) e) (w .0) (call-back s given r h p (λ b t u m. FedOn c lends (point told (at b t m) left₁) (drop u p ∷ ps) b₁ t₁) y)
-  so-feeds {c} (streaming.Feeds.all-used {b} {b₁} {t} {t₁} {p} {ps} {es} k f) d r before left room =
+      let y = subst (λ m. FedOn c lends (point (suc calls) told (at (stream.callBytes b t p) (stream.callAnswer b t p .tray) m) left₁) (drop (stream.callAnswer b t p .used) p ∷ ps) b₁ t₁) (sym (w .1)) x in
+      fed-event (toldOf d (given .second) e) (w .0) (call-back s given r h p (λ b t u m. FedOn c lends (point (suc calls) told (at b t m) left₁) (drop u p ∷ ps) b₁ t₁) y)
+  so-feeds {c} (streaming.Feeds.all-used {b} {b₁} {t} {t₁} {p} {ps} {es} k f) d r calls before left room =
       let s = at b t d in
-      let given = lends (point before s left) in
-      let h = rooms (point before s left) room in
+      let given = lends (point calls before s left) in
+      let h = rooms (point calls before s left) room in
       let w = hungry-is (lent s given) (callOutcome (lent s given) p) (call-o s given r h p) (call-is s given p r h) k in
       let left₁ = callLogs s given p in
-      let x = so-feeds f d (record { tray-ready = call-ready (r .tray-ready) p; books-sound = r .books-sound }) before left₁
+      let x = so-feeds f d (record { tray-ready = call-ready (r .tray-ready) p; books-sound = r .books-sound }) (suc calls) before left₁
       (logs-room (lent s given) (callOutcome (lent s given) p) h) in
-      let y = subst (λ m. FedOn c lends (point before (at (stream.callBytes b t p) (stream.callAnswer b t p .tray) m) left₁) ps b₁ t₁) (sym (w .1)) x in
-      fed-used (w .0) (call-back s given r h p (λ b t u m. FedOn c lends (point before (at b t m) left₁) ps b₁ t₁) y)
-  so-feeds (streaming.Feeds.passed-over g f) d r before left room = fed-over g (so-feeds f d r before left room)
+      let y = subst (λ m. FedOn c lends (point (suc calls) before (at (stream.callBytes b t p) (stream.callAnswer b t p .tray) m) left₁) ps b₁ t₁) (sym (w .1)) x in
+      fed-used (w .0) (call-back s given r h p (λ b t u m. FedOn c lends (point (suc calls) before (at b t m) left₁) ps b₁ t₁) y)
+  so-feeds (streaming.Feeds.passed-over g f) d r calls before left room = fed-over g (so-feeds f d r calls before left room)
 
   pub so-closes : {b b₁ : List ℕ} {t t₁ : Tray} {es : List Event} → streaming.Closes b t es b₁ t₁ → (d : Held) → Ready (at b t d)
-      → (before : List Told) (left : List ℕ) → logRoom ≤ length left → ClosedOn lends (point before (at b t d) left) b₁ t₁
-  so-closes (streaming.Closes.an-event {b} {b₁} {t} {t₁} {e} {es} k f) d r before left room =
+      → (calls : ℕ) (before : List Told) (left : List ℕ) → logRoom ≤ length left → ClosedOn lends (point calls before (at b t d) left) b₁ t₁
+  so-closes (streaming.Closes.an-event {b} {b₁} {t} {t₁} {e} {es} k f) d r calls before left room =
       let s = at b t d in
-      let given = lends (point before s left) in
-      let h = rooms (point before s left) room in
+      let given = lends (point calls before s left) in
+      let h = rooms (point calls before s left) room in
       let w = tells-so (lent s given) (finishOutcome (lent s given)) (end-o s given r h) (finish-is s given r h) (end-good s given r h) e k in
       let told = before ++ toldOf d (given .second) e ∷ [] in
       let left₁ = finishLogs s given in
-      let x = so-closes f (booksAfter d (given .second) e) (record { tray-ready = finish-ready (r .tray-ready); books-sound = sound-after (r .books-sound) (given .second) e }) told left₁
+      let x = so-closes f (booksAfter d (given .second) e) (record { tray-ready = finish-ready (r .tray-ready); books-sound = sound-after (r .books-sound) (given .second) e }) (suc calls) told left₁
       (logs-room (lent s given) (finishOutcome (lent s given)) h) in
-      let y = subst (λ m. ClosedOn lends (point told (at (stream.finishBytes b t) (stream.finishAnswer b t .tray) m) left₁) b₁ t₁) (sym (w .1)) x in
-      closed-event (toldOf d (given .second) e) (w .0) (end-back s given r h (λ b t u m. ClosedOn lends (point told (at b t m) left₁) b₁ t₁) y)
-  so-closes (streaming.Closes.is-done {b} {t} k) d r before left room =
+      let y = subst (λ m. ClosedOn lends (point (suc calls) told (at (stream.finishBytes b t) (stream.finishAnswer b t .tray) m) left₁) b₁ t₁) (sym (w .1)) x in
+      closed-event (toldOf d (given .second) e) (w .0) (end-back s given r h (λ b t u m. ClosedOn lends (point (suc calls) told (at b t m) left₁) b₁ t₁) y)
+  so-closes (streaming.Closes.is-done {b} {t} k) d r calls before left room =
       let s = at b t d in
-      let given = lends (point before s left) in
-      let h = rooms (point before s left) room in
+      let given = lends (point calls before s left) in
+      let h = rooms (point calls before s left) room in
       let w = done-is (lent s given) (finishOutcome (lent s given)) (end-o s given r h) (finish-is s given r h) k in
       let n = booksOf (lent s given) (end-o s given r h) in
-      let ends : List ℕ → Tray → ℕ → Held → Type 0 = λ b t u m. ClosesBy lends (point before s left) [] (point before (at b t m) (finishLogs s given)) in
-      record { told = []; before₁ = before; books₁ = n; left₁ = finishLogs s given; closes = end-forth s given r h ends (ClosesBy.is-done (w .0)) }
+      let ends : List ℕ → Tray → ℕ → Held → Type 0 = λ b t u m. ClosesBy lends (point calls before s left) [] (point (suc calls) before (at b t m) (finishLogs s given)) in
+      record { told = []; calls₁ = suc calls; before₁ = before; books₁ = n; left₁ = finishLogs s given; closes = end-forth s given r h ends (ClosesBy.is-done (w .0)) }
 
 -- ---- such calls are calls of `Feeds` and `Closes`, at the seconds that they were handed: each is lent a log that has room
 
@@ -340,85 +342,12 @@ module _ (lends : Lender) (rooms : LendsRoom lends) where
       (subst (λ z. Closes z (finishLeaves (x .state) (lends x)) ts (x₁ .state)) (sym (then-later t (lends x .second) (secondsClosed f))) y)
   closes-any (ClosesBy.is-done {x} k) h = Closes.is-done (lends x) (rooms x h) k
 
-  pub any-whole : {c : Caller} {bytes log : List ℕ} {books : Held} {ps : List (List ℕ)} → (w : WholeBy c lends bytes books log ps) → logRoom ≤ length log
-      → Whole c (secondsBy w) bytes books ps
+  pub any-whole : {c : Caller} {bytes log : List ℕ} {books : Held} {ps : List (List ℕ)} (w : WholeBy c lends bytes books log ps) → logRoom ≤ length log
+      → (Feeds c (secondsBy w) (start bytes books) ps (w .before) (w .between .state)) × (Closes (laterAll (w .before) (secondsBy w)) (w .between .state) (w .after) (w .end .state))
   any-whole w room =
       let f = feeds-any (w .feeds) room (secondsClosed (w .closes)) in
       let g = closes-any (w .closes) (feeds-room (w .feeds) room) in
-      record {
-        before = w .before;
-        between = w .between .state;
-        feeds = f .0;
-        after = w .after;
-        end = w .end .state;
-        closes = subst (λ z. Closes z (w .between .state) (w .after) (w .end .state)) (sym (f .1)) g;
-      }
-
--- ---- and at any seconds there are such calls: each is handed that of the next frame
-
-in-time : (books : Held) (seconds : Seconds) (e : Event) → (InTime (toldOf books (seconds 0) e) (seconds 0) seconds) × (laterBy (toldOf books (seconds 0) e) seconds ≡ later e seconds)
-in-time books seconds (noise n) = (tt, refl)
-in-time books seconds (frame f b) = go (handledOn books (seconds 0) b) (verdictOn books (seconds 0) b)
-  where
-    go : (h : Held) (v : desk.Verdict) → (InTime (toldBy h f b v) (seconds 0) seconds) × (laterBy (toldBy h f b v) seconds ≡ later (frame f b) seconds)
-    go h (desk.refused why) = (refl, refl)
-    go h (desk.defines book live) = (refl, refl)
-    go h (desk.continues book message) = (refl, refl)
-    go h (desk.opens tag message) = (refl, refl)
-
-pub later-told : (d : Held) (seconds : Seconds) (es : List Event) → laterAll (toldAll d seconds es) seconds ≡ laterOn es seconds
-unfolding laterAll toldAll laterOn
-later-told d seconds [] = refl
-later-told d seconds (e ∷ es) =
-    ap (laterAll (toldAll (booksAfter d (seconds 0) e) (later e seconds) es)) (in-time d seconds e .1) ∙ later-told (booksAfter d (seconds 0) e) (later e seconds) es
-
-module _ (log : List ℕ) (h : logRoom ≤ length log) where
-  pub feeds-at : {c : Caller} {b b₁ : List ℕ} {t t₁ : Tray} {ps : List (List ℕ)} {es : List Event} → streaming.Feeds c b t ps es b₁ t₁ → (d : Held) → Ready (at b t d) → (seconds : Seconds)
-      → Feeds c seconds (at b t d) ps (toldAll d seconds es) (at b₁ t₁ (booksAll d seconds es))
-  unfolding toldAll booksAll
-  feeds-at streaming.Feeds.no-more d r seconds = Feeds.no-more
-  feeds-at {c} (streaming.Feeds.an-event {b} {b₁} {t} {t₁} {p} {ps} {e} {es} k f) d r seconds =
-      let s = at b t d in
-      let given : Lent = record { log = log; second = seconds 0 } in
-      let w = tells-so (lent s given) (callOutcome (lent s given) p) (call-o s given r h p) (call-is s given p r h) (call-good s given r h p) e k in
-      let i = in-time d seconds e in
-      let n = booksAfter d (seconds 0) e in
-      let q = later e seconds in
-      let x = feeds-at f n (record { tray-ready = call-ready (r .tray-ready) p; books-sound = sound-after (r .books-sound) (seconds 0) e }) q in
-      let y = subst (λ m. Feeds c q (at (stream.callBytes b t p) (stream.callAnswer b t p .tray) m) (drop (stream.callAnswer b t p .used) p ∷ ps) (toldAll n q es) (at b₁ t₁ (booksAll n q es)))
-      (sym (w .1)) x in
-      let z = call-back s given r h p (λ b t u m. Feeds c q (at b t m) (drop u p ∷ ps) (toldAll n q es) (at b₁ t₁ (booksAll n q es))) y in
-      Feeds.an-event given h (w .0) (i .0)
-      (subst (λ v. Feeds c v (callLeaves s given p) (drop (callSays s given p .used) p ∷ ps) (toldAll n q es) (at b₁ t₁ (booksAll n q es))) (sym (i .1)) z)
-  feeds-at {c} (streaming.Feeds.all-used {b} {b₁} {t} {t₁} {p} {ps} {es} k f) d r seconds =
-      let s = at b t d in
-      let given : Lent = record { log = log; second = 0 } in
-      let w = hungry-is (lent s given) (callOutcome (lent s given) p) (call-o s given r h p) (call-is s given p r h) k in
-      let x = feeds-at f d (record { tray-ready = call-ready (r .tray-ready) p; books-sound = r .books-sound }) seconds in
-      let y = subst (λ m. Feeds c seconds (at (stream.callBytes b t p) (stream.callAnswer b t p .tray) m) ps (toldAll d seconds es) (at b₁ t₁ (booksAll d seconds es))) (sym (w .1)) x in
-      Feeds.all-used given h (w .0) (call-back s given r h p (λ b t u m. Feeds c seconds (at b t m) ps (toldAll d seconds es) (at b₁ t₁ (booksAll d seconds es))) y)
-  feeds-at (streaming.Feeds.passed-over g f) d r seconds = Feeds.passed-over g (feeds-at f d r seconds)
-
-  pub closes-at : {b b₁ : List ℕ} {t t₁ : Tray} {es : List Event} → streaming.Closes b t es b₁ t₁ → (d : Held) → Ready (at b t d) → (seconds : Seconds)
-      → Closes seconds (at b t d) (toldAll d seconds es) (at b₁ t₁ (booksAll d seconds es))
-  unfolding toldAll booksAll
-  closes-at (streaming.Closes.an-event {b} {b₁} {t} {t₁} {e} {es} k f) d r seconds =
-      let s = at b t d in
-      let given : Lent = record { log = log; second = seconds 0 } in
-      let w = tells-so (lent s given) (finishOutcome (lent s given)) (end-o s given r h) (finish-is s given r h) (end-good s given r h) e k in
-      let i = in-time d seconds e in
-      let n = booksAfter d (seconds 0) e in
-      let q = later e seconds in
-      let x = closes-at f n (record { tray-ready = finish-ready (r .tray-ready); books-sound = sound-after (r .books-sound) (seconds 0) e }) q in
-      let y = subst (λ m. Closes q (at (stream.finishBytes b t) (stream.finishAnswer b t .tray) m) (toldAll n q es) (at b₁ t₁ (booksAll n q es))) (sym (w .1)) x in
-      let z = end-back s given r h (λ b t u m. Closes q (at b t m) (toldAll n q es) (at b₁ t₁ (booksAll n q es))) y in
-      Closes.an-event given h (w .0) (i .0) (subst (λ v. Closes v (finishLeaves s given) (toldAll n q es) (at b₁ t₁ (booksAll n q es))) (sym (i .1)) z)
-  closes-at (streaming.Closes.is-done {b} {t} k) d r seconds =
-      let s = at b t d in
-      let given : Lent = record { log = log; second = 0 } in
-      let w = done-is (lent s given) (finishOutcome (lent s given)) (end-o s given r h) (finish-is s given r h) k in
-      let y = end-forth s given r h (λ b t u m. Closes seconds s [] (at b t m)) (Closes.is-done given h (w .0)) in
-      subst (λ m. Closes seconds s [] (at (stream.finishBytes b t) (stream.finishAnswer b t .tray) m)) (w .1) y
+      (f .0, subst (λ z. Closes z (w .between .state) (w .after) (w .end .state)) (sym (f .1)) g)
 
 -- ---- what a lender may look at is all that was told
 

@@ -1,5 +1,5 @@
--- Definitions to believe: the calls of Driver.antt, with the one who lends their logs and says the second: both may depend on all that was told before the call, on the state,
--- and on what the last call left of its log. So one log may be lent again and again, and any clock may give the seconds.
+-- Definitions to believe: the calls of Driver.antt, with the one who lends their logs and says the second: both may depend on how many calls were made, on all that was told
+-- before the call, on the state, and on what the last call left of its log. So one log may be lent again and again, and any clock may give the seconds, read anew for each call.
 use mathlib.Core.Path.{_≡_}
 use mathlib.Core.List.{List, [], _∷_, _++_}
 use Prim.Native.Nat.{ℕ, zero, suc, _≤_}
@@ -12,14 +12,15 @@ use Rattle.prepare.specs.declared.Answer.{Answer}
 use Rattle.prepare.specs.Uncut.{Told, accepted, refused, noise, Seconds}
 use Rattle.prepare.specs.Driver.{State, Lent, callSays, callLeaves, callLogs, finishSays, finishLeaves, finishLogs, Tells, start}
 
--- between two calls: all that was told so far, the state, and the log as the last call left it
+-- between two calls: how many were made, all that was told so far, the state, and the log as the last call left it
 pub record Point : Type 0 where
+  pub calls : ℕ
   pub before : List Told
   pub state : State
   pub left : List ℕ
 
-abbrev pub point : (before : List Told) → State → (left : List ℕ) → Point
-point before state left = record { before = before; state = state; left = left }
+abbrev pub point : (calls : ℕ) → (before : List Told) → State → (left : List ℕ) → Point
+point calls before state left = record { calls = calls; before = before; state = state; left = left }
 
 -- what the next call is lent, and its second
 abbrev pub Lender : Type 0
@@ -44,7 +45,7 @@ module _ (lends : Lender) (x : Point) where
     CallTells told = Tells (callAnswers .said) (callAnswers .log) (callLeaves (x .state) (lends x) input .bytes) (callLogs (x .state) (lends x) input) told
 
     abbrev pub called : (before : List Told) → Point
-    called before = point before (callLeaves (x .state) (lends x) input) (callLogs (x .state) (lends x) input)
+    called before = point (suc (x .calls)) before (callLeaves (x .state) (lends x) input) (callLogs (x .state) (lends x) input)
 
   abbrev pub finishAnswers : Answer
   finishAnswers = finishSays (x .state) (lends x)
@@ -53,7 +54,7 @@ module _ (lends : Lender) (x : Point) where
   FinishTells told = Tells (finishAnswers .said) (finishAnswers .log) (finishLeaves (x .state) (lends x) .bytes) (finishLogs (x .state) (lends x)) told
 
   abbrev pub finished : (before : List Told) → Point
-  finished before = point before (finishLeaves (x .state) (lends x)) (finishLogs (x .state) (lends x))
+  finished before = point (suc (x .calls)) before (finishLeaves (x .state) (lends x)) (finishLogs (x .state) (lends x))
 
 -- ---- `Feeds`, `Closes` and `Whole` of Driver.antt, from point to point
 
@@ -77,7 +78,7 @@ pub data ClosesBy (lends : Lender) : Point → List Told → Point → Type 0 wh
 pub record WholeBy (c : Caller) (lends : Lender) (bytes : List ℕ) (books : Held) (log : List ℕ) (portions : List (List ℕ)) : Type 0 where
   pub before : List Told
   pub between : Point
-  pub feeds : FeedsBy c lends (point [] (start bytes books) log) portions before between
+  pub feeds : FeedsBy c lends (point 0 [] (start bytes books) log) portions before between
   pub after : List Told
   pub end : Point
   pub closes : ClosesBy lends between after end

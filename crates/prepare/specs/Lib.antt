@@ -2,6 +2,7 @@ pub mod Uncut
 pub mod Prepare
 pub mod Driver
 pub mod Lender
+pub mod Alike
 pub mod Steps
 pub mod Stays
 pub mod Driving

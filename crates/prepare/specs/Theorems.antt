@@ -25,18 +25,26 @@ use Rattle.desk.specs.declared.Said.{Said}
 use Rattle.desk.specs.declared.Said.the-variants as said
 use Rattle.desk.specs.Desk.{newDesk}
 use Rattle.desk.specs.Theorems.{new-sound, closed-kept}
-use Rattle.prepare.specs.Uncut.{Told, accepted, refused, verdictOn, toldBy, toldOf, booksAfter, Seconds, toldAll, booksAll, entriesOf, runLog, uncutTold, uncutLog, uncutBooks}
+use Rattle.prepare.specs.Uncut.{Told, accepted, refused, verdictOn, toldBy, toldOf, booksAfter, Seconds, Alike, toldAll, booksAll, entriesOf, runLog, uncutTold, uncutLog, uncutBooks}
 use Rattle.prepare.specs.Prepare.{Handed, callOutcome, finishOutcome, answerOf, booksOf, written, booksIn, Result, byCall, byFinish}
-use Rattle.prepare.specs.Driver.{State, Sound, Lent, lent, callLeaves, finishLeaves, Feeds, Closes, start, Whole}
+use Rattle.prepare.specs.Driver.{State, Sound, Lent, lent, callLeaves, finishLeaves, laterAll, framesIn, Feeds, Closes, start, Whole}
 use Rattle.prepare.specs.Lender.{Point, Lender, LendsRoom, oneLog, WholeBy, secondsBy}
 use Rattle.prepare.specs.Placed.{placedLog, openingAll}
 use Rattle.prepare.specs.Placing.{placed, still-kept}
 use Rattle.prepare.specs.Stays.{verdict-past, new-closed}
-use Rattle.prepare.specs.Driving.{Ready, laterOn, feeds-so, feeds-ready, closes-so, whole-on, so-feeds, so-closes, any-whole, later-told, feeds-at, closes-at, feeds-before, closes-before, told-append, books-append, log-append}
+use Rattle.prepare.specs.Alike.{feeds-alike, whole-alike, clocked, clock-alike}
+use Rattle.prepare.specs.Driving.{Ready, laterOn, feeds-so, feeds-ready, closes-so, whole-on, so-feeds, so-closes, any-whole, feeds-before, closes-before, told-append, books-append, log-append}
 
 one : (l : List ℕ) → flatten (l ∷ []) ≡ l
 unfolding flatten
 one l = append-nil l
+
+-- the calls of a lender, which tell and leave the same, as calls at the seconds that they were handed
+abbrev whole-by : {bytes log : List ℕ} {books : Held} {c : Caller} {lends : Lender} {portions : List (List ℕ)} (w : WholeBy c lends bytes books log portions) → LendsRoom lends
+    → logRoom ≤ length log → Whole c (secondsBy w) bytes books portions
+whole-by {lends = lends} w rooms room =
+    let v = any-whole lends rooms w room in
+    record { before = w .before; between = w .between .state; feeds = v .0; after = w .after; end = w .end .state; closes = v .1 }
 
 module _ {bytes : List ℕ} {books : Held} (clear : streaming.Clear bytes) (sound : Sound books) where
   ready : Ready (start bytes books)
@@ -60,64 +68,66 @@ module _ {bytes : List ℕ} {books : Held} (clear : streaming.Clear bytes) (soun
       = g .books ∙ ap₂ (λ d n. booksAll d n (g .events)) (f .books) (f .behind) ∙ sym (books-append books seconds (f .events) (g .events)) ∙ ap (booksAll books seconds) (z .0) in
       (t, ap runLog t, λ i. record { bytes = z .2 i; tray = z .1 i; books = d i })
 
-  -- And the calls end, whatever the portions are, and whatever log each call is lent and second it is handed: both may depend on all that was told before, on the state, and on
-  -- what the last call left of its log.
+  -- And the calls end, whatever the portions are, and whatever log each call is lent and second it is handed: both may depend on how many calls were made, on all that was told
+  -- before, on the state, and on what the last call left of its log.
   pub prepared-ends : {c : Caller} (lends : Lender) → LendsRoom lends → (log : List ℕ) → logRoom ≤ length log → (portions : List (List ℕ))
       → WholeBy c lends bytes books log portions
   prepared-ends lends rooms log room portions =
       let w = stream.stream-ends clear portions in
-      let f = so-feeds lends rooms (w .feeds) books ready [] log room in
+      let f = so-feeds lends rooms (w .feeds) books ready 0 [] log room in
       whole-on f
-      (so-closes lends rooms (w .closes) (f .books₁) (record { tray-ready = stream-ready (w .feeds) (stream.fresh-sound clear); books-sound = f .is-sound }) (f .before₁) (f .left₁) (f .room))
+      (so-closes lends rooms (w .closes) (f .books₁) (record { tray-ready = stream-ready (w .feeds) (stream.fresh-sound clear); books-sound = f .is-sound }) (f .calls₁) (f .before₁) (f .left₁)
+      (f .room))
 
-  -- At any seconds there are such calls, whatever the portions are.
-  pub any-seconds : {c : Caller} (seconds : Seconds) (portions : List (List ℕ)) → Whole c seconds bytes books portions
-  any-seconds seconds portions =
-      let log = replicate {A = ℕ} logRoom 0 in
-      let room : logRoom ≤ length log = omega (arith, length-replicate {A = ℕ} logRoom 0) in
-      let w = stream.stream-ends clear portions in
-      let f = feeds-at log room (w .feeds) books ready seconds in
-      let g = closes-at log room (w .closes) (booksAll books seconds (w .before)) (feeds-ready f ready) (laterOn (w .before) seconds) in
-      let d = booksAll books seconds (w .before) in
-      let behind = laterOn (w .before) seconds in
-      let s₁ : State = record { bytes = w .bytes₁; tray = w .tray₁; books = d } in
-      let s₂ : State = record { bytes = w .bytes₂; tray = w .tray₂; books = booksAll d behind (w .after) } in
-      record {
-        before = toldAll books seconds (w .before);
-        between = s₁;
-        feeds = f;
-        after = toldAll d behind (w .after);
-        end = s₂;
-        closes = subst (λ z. Closes z s₁ (toldAll d behind (w .after)) s₂) (sym (later-told books seconds (w .before))) g;
-      }
-
-  -- So they do for one log that is lent again and again, and any clock.
+  -- So they do for one log that is lent again and again, and any clock, read anew for each call.
   pub one-log-ends : {c : Caller} (clock : Point → ℕ) (log : List ℕ) → logRoom ≤ length log → (portions : List (List ℕ)) → WholeBy c (oneLog clock) bytes books log portions
   one-log-ends clock log room portions = prepared-ends (oneLog clock) (λ _ h. h) log room portions
 
-  -- Before finish, once the last call has said hungry, what is told and the state, every byte of tray and books included, depend on the joined bytes and the frames' seconds alone.
-  pub cut : {seconds : Seconds} {portions portions′ : List (List ℕ)} {ts ts′ : List Told} {s s′ : State}
-      → Feeds waits seconds (start bytes books) portions ts s → Feeds waits seconds (start bytes books) portions′ ts′ s′ → flatten portions ≡ flatten portions′
+  -- At any seconds there are such calls, whatever the portions are.
+  pub any-seconds : {c : Caller} (seconds : Seconds) (portions : List (List ℕ)) → Whole c seconds bytes books portions
+  any-seconds {c} seconds portions =
+      let log = replicate {A = ℕ} logRoom 0 in
+      let room : logRoom ≤ length log = omega (arith, length-replicate {A = ℕ} logRoom 0) in
+      let w : WholeBy c (clocked seconds) bytes books log portions = prepared-ends (clocked seconds) (λ _ h. h) log room portions in
+      whole-alike (whole-by w (λ _ h. h) room) seconds (clock-alike seconds w)
+
+  -- Two cuttings of one stream, "for equal frames with equal seconds": where each frame comes in at the same second in both, all that is told is the same, and so are the run log and
+  -- the closing state.
+  pub two-cuttings : {c c′ : Caller} {seconds seconds′ : Seconds} {portions portions′ : List (List ℕ)}
+      (w : Whole c seconds bytes books portions) (w′ : Whole c′ seconds′ bytes books portions′) → flatten portions ≡ flatten portions′
+      → Alike (framesIn (w .before ++ w .after)) seconds seconds′
+      → (w .before ++ w .after ≡ w′ .before ++ w′ .after) × (runLog (w .before ++ w .after) ≡ runLog (w′ .before ++ w′ .after)) × (w .end ≡ w′ .end)
+  two-cuttings {seconds′ = seconds′} w w′ q a =
+      let x = prepared (whole-alike w seconds′ a) in
+      let y = prepared w′ in
+      let t = x .0 ∙ ap (uncutTold books seconds′) q ∙ sym (y .0) in
+      (t, ap runLog t, x .2 ∙ ap (λ stream. start bytes (uncutBooks books seconds′ stream)) q ∙ sym (y .2))
+
+  -- Before finish, once the last call has said hungry, what is told and the state, every byte of tray and books included, depend on the joined bytes and the seconds of the frames
+  -- told alone.
+  pub cut : {seconds seconds′ : Seconds} {portions portions′ : List (List ℕ)} {ts ts′ : List Told} {s s′ : State}
+      → Feeds waits seconds (start bytes books) portions ts s → Feeds waits seconds′ (start bytes books) portions′ ts′ s′ → flatten portions ≡ flatten portions′
+      → Alike (framesIn ts) seconds seconds′
       → (ts ≡ ts′) × (s ≡ s′)
-  cut {seconds} f f′ q =
-      let x = feeds-so f ready in
+  cut {seconds′ = seconds′} f f′ q a =
+      let x = feeds-so (feeds-alike f seconds′ a) ready in
       let y = feeds-so f′ ready in
       let z = stream.cut clear (x .feeds) (y .feeds) q in
-      let d = x .books ∙ ap (booksAll books seconds) (z .0) ∙ sym (y .books) in
-      (x .told ∙ ap (toldAll books seconds) (z .0) ∙ sym (y .told), λ i. record { bytes = z .2 i; tray = z .1 i; books = d i })
+      let d = x .books ∙ ap (booksAll books seconds′) (z .0) ∙ sym (y .books) in
+      (x .told ∙ ap (toldAll books seconds′) (z .0) ∙ sym (y .told), λ i. record { bytes = z .2 i; tray = z .1 i; books = d i })
 
-  -- What is told before finish on a stream is told first on every longer stream that begins with it, where the frames of both have equal seconds, and the log told before
-  -- finish is the beginning of its log: before finish ..
-  pub prefix : {c : Caller} {seconds : Seconds} {portions portions′ : List (List ℕ)} {ts ts′ : List Told} {s s′ : State}
-      → Feeds c seconds (start bytes books) portions ts s → Feeds waits seconds (start bytes books) portions′ ts′ s′
-      → (more : List ℕ) → flatten portions′ ≡ flatten portions ++ more
+  -- What is told before finish on a stream is told first on every longer stream that begins with it, where the frames that both have come in at the same second each, and the log
+  -- told before finish is the beginning of its log: before finish ..
+  pub prefix : {c : Caller} {seconds seconds′ : Seconds} {portions portions′ : List (List ℕ)} {ts ts′ : List Told} {s s′ : State}
+      → Feeds c seconds (start bytes books) portions ts s → Feeds waits seconds′ (start bytes books) portions′ ts′ s′
+      → (more : List ℕ) → flatten portions′ ≡ flatten portions ++ more → Alike (framesIn ts) seconds seconds′
       → (rest : List Told) × (ts′ ≡ ts ++ rest) × (runLog ts′ ≡ runLog ts ++ runLog rest)
-  prefix {seconds = seconds} {ts = ts} f f′ more q =
-      let x = feeds-so f ready in
+  prefix {seconds′ = seconds′} {ts = ts} f f′ more q a =
+      let x = feeds-so (feeds-alike f seconds′ a) ready in
       let y = feeds-so f′ ready in
       let z = stream.prefix clear (x .feeds) (y .feeds) more q in
-      let rest = toldAll (booksAll books seconds (x .events)) (laterOn (x .events) seconds) (z .0) in
-      let e = y .told ∙ ap (toldAll books seconds) (z .1) ∙ told-append books seconds (x .events) (z .0) ∙ ap (λ ts. ts ++ rest) (sym (x .told)) in
+      let rest = toldAll (booksAll books seconds′ (x .events)) (laterOn (x .events) seconds′) (z .0) in
+      let e = y .told ∙ ap (toldAll books seconds′) (z .1) ∙ told-append books seconds′ (x .events) (z .0) ∙ ap (λ ts. ts ++ rest) (sym (x .told)) in
       (rest, e, ap runLog e ∙ log-append ts rest)
 
   -- .. and of the whole longer stream, uncut.
@@ -153,14 +163,23 @@ module _ {bytes : List ℕ} {books : Held} (clear : streaming.Clear bytes) (soun
 -- ---- who lends the logs
 
 module _ {bytes log : List ℕ} {books : Held} {c : Caller} {lends : Lender} {portions : List (List ℕ)} (w : WholeBy c lends bytes books log portions) where
-  -- Whoever lends, and whatever the clock is, such calls are calls of `Driver.antt`, where the second of frame i is the one that the call which told it was handed (`secondsBy`): so
-  -- `prepared` and `in-force` hold of them, and before finish `cut` and `prefix`.
-  pub any-lender : LendsRoom lends → logRoom ≤ length log → Whole c (secondsBy w) bytes books portions
+  -- Whoever lends, and whatever the clock is, such calls are calls of Driver.antt, which tell and leave the same, where the second of frame i is the one that the call which told it
+  -- was handed (`secondsBy`): so `prepared` and `in-force` hold of them, and before finish `cut` and `prefix`.
+  pub any-lender : LendsRoom lends → logRoom ≤ length log
+      → (Feeds c (secondsBy w) (start bytes books) portions (w .before) (w .between .state)) × (Closes (laterAll (w .before) (secondsBy w)) (w .between .state) (w .after) (w .end .state))
   any-lender rooms room = any-whole lends rooms w room
 
   -- What a lender may look at is all that was told before.
   pub lender-knows : (w .between .before ≡ w .before) × (w .end .before ≡ w .before ++ w .after)
   lender-knows = let f = feeds-before (w .feeds) in (f, closes-before (w .closes) ∙ ap (λ ts. ts ++ w .after) f)
+
+-- Two callers, whoever lends to them and whatever their clocks are: where each frame of one stream came in at the same second for both, both are told the same and left the same.
+pub any-two : {bytes log log′ : List ℕ} {books : Held} → streaming.Clear bytes → Sound books → {c c′ : Caller} {lends lends′ : Lender} {portions portions′ : List (List ℕ)}
+    (w : WholeBy c lends bytes books log portions) (w′ : WholeBy c′ lends′ bytes books log′ portions′)
+    → LendsRoom lends → logRoom ≤ length log → LendsRoom lends′ → logRoom ≤ length log′
+    → flatten portions ≡ flatten portions′ → Alike (framesIn (w .before ++ w .after)) (secondsBy w) (secondsBy w′)
+    → (w .before ++ w .after ≡ w′ .before ++ w′ .after) × (w .end .state ≡ w′ .end .state)
+any-two clear sound w w′ rooms room rooms′ room′ q a = let z = two-cuttings clear sound (whole-by w rooms room) (whole-by w′ rooms′ room′) q a in (z .0, z .2)
 
 -- A sound state stays sound: so it is before finish, whatever the portions were.
 pub stays-sound : {bytes : List ℕ} {books : Held} → streaming.Clear bytes → Sound books → {c : Caller} {seconds : Seconds} {portions : List (List ℕ)} {ts : List Told} {s : State}

@@ -1,7 +1,8 @@
 -- Definitions to believe: document 01, "The stream" and "Book and run" together, for a whole stream, uncut, and the seconds that its frames came in: what is told of it, its
 -- run log, and the desk with its two books that it leaves.
+use mathlib.Core.Path.{_≡_}
 use mathlib.Core.List.{List, [], _∷_, _++_}
-use Prim.Native.Nat.{ℕ, suc}
+use Prim.Native.Nat.{ℕ, suc, _<_}
 use Rattle.answer.specs.declared.Refusal.{Refusal}
 use Rattle.frame.specs.declared.Frame.{Frame}
 use Rattle.frame.specs.Check.{checked}
@@ -50,6 +51,10 @@ booksAfter books second (stream.noise count) = books
 -- frame i of the stream, or of what is left of it, counted from 0, came in at `seconds i`
 abbrev pub Seconds : Type 0
 Seconds = ℕ → ℕ
+
+-- "equal seconds": so many frames came in at the same second each
+abbrev pub Alike : (frames : ℕ) → Seconds → Seconds → Type 0
+Alike frames seconds seconds′ = (i : ℕ) → i < frames → seconds i ≡ seconds′ i
 
 -- the seconds of the frames behind an event; noise has none
 abbrev pub later : stream.Event → Seconds → Seconds
