@@ -58,11 +58,12 @@ unfoldable pub laterAll : List Heard → Seconds → Seconds
 laterAll [] seconds = seconds
 laterAll (heard ∷ rest) seconds = laterAll rest (laterBy heard seconds)
 
--- how many frames were heard
+-- one more for a frame
 abbrev pub counting : Heard → ℕ → ℕ
 counting (frame header bytes number entries) more = suc more
 counting (noise count) more = more
 
+-- how many frames were heard
 unfoldable pub framesIn : List Heard → ℕ
 framesIn [] = 0
 framesIn (heard ∷ rest) = counting heard (framesIn rest)

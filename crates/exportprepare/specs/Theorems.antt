@@ -171,11 +171,6 @@ module _ {lent : Lent} (s : Starts lent) where
       let g = closes-any lends rooms (w .closes) (feeds-fit lends rooms (w .feeds) (starts-fit s)) in
       (f .0, subst (λ n. Closes n (w .between .left) (w .after) (w .end .left)) (sym (f .1)) g)
 
-  -- the same as one record
-  abbrev pub wholeBy : {c : Caller} {lends : Lender} {portions : List (List ℕ)} → LendsRoom lends → (w : WholeBy c lends lent portions) → Whole c (secondsBy w) lent portions
-  wholeBy rooms w =
-      let v = any-lender rooms w in record { before = w .before; between = w .between .left; feeds = v .0; after = w .after; end = w .end .left; closes = v .1 }
-
   pub any-cutter : {c : Caller} {lends : Lender} {cuts : Cutter} {stream : List ℕ} → LendsRoom lends → (w : WholeStreamBy c lends cuts lent stream)
       → (FeedsStream (secondsCut w) lent stream (w .before) (w .between .left)) × (Closes (laterAll (w .before) (secondsCut w)) (w .between .left) (w .after) (w .end .left))
   any-cutter {lends = lends} rooms w =
@@ -183,14 +178,19 @@ module _ {lent : Lent} (s : Starts lent) where
       let g = closes-any lends rooms (w .closes) (stream-fit lends rooms (w .feeds) (starts-fit s)) in
       (f .0, subst (λ n. Closes n (w .between .left) (w .after) (w .end .left)) (sym (f .1)) g)
 
-  -- At any seconds there are such calls, whatever the portions are.
+  -- the calls of `any-lender` as one record
+  abbrev pub wholeBy : {c : Caller} {lends : Lender} {portions : List (List ℕ)} → LendsRoom lends → (w : WholeBy c lends lent portions) → Whole c (secondsBy w) lent portions
+  wholeBy rooms w =
+      let v = any-lender rooms w in record { before = w .before; between = w .between .left; feeds = v .0; after = w .after; end = w .end .left; closes = v .1 }
+
+  -- At any seconds there are calls of `Whole`, whatever the portions are.
   pub any-seconds : {c : Caller} (seconds : Seconds) (portions : List (List ℕ)) → Whole c seconds lent portions
   any-seconds {c} seconds portions =
       let w : WholeBy c (clocked seconds) lent portions = prepared-ends (clocked seconds) (λ _ r. r) portions in
       whole-alike (wholeBy (λ _ r. r) w) seconds (clock-alike seconds w)
 
-  -- Two cuttings of one stream, "for equal frames with equal seconds": where each frame comes in at the same second in both, all that is heard is the same, and so are the run log and
-  -- what is left: the tray, its bytes, the desk and both books.
+  -- Two cuttings of one stream, "for equal frames with equal seconds": where each frame has the same second in both, all that is heard is the same, and so are the run log and what is
+  -- left: the tray, its bytes, the desk and both books.
   pub two-cuttings : {c c′ : Caller} {seconds seconds′ : Seconds} {portions portions′ : List (List ℕ)} (w : Whole c seconds lent portions) (w′ : Whole c′ seconds′ lent portions′)
       → flatten portions ≡ flatten portions′ → Alike (framesIn (w .before ++ w .after)) seconds seconds′
       → (w .before ++ w .after ≡ w′ .before ++ w′ .after) × (logHeard (w .before ++ w .after) ≡ logHeard (w′ .before ++ w′ .after)) × SameLeft (w .end) (w′ .end)
@@ -211,23 +211,33 @@ module _ {lent : Lent} (s : Starts lent) where
       let x = prepare.in-force (s .bytes-clear) (starts-sound s) opening k (below w) in
       (ap logHeard (heard-below w) ∙ log-heard (below w .before ++ below w .after) ∙ x .0, x .1)
 
-  -- All of this holds of a caller who hands over each time as much as it likes of what is left of the stream: it cuts the stream into portions all the same (`portioned`, of which
-  -- `two-cuttings` speaks too).
+  -- A caller who hands over each time as much as it likes of what is left of the stream cuts it into portions all the same,
+  pub recut : {seconds : Seconds} {stream : List ℕ} {before : List Heard} {between : Lent} → FeedsStream seconds lent stream before between
+      → (portions : List (List ℕ)) × (Feeds hurries seconds lent portions before between) × (flatten portions ≡ stream)
+  recut f = into-portions f
+
+  -- so that `prepared`, `in-force` and `two-cuttings` hold of it too.
   module _ {seconds : Seconds} {stream : List ℕ} {before after : List Heard} {between end : Lent} (f : FeedsStream seconds lent stream before between)
       (g : Closes (laterAll before seconds) between after end) where
-    pub recut : (portions : List (List ℕ)) × (Feeds hurries seconds lent portions before between) × (flatten portions ≡ stream)
-    recut = into-portions f
-
-    abbrev pub portioned : Whole hurries seconds lent (recut .0)
-    portioned = record { before = before; between = between; feeds = recut .1; after = after; end = end; closes = g }
+    abbrev pub portioned : Whole hurries seconds lent (recut f .0)
+    portioned = record { before = before; between = between; feeds = recut f .1; after = after; end = end; closes = g }
 
     pub prepared-stream : LaidDown lent seconds stream (before ++ after) end
-    prepared-stream = subst (λ stream. LaidDown lent seconds stream (before ++ after) end) (recut .2) (prepared portioned)
+    prepared-stream = subst (λ stream. LaidDown lent seconds stream (before ++ after) end) (recut f .2) (prepared portioned)
 
     pub in-force-stream : (opening : Snapshot) → KeptOn (record { held = booksLent lent; opening = opening }) → PlacedBy lent seconds opening stream (before ++ after) end
-    in-force-stream opening k = subst (λ stream. PlacedBy lent seconds opening stream (before ++ after) end) (recut .2) (in-force opening k portioned)
+    in-force-stream opening k = subst (λ stream. PlacedBy lent seconds opening stream (before ++ after) end) (recut f .2) (in-force opening k portioned)
 
-  -- Before finish, once the last call has said hungry, what is heard and the states as the next call reads them depend on the joined bytes and the seconds of the frames heard alone.
+    module _ {seconds′ : Seconds} {before′ after′ : List Heard} {between′ end′ : Lent} (f′ : FeedsStream seconds′ lent stream before′ between′)
+        (g′ : Closes (laterAll before′ seconds′) between′ after′ end′) where
+      pub two-streams : Alike (framesIn (before ++ after)) seconds seconds′
+          → (before ++ after ≡ before′ ++ after′) × (logHeard (before ++ after) ≡ logHeard (before′ ++ after′)) × SameLeft end end′
+      two-streams a =
+          let portioned′ : Whole hurries seconds′ lent (recut f′ .0) = record { before = before′; between = between′; feeds = recut f′ .1; after = after′; end = end′; closes = g′ } in
+          two-cuttings portioned portioned′ (recut f .2 ∙ sym (recut f′ .2)) a
+
+  -- Before finish, once the last call has said hungry, what is heard and the states as the next call reads them depend on nothing but the joined bytes and the seconds of the frames
+  -- heard.
   pub cut : {seconds seconds′ : Seconds} {portions portions′ : List (List ℕ)} {hs hs′ : List Heard} {l l′ : Lent}
       → Feeds waits seconds lent portions hs l → Feeds waits seconds′ lent portions′ hs′ l′ → flatten portions ≡ flatten portions′ → Alike (framesIn hs) seconds seconds′
       → (hs ≡ hs′) × (stateIn l ≡ stateIn l′)
@@ -240,7 +250,7 @@ module _ {lent : Lent} (s : Starts lent) where
       (λ i h. a i (omega (arith, h, ap framesIn (x .2), frames-told (x .0)))) in
       (x .2 ∙ ap heardAll (z .0) ∙ sym (y .2), z .1)
 
-  -- What is heard before finish on a stream is heard first on every longer stream that begins with it, where the frames that both have come in at the same second each.
+  -- What is heard before finish on a stream is heard first on every longer stream that begins with it, where each frame heard has the same second in both.
   pub prefix : {c : Caller} {seconds seconds′ : Seconds} {portions portions′ : List (List ℕ)} {hs hs′ : List Heard} {l l′ : Lent}
       → Feeds c seconds lent portions hs l → Feeds waits seconds′ lent portions′ hs′ l′ → (more : List ℕ) → flatten portions′ ≡ flatten portions ++ more
       → Alike (framesIn hs) seconds seconds′
@@ -267,7 +277,7 @@ module _ {lent : Lent} (s : Starts lent) where
         rooms = record { log-room = f .log-room; told-room = f .there .told-room; header-room = f .there .header-room };
       }
 
--- What a lender and a cutter may look at before finish, and at the end, is all that was heard before.
+-- What a lender and a cutter may look at before finish, and at the end, holds all that was heard before.
 pub lender-knows : {c : Caller} {lends : Lender} {lent : Lent} {portions : List (List ℕ)} (w : WholeBy c lends lent portions)
     → (w .between .heard ≡ w .before) × (w .end .heard ≡ w .before ++ w .after)
 lender-knows w = let f = feeds-before (w .feeds) in (f, closes-before (w .closes) ∙ ap (λ hs. hs ++ w .after) f)

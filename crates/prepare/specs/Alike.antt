@@ -1,11 +1,15 @@
--- Serves proofs: calls at some seconds are calls at any others that are alike for the frames told, and a clock may give any seconds. Proved; assumes nothing.
-use mathlib.Core.Path.{_≡_, ap, _∙_, subst}
+-- Serves proofs: calls at some seconds are calls at any others that are alike for the frames told, and so is what is told of the uncut stream; a clock may give any seconds. Proved;
+-- assumes nothing.
+use mathlib.Core.Path.{_≡_, refl, ap, ap₂, _∙_, subst}
 use mathlib.Core.List.{List, [], _∷_, _++_}
 use Prim.Native.Nat.{ℕ, zero, suc, _+_, _<_}
 use native.Mathlib.Omega.{arith}
+use Rattle.frame.specs.declared.Frame.{Frame}
+use Rattle.stream.specs.Scan as stream
 use Rattle.stream.specs.Driver.{Caller}
+use Rattle.desk.specs.Take as desk
 use Rattle.desk.specs.History.{Held}
-use Rattle.prepare.specs.Uncut.{Told, accepted, refused, noise, Seconds, Alike}
+use Rattle.prepare.specs.Uncut.{Told, accepted, refused, noise, verdictOn, handledOn, toldBy, toldOf, booksAfter, Seconds, Alike, later, toldAll, booksAll}
 use Rattle.prepare.specs.Driver.{State, Lent, InTime, laterBy, laterAll, counting, framesIn, Feeds, Closes, Whole}
 use Rattle.prepare.specs.Lender.{Point, Lender, oneLog, FeedsBy, ClosesBy, WholeBy, toldThen, secondsFed, secondsClosed, secondsBy}
 
@@ -77,6 +81,30 @@ whole-alike {seconds = seconds} w seconds′ a =
       end = w .end;
       closes = closes-alike (w .closes) (laterAll (w .before) seconds′) (alike-behind (w .before) (framesIn (w .after)) seconds seconds′ both);
     }
+
+-- ---- what is told of the uncut stream, and the books that it leaves
+
+frame-counts : (books : Held) (header : Frame) (bytes : List ℕ) (v : desk.Verdict) (n : ℕ) → counting (toldBy books header bytes v) n ≡ suc n
+frame-counts books header bytes (desk.refused why) n = refl
+frame-counts books header bytes (desk.defines book live) n = refl
+frame-counts books header bytes (desk.continues book message) n = refl
+frame-counts books header bytes (desk.opens tag message) n = refl
+
+pub told-alike : (books : Held) (seconds seconds′ : Seconds) (events : List stream.Event) → Alike (framesIn (toldAll books seconds events)) seconds seconds′
+    → (toldAll books seconds events ≡ toldAll books seconds′ events) × (booksAll books seconds events ≡ booksAll books seconds′ events)
+unfolding framesIn toldAll booksAll
+told-alike books seconds seconds′ [] a = (refl, refl)
+told-alike books seconds seconds′ (stream.noise n ∷ events) a =
+    let z = told-alike books seconds seconds′ events a in (ap (λ ts. noise n ∷ ts) (z .0), z .1)
+told-alike books seconds seconds′ (stream.frame header bytes ∷ events) a =
+    let event = stream.frame header bytes in
+    let n = framesIn (toldAll (booksAfter books (seconds 0) event) (later event seconds) events) in
+    let one = frame-counts (handledOn books (seconds 0) bytes) header bytes (verdictOn books (seconds 0) bytes) n in
+    let q : seconds 0 ≡ seconds′ 0 = a 0 (omega (arith, one)) in
+    let z = told-alike (booksAfter books (seconds 0) event) (later event seconds) (later event seconds′) events (λ i h. a (suc i) (omega (arith, h, one))) in (
+      ap₂ (λ t ts. t ∷ ts) (ap (λ n. toldOf books n event) q) (z .0 ∙ ap (λ n. toldAll (booksAfter books n event) (later event seconds′) events) q),
+      z .1 ∙ ap (λ n. booksAll (booksAfter books n event) (later event seconds′) events) q,
+    )
 
 -- ---- a clock that gives any seconds: it goes by how many frames were told
 

@@ -92,12 +92,13 @@ unfoldable pub laterAll : List Told → Seconds → Seconds
 laterAll [] seconds = seconds
 laterAll (told ∷ rest) seconds = laterAll rest (laterBy told seconds)
 
--- how many frames were told
+-- one more for a frame
 abbrev pub counting : Told → ℕ → ℕ
 counting (accepted header bytes entries) more = suc more
 counting (refused header bytes why) more = suc more
 counting (noise count) more = more
 
+-- how many frames were told
 unfoldable pub framesIn : List Told → ℕ
 framesIn [] = 0
 framesIn (told ∷ rest) = counting told (framesIn rest)

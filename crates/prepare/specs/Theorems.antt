@@ -32,17 +32,17 @@ use Rattle.prepare.specs.Lender.{Point, Lender, LendsRoom, oneLog, Whole
 use Rattle.prepare.specs.Placed.{placedLog, openingAll}
 use Rattle.prepare.specs.Placing.{placed, still-kept}
 use Rattle.prepare.specs.Stays.{verdict-past, new-closed}
-use Rattle.prepare.specs.Alike.{feeds-alike, whole-alike, clocked, clock-alike}
+use Rattle.prepare.specs.Alike.{feeds-alike, whole-alike, told-alike, clocked, clock-alike}
 use Rattle.prepare.specs.Driving.{Ready, laterOn, feeds-so, feeds-ready, closes-so, whole-on, so-feeds, so-closes, any-whole, feeds-before, closes-before, told-append, books-append, log-append}
 
 one : (l : List ℕ) → flatten (l ∷ []) ≡ l
 unfolding flatten
 one l = append-nil l
 
--- the calls of a lender, which tell and leave the same, as calls at the seconds that they were handed
-abbrev whole-by : {bytes log : List ℕ} {books : Held} {c : Caller} {lends : Lender} {portions : List (List ℕ)} (w : WholeBy c lends bytes books log portions) → LendsRoom lends
+-- the calls of a lender, which tell and leave the same, as calls at the seconds that they were handed (`any-lender`)
+abbrev pub wholeBy : {bytes log : List ℕ} {books : Held} {c : Caller} {lends : Lender} {portions : List (List ℕ)} (w : WholeBy c lends bytes books log portions) → LendsRoom lends
     → logRoom ≤ length log → Whole c (secondsBy w) bytes books portions
-whole-by {lends = lends} w rooms room =
+wholeBy {lends = lends} w rooms room =
     let v = any-whole lends rooms w room in
     record { before = w .before; between = w .between .state; feeds = v .0; after = w .after; end = w .end .state; closes = v .1 }
 
@@ -89,10 +89,10 @@ module _ {bytes : List ℕ} {books : Held} (clear : streaming.Clear bytes) (soun
       let log = replicate {A = ℕ} logRoom 0 in
       let room : logRoom ≤ length log = omega (arith, length-replicate {A = ℕ} logRoom 0) in
       let w : WholeBy c (clocked seconds) bytes books log portions = prepared-ends (clocked seconds) (λ _ h. h) log room portions in
-      whole-alike (whole-by w (λ _ h. h) room) seconds (clock-alike seconds w)
+      whole-alike (wholeBy w (λ _ h. h) room) seconds (clock-alike seconds w)
 
-  -- Two cuttings of one stream, "for equal frames with equal seconds": where each frame comes in at the same second in both, all that is told is the same, and so are the run log and
-  -- the closing state.
+  -- Two cuttings of one stream, "for equal frames with equal seconds": where each frame has the same second in both, all that is told is the same, and so are the run log and the
+  -- closing state.
   pub two-cuttings : {c c′ : Caller} {seconds seconds′ : Seconds} {portions portions′ : List (List ℕ)}
       (w : Whole c seconds bytes books portions) (w′ : Whole c′ seconds′ bytes books portions′) → flatten portions ≡ flatten portions′
       → Alike (framesIn (w .before ++ w .after)) seconds seconds′
@@ -103,8 +103,8 @@ module _ {bytes : List ℕ} {books : Held} (clear : streaming.Clear bytes) (soun
       let t = x .0 ∙ ap (uncutTold books seconds′) q ∙ sym (y .0) in
       (t, ap runLog t, x .2 ∙ ap (λ stream. start bytes (uncutBooks books seconds′ stream)) q ∙ sym (y .2))
 
-  -- Before finish, once the last call has said hungry, what is told and the state, every byte of tray and books included, depend on the joined bytes and the seconds of the frames
-  -- told alone.
+  -- Before finish, once the last call has said hungry, what is told and the state, every byte of tray and books included, depend on nothing but the joined bytes and the seconds of
+  -- the frames told.
   pub cut : {seconds seconds′ : Seconds} {portions portions′ : List (List ℕ)} {ts ts′ : List Told} {s s′ : State}
       → Feeds waits seconds (start bytes books) portions ts s → Feeds waits seconds′ (start bytes books) portions′ ts′ s′ → flatten portions ≡ flatten portions′
       → Alike (framesIn ts) seconds seconds′
@@ -116,8 +116,8 @@ module _ {bytes : List ℕ} {books : Held} (clear : streaming.Clear bytes) (soun
       let d = x .books ∙ ap (booksAll books seconds′) (z .0) ∙ sym (y .books) in
       (x .told ∙ ap (toldAll books seconds′) (z .0) ∙ sym (y .told), λ i. record { bytes = z .2 i; tray = z .1 i; books = d i })
 
-  -- What is told before finish on a stream is told first on every longer stream that begins with it, where the frames that both have come in at the same second each, and the log
-  -- told before finish is the beginning of its log: before finish ..
+  -- What is told before finish on a stream is told first on every longer stream that begins with it, where each frame told has the same second in both, and the log told before
+  -- finish is the beginning of its log: before finish ..
   pub prefix : {c : Caller} {seconds seconds′ : Seconds} {portions portions′ : List (List ℕ)} {ts ts′ : List Told} {s s′ : State}
       → Feeds c seconds (start bytes books) portions ts s → Feeds waits seconds′ (start bytes books) portions′ ts′ s′
       → (more : List ℕ) → flatten portions′ ≡ flatten portions ++ more → Alike (framesIn ts) seconds seconds′
@@ -131,18 +131,19 @@ module _ {bytes : List ℕ} {books : Held} (clear : streaming.Clear bytes) (soun
       (rest, e, ap runLog e ∙ log-append ts rest)
 
   -- .. and of the whole longer stream, uncut.
-  pub prefix-uncut : {c : Caller} {seconds : Seconds} {portions : List (List ℕ)} {ts : List Told} {s : State} → Feeds c seconds (start bytes books) portions ts s → (more : List ℕ)
-      → (rest : List Told) × (uncutTold books seconds (flatten portions ++ more) ≡ ts ++ rest) × (uncutLog books seconds (flatten portions ++ more) ≡ runLog ts ++ runLog rest)
-  prefix-uncut {seconds = seconds} {portions} {ts} f more =
-      let x = feeds-so f ready in
+  pub prefix-uncut : {c : Caller} {seconds seconds′ : Seconds} {portions : List (List ℕ)} {ts : List Told} {s : State} → Feeds c seconds (start bytes books) portions ts s
+      → (more : List ℕ) → Alike (framesIn ts) seconds seconds′
+      → (rest : List Told) × (uncutTold books seconds′ (flatten portions ++ more) ≡ ts ++ rest) × (uncutLog books seconds′ (flatten portions ++ more) ≡ runLog ts ++ runLog rest)
+  prefix-uncut {seconds′ = seconds′} {portions} {ts} f more a =
+      let x = feeds-so (feeds-alike f seconds′ a) ready in
       let w = stream.stream-ends {c = waits} clear ((flatten portions ++ more) ∷ []) in
       let z = stream.prefix clear (x .feeds) (w .feeds) more (one (flatten portions ++ more)) in
       let events = z .0 ++ w .after in
       let all : scan (flatten portions ++ more) ≡ x .events ++ events
       = ap scan (sym (one (flatten portions ++ more))) ∙ sym (stream.stream clear w .0) ∙ ap (λ es. es ++ w .after) (z .1) ∙ append-assoc (x .events) (z .0) (w .after) in
-      let rest = toldAll (booksAll books seconds (x .events)) (laterOn (x .events) seconds) events in
-      let e : uncutTold books seconds (flatten portions ++ more) ≡ ts ++ rest
-      = ap (toldAll books seconds) all ∙ told-append books seconds (x .events) events ∙ ap (λ ts. ts ++ rest) (sym (x .told)) in
+      let rest = toldAll (booksAll books seconds′ (x .events)) (laterOn (x .events) seconds′) events in
+      let e : uncutTold books seconds′ (flatten portions ++ more) ≡ ts ++ rest
+      = ap (toldAll books seconds′) all ∙ told-append books seconds′ (x .events) events ∙ ap (λ ts. ts ++ rest) (sym (x .told)) in
       (rest, e, ap runLog e ∙ log-append ts rest)
 
   -- Each residual is placed by the area definition in force when its run opened: the run log, however the stream is cut, is the one in which each message is told
@@ -169,17 +170,24 @@ module _ {bytes log : List ℕ} {books : Held} {c : Caller} {lends : Lender} {po
       → (Feeds c (secondsBy w) (start bytes books) portions (w .before) (w .between .state)) × (Closes (laterAll (w .before) (secondsBy w)) (w .between .state) (w .after) (w .end .state))
   any-lender rooms room = any-whole lends rooms w room
 
-  -- What a lender may look at is all that was told before.
+  -- What a lender may look at holds all that was told before.
   pub lender-knows : (w .between .before ≡ w .before) × (w .end .before ≡ w .before ++ w .after)
   lender-knows = let f = feeds-before (w .feeds) in (f, closes-before (w .closes) ∙ ap (λ ts. ts ++ w .after) f)
 
--- Two callers, whoever lends to them and whatever their clocks are: where each frame of one stream came in at the same second for both, both are told the same and left the same.
+-- Two callers, whoever lends to them and whatever their clocks are: where each frame of one stream has the same second for both, both are told the same, with the same run log, and
+-- left the same.
 pub any-two : {bytes log log′ : List ℕ} {books : Held} → streaming.Clear bytes → Sound books → {c c′ : Caller} {lends lends′ : Lender} {portions portions′ : List (List ℕ)}
     (w : WholeBy c lends bytes books log portions) (w′ : WholeBy c′ lends′ bytes books log′ portions′)
     → LendsRoom lends → logRoom ≤ length log → LendsRoom lends′ → logRoom ≤ length log′
     → flatten portions ≡ flatten portions′ → Alike (framesIn (w .before ++ w .after)) (secondsBy w) (secondsBy w′)
-    → (w .before ++ w .after ≡ w′ .before ++ w′ .after) × (w .end .state ≡ w′ .end .state)
-any-two clear sound w w′ rooms room rooms′ room′ q a = let z = two-cuttings clear sound (whole-by w rooms room) (whole-by w′ rooms′ room′) q a in (z .0, z .2)
+    → (w .before ++ w .after ≡ w′ .before ++ w′ .after) × (runLog (w .before ++ w .after) ≡ runLog (w′ .before ++ w′ .after)) × (w .end .state ≡ w′ .end .state)
+any-two clear sound w w′ rooms room rooms′ room′ q a = two-cuttings clear sound (wholeBy w rooms room) (wholeBy w′ rooms′ room′) q a
+
+-- What is told of the uncut stream, its run log and the books that it leaves depend on the seconds of its own frames and on no others.
+pub uncut-alike : (books : Held) (seconds seconds′ : Seconds) (bytes : List ℕ) → Alike (framesIn (uncutTold books seconds bytes)) seconds seconds′
+    → (uncutTold books seconds bytes ≡ uncutTold books seconds′ bytes) × (uncutLog books seconds bytes ≡ uncutLog books seconds′ bytes)
+    × (uncutBooks books seconds bytes ≡ uncutBooks books seconds′ bytes)
+uncut-alike books seconds seconds′ bytes a = let z = told-alike books seconds seconds′ (scan bytes) a in (z .0, ap runLog (z .0), z .1)
 
 -- A sound state stays sound: so it is before finish, whatever the portions were.
 pub stays-sound : {bytes : List ℕ} {books : Held} → streaming.Clear bytes → Sound books → {c : Caller} {seconds : Seconds} {portions : List (List ℕ)} {ts : List Told} {s : State}

@@ -52,7 +52,7 @@ booksAfter books second (stream.noise count) = books
 abbrev pub Seconds : Type 0
 Seconds = ℕ → ℕ
 
--- "equal seconds": so many frames came in at the same second each
+-- "equal seconds": the first so many frames have, one by one, the same second in both
 abbrev pub Alike : (frames : ℕ) → Seconds → Seconds → Type 0
 Alike frames seconds seconds′ = (i : ℕ) → i < frames → seconds i ≡ seconds′ i
 

@@ -10,6 +10,6 @@ unfoldable pub secondFrom : List ℕ → (n : ℕ) → ℕ
 secondFrom [] n = n
 secondFrom (x ∷ rest) n = cond (isDigit x && ltb n 100000000000000000) (secondFrom rest (10 * n + (x - 48))) n
 
--- the whole number that a text begins with, the first 18 digits of a longer one; 0 where it begins with none
+-- the whole number that a text begins with, the first 18 digits of a longer one, zeros in front not counted; 0 where it begins with none
 abbrev pub secondIn : (text : List ℕ) → ℕ
 secondIn text = secondFrom text 0

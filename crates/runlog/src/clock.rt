@@ -2,7 +2,7 @@
 ghost use mathlib.Core.Path.{_≡_};
 ghost use Rattle.runlog.specs.Clock.{secondIn};
 
-// The whole number that a text begins with, the first 18 digits of a longer one.
+// The whole number that a text begins with, the first 18 digits of a longer one, zeros in front not counted.
 fn second_in(text: &[u8]) -> u64
     ensures { λ r. ⌜ r ≡ secondIn (now (text .entry)) ⌝ }
 {
