@@ -3,14 +3,13 @@
 use crate::judge::{hex, Input, Judge};
 use crate::lent;
 use homralgyu::raw;
-use second::answer::{number, Refusal};
+use second::answer::{number, with_place, Refusal};
 use second::book::BOOK_BYTES;
 use second::book::{self, Book};
 use second::generate::*;
 use second::kept::KEPT_BYTES;
-use second::payload::Message;
+use second::kept;
 use second::views::AreaId;
-use second::{kept, sheet};
 
 /// AIOU and count; the AIOU of an empty book is 0.
 pub fn numbers_of(book: &Book) -> [u64; 2] {
@@ -98,10 +97,10 @@ fn take_step(
     let (mut our_book, mut our_bytes) = (lent::numbers(&state), lent::bytes(bytes));
     let answer = raw::book_take(our_book.part(), our_bytes.part(), payload);
     if places < 2 {
-        judge.number(&input, answer, 9);
+        judge.answer(&input, answer, 9);
     } else {
-        let taken = take(held, bytes, payload);
-        judge.number(&input, answer, number(&taken));
+        let taken = book::take_payload(held, bytes, payload);
+        judge.answer(&input, answer, with_place(&taken));
         if let Ok(now) = taken {
             *held = now;
             *numbers = numbers_of(&now);
@@ -110,16 +109,6 @@ fn take_step(
     }
     judge.lent(&input, "the book's numbers", &our_book, &state);
     judge.lent(&input, "the book's bytes", &our_bytes, bytes);
-}
-
-/// "Order: ROOM, STATE, .. payload refusals, .. for GAD the book's refusals"
-fn take(held: &Book, bytes: &mut [u8], payload: &[u8]) -> Result<Book, Refusal> {
-    if bytes.len() < BOOK_BYTES {
-        return Err(Refusal::Room);
-    }
-    let areas = book::areas(held, bytes).ok_or(Refusal::State)?;
-    let Message::Gad(gad) = sheet::open(2, 0, payload)?.0 else { return Err(Refusal::UnknownType) };
-    book::take_blocks(held, &areas, bytes, gad.aiou, &gad.areas)
 }
 
 /// A book that takes GADs one after the other.

@@ -7,7 +7,7 @@ use crate::lent;
 use crate::marks;
 use crate::tables::{self, LentTable, Past, Table};
 use homralgyu::raw;
-use second::answer::{number, Refusal};
+use second::answer::{number, with_place, Refusal};
 use second::book::BOOK_BYTES;
 use second::desk::{self, Last, Of, LOG_BYTES, PLACES};
 use second::frame::LONGEST_PAYLOAD;
@@ -135,9 +135,12 @@ pub fn take(
         Some(desk) if places >= 1 => {
             desk::take(&desk, frame, second, &mut table.live, &mut table.run, &mut log)
         }
-        _ => Err(Refusal::Room),
+        _ => Err(Refusal::Room.into()),
     };
-    judge.number(&input, answer, number(&result));
+    judge.answer(&input, answer, with_place(&result));
+    if with_place(&result) == Refusal::Short.number() as u64 {
+        judge.mark("no place: SHORT of the frame itself");
+    }
     marks::frame_given(judge, frame);
     table.past = marks::second_given(judge, &old, frame, second, number(&result));
     if let Ok(taken) = result {

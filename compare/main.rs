@@ -12,6 +12,7 @@ mod logs;
 mod marks;
 mod meanings;
 mod payloads;
+mod places;
 mod prepares;
 mod streams;
 mod tables;
@@ -23,11 +24,12 @@ use second::generate::Rng;
 type Case = fn(&mut Rng, &mut Judge);
 
 /// What is tried, and its share of the turns.
-const CASES: [(u64, Case); 26] = [
+const CASES: [(u64, Case); 27] = [
     (18, frames::check),
     (8, frames::write),
     (20, payloads::read),
     (16, payloads::write),
+    (8, payloads::faults),
     (6, meanings::value),
     (2, meanings::orbit),
     (12, views::satellite),
@@ -86,7 +88,7 @@ const CAN: [(&str, &[usize]); 30] = [
     ("entry_residual", &[0, 1, 8, 9, 18]),
 ];
 
-/// One turn from its own seed: a case by chance, now and then a stream with much noise.
+/// One turn from its own seed: a case by chance, now and then a stream with much noise or a sheet of very many entries.
 fn turn(seed: u64, judge: &mut Judge) {
     let mut rng = Rng::new(seed);
     judge.seed = seed;
@@ -95,6 +97,9 @@ fn turn(seed: u64, judge: &mut Judge) {
     }
     if rng.one_in(4000) {
         return prepares::noisy(&mut rng, judge);
+    }
+    if rng.one_in(8000) {
+        return payloads::longest(&mut rng, judge);
     }
     let mut place = rng.below(CASES.iter().map(|(share, _)| share).sum());
     for (share, case) in CASES {
@@ -119,7 +124,8 @@ fn main() {
         judge.calls
     );
     judge.tell();
-    let missed = judge.missed(&CAN, &marks::all());
+    let all = marks::all().into_iter().map(String::from).chain(places::all()).collect::<Vec<_>>();
+    let missed = judge.missed(&CAN, &places::must(), &all);
     if count >= 100_000 && !missed.is_empty() {
         println!("compare: never met: {}", missed.join(", "));
         std::process::exit(1);

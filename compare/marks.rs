@@ -4,7 +4,7 @@ use crate::entries::Role;
 use crate::judge::Judge;
 use crate::logs::{entries, Entry};
 use crate::tables::{Past, Table};
-use second::answer::{number, Refusal};
+use second::answer::{number, Refusal, Refused};
 use second::book;
 use second::desk::{self, Desk, Last, GAP, HALF_DAY, LOG_BYTES};
 use second::entries;
@@ -363,7 +363,7 @@ fn own_answer(before: &Table, desk: &Desk, frame: &[u8]) -> u8 {
 
 fn refused_after_gap(judge: &mut Judge, before: &Table, desk: &Desk, frame: &[u8], answer: u8) {
     if let Some((_, name)) = REFUSED.iter().find(|(number, _)| *number == answer) {
-        judge.mark(name);
+        judge.mark(*name);
     }
     if answer == 13 && timeless_answer(before, desk, frame).0 == 14 {
         judge.mark("gap: refused by AREA_OFF, the old book by CONFLICT");
@@ -466,10 +466,11 @@ pub fn frame_taken(judge: &mut Judge, frame: &[u8], before: &Desk, after: &Desk,
 }
 
 /// Counts what a satellite of a sheet was; `past` says that an accepted sheet has fewer.
-pub fn satellite_seen(judge: &mut Judge, subtype: u64, past: bool, seen: &Result<SatelliteView, Refusal>) {
+pub fn satellite_seen(judge: &mut Judge, subtype: u64, past: bool, seen: &Result<SatelliteView, Refused>) {
     let first = 3 * subtype as usize;
     match seen {
-        Err(Refusal::Field) if past => judge.mark(VIEWS[first + 2]),
+        // the view's own, without a place
+        Err(Refused { why: Refusal::Field, place: None }) if past => judge.mark(VIEWS[first + 2]),
         Err(_) => {}
         Ok(SatelliteView { satellite: Satellite::OutOfUse, .. }) => judge.mark(VIEWS[first + 1]),
         Ok(SatelliteView { satellite: Satellite::InUse(blocks), .. }) => {

@@ -8,7 +8,7 @@ use crate::lent;
 use crate::marks;
 use crate::tables::{self, Table};
 use homralgyu::raw;
-use second::answer::{number, Refusal};
+use second::answer::{number, Place, Refusal};
 use second::desk::LOG_BYTES;
 use second::desk;
 use second::frame::LONGEST_FRAME;
@@ -25,15 +25,18 @@ struct Places {
     header: usize,
 }
 
-const ENOUGH: Places = Places { tray: 3, log: LOG_BYTES, told: 5, header: 15 };
+/// What is told: event, bytes used, noise, what the desk said, bytes of the log, SF number and bit.
+const TOLD: usize = 7;
+
+const ENOUGH: Places = Places { tray: 3, log: LOG_BYTES, told: TOLD, header: 15 };
 
 /// What goes on from call to call.
 struct Job {
     tray: Tray,
     bytes: Vec<u8>,
     table: Table,
-    /// the second and the answer of each frame that was told, and the log so far
-    told: Vec<(u64, u8)>,
+    /// the second and the answer, number and place, of each frame that was told, and the log so far
+    told: Vec<(u64, u64)>,
     log: Vec<u8>,
 }
 
@@ -58,7 +61,7 @@ enum Seconds<'a> {
     /// each portion has one, and finish one
     OfPortions,
     /// each frame has its own; a call that tells none is handed any
-    OfFrames(&'a [(u64, u8)]),
+    OfFrames(&'a [(u64, u64)]),
 }
 
 /// One call on both sides: the job goes on. None if it was refused.
@@ -111,7 +114,7 @@ fn step(
         ),
     };
     let result = match job.table.desk() {
-        Some(desk) if places.tray >= 3 && places.told >= 5 && places.header >= 15 => {
+        Some(desk) if places.tray >= 3 && places.told >= TOLD && places.header >= 15 => {
             let state = State { tray: job.tray, desk };
             let mut lent = prepare::Lent {
                 tray: &mut job.bytes,
@@ -132,12 +135,13 @@ fn step(
         job.tray = done.state.tray;
         job.table.put(&done.state.desk);
         numbers[..3].copy_from_slice(&[job.tray.held, job.tray.shown, job.tray.noise]);
-        told[..5].copy_from_slice(&told_of(done));
-        if let Event::Frame { length, answer, logged, .. } = done.event {
+        told[..TOLD].copy_from_slice(&told_of(done));
+        if let Event::Frame { length, answer, place, logged, .. } = done.event {
             let shown = frame::check(&job.bytes).expect("a shown frame is accepted");
             judge.same(&input, "the length of the frame shown", &(shown.length as u64), &length);
             header[..15].copy_from_slice(&header_of(&shown));
-            judge.count("prepare, of a frame", answer);
+            let in_one = in_one(answer, place);
+            judge.count_answer("prepare, of a frame", in_one);
             job.table.past = marks::second_given(judge, &old_table, &job.bytes, second, answer);
             let before = old_table.desk().expect("a desk that was shown a frame");
             if answer == 0 && !desk::gap(&before, second) {
@@ -146,7 +150,10 @@ fn step(
             if portion.is_none() {
                 judge.mark("second: a frame told by finish");
             }
-            job.told.push((second, answer));
+            if portion.is_none() && place.is_some() {
+                judge.mark("place: of a frame told by finish");
+            }
+            job.told.push((second, in_one));
             job.log.extend_from_slice(&our_log.now()[..logged]);
         }
     }
@@ -162,15 +169,23 @@ fn step(
     result.ok()
 }
 
-/// Event, bytes used, noise, what the desk said, bytes of the log.
-fn told_of(done: &Prepared) -> [u64; 5] {
+/// Event, bytes used, noise, what the desk said, bytes of the log; SF number and bit of a frame refused with a place.
+fn told_of(done: &Prepared) -> [u64; TOLD] {
     let used = done.used as u64;
     match done.event {
-        Event::Hungry => [0, used, 0, 0, 0],
-        Event::Frame { answer, logged, .. } => [1, used, 0, answer as u64, logged as u64],
-        Event::Noise { count } => [2, used, count, 0, 0],
-        Event::Done => [3, used, 0, 0, 0],
+        Event::Hungry => [0, used, 0, 0, 0, 0, 0],
+        Event::Frame { answer, place, logged, .. } => {
+            let (sf, bit) = place.map_or((0, 0), |place| (place.sf as u64, place.at as u64));
+            [1, used, 0, answer as u64, logged as u64, sf, bit]
+        }
+        Event::Noise { count } => [2, used, count, 0, 0, 0, 0],
+        Event::Done => [3, used, 0, 0, 0, 0, 0],
     }
+}
+
+/// What the desk said of a frame, number and place in one.
+fn in_one(answer: u8, place: Option<Place>) -> u64 {
+    place.map_or(answer as u64, |place| answer as u64 + ((place.sf as u64) << 8) + ((place.at as u64) << 32))
 }
 
 /// Frames for one desk as a stream, with noise, nested and cut frames between them.
@@ -312,7 +327,7 @@ pub fn odd(rng: &mut Rng, judge: &mut Judge) {
         Places {
             tray: rng.pick(&[0, 2, 3, 3, 4]),
             log: buffer_size(rng, LOG_BYTES),
-            told: rng.pick(&[0, 4, 5, 5, 6]),
+            told: rng.pick(&[0, 5, 6, 7, 7, 8]),
             header: rng.pick(&[0, 14, 15, 15, 16]),
         }
     } else {

@@ -5,7 +5,7 @@ use crate::lent::{self, Lent};
 use crate::marks;
 use crate::meanings::bits;
 use homralgyu::raw;
-use second::answer::{number, Refusal};
+use second::answer::{with_place, Refused};
 use second::generate::*;
 use second::values::{Orbit, Yaw};
 use second::views::{self, AreaId, BpacAreaId, HpacView, InUse, Satellite, SatelliteView};
@@ -34,8 +34,8 @@ impl Lending {
         judge: &mut Judge,
         input: &Input,
         rooms: [usize; 2],
-        told: &Result<Told, Refusal>,
-        call: impl Fn(&[u64], &mut [u64], &mut [f64]) -> u8,
+        told: &Result<Told, Refused>,
+        call: impl Fn(&[u64], &mut [u64], &mut [f64]) -> u64,
     ) -> bool {
         let sheet = lent::numbers(&self.sheet);
         let (mut view, mut floats) = (lent::numbers(&self.view), Lent::new(&self.floats, -7.5));
@@ -43,9 +43,9 @@ impl Lending {
         let (mut view_after, mut floats_after) = (self.view.clone(), self.floats.clone());
         let has_room = self.view.len() >= rooms[0] && self.floats.len() >= rooms[1];
         if !has_room {
-            judge.number(input, answer, 9);
+            judge.answer(input, answer, 9);
         } else {
-            judge.number(input, answer, number(told));
+            judge.answer(input, answer, with_place(told));
             if let Ok((numbers, values)) = told {
                 view_after[..numbers.len()].copy_from_slice(numbers);
                 floats_after[..values.len()].copy_from_slice(values);
@@ -278,6 +278,6 @@ pub fn bpac(rng: &mut Rng, judge: &mut Judge) {
     }
 }
 
-fn ids_of<T>(areas: Result<Vec<T>, Refusal>, id: fn(&T) -> u64) -> Vec<u64> {
+fn ids_of<T>(areas: Result<Vec<T>, Refused>, id: fn(&T) -> u64) -> Vec<u64> {
     areas.unwrap_or_default().iter().map(id).collect()
 }

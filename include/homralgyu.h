@@ -2,6 +2,11 @@
  *
  * Each call answers with document 01's number: 0 OK, 1 SHORT, 2 PREAMBLE, 3 FRAME_CRC, 4 LENGTH, 5 MESSAGE_CRC, 6 UNKNOWN_TYPE,
  * 7 MASK_EMPTY, 8 FIELD, 9 ROOM, 10 SEALED, 11 TAG, 12 NOT_OURS, 13 AREA_OFF, 14 CONFLICT, 15 BOOK_FULL, 16 LEFTOVER, 17 STATE, 18 FORM.
+ * A call that returns a uint64_t also says where a payload or a sheet is at fault: it answers number + 2^8 * SF number + 2^32 * place. The
+ * place is where the entry of that field begins, for SHORT where it would begin: a bit of the payload or an entry of the sheet, as the call
+ * says, counted from 0. SHORT, FIELD and MASK_EMPTY carry a place where a payload or a sheet is refused by them. All other refusals carry
+ * none, nor do the SHORT of a frame and the FIELD of an argument: SF number and place are 0 then, as in OK, and the answer is the number
+ * alone. So 0 is OK; to ask for another number, take it out of the answer by homralgyu_number.
  *
  * A slice is lent as a pointer and a count of its elements. What a caller in C must keep, since no call can test it:
  *   - the pointer is not null, even for 0 elements, and is aligned for its elements;
@@ -11,8 +16,8 @@
  * wrongly.
  *
  * A call writes inside the slices that it may write to and nowhere else. A slice under its stated size is ROOM, unless the call says
- * otherwise; a longer one is fine, its surplus is neither read nor written. A refusal (a number other than 0) changes nothing. On
- * success, places behind what is written stay as lent. No call keeps a pointer, takes memory or reads anything but its arguments (the
+ * otherwise; a longer one is fine, its surplus is neither read nor written. A refusal (an answer other than 0) changes nothing. On
+ * success, elements behind what is written stay as lent. No call keeps a pointer, takes memory or reads anything but its arguments (the
  * language has no heap and keeps no pointer, and no crate below these calls the C library).
  *
  * That each call does what is said of it below is proved, for all arguments (specs/ of crates/export, crates/exportviews, crates/exportdesk,
@@ -35,6 +40,25 @@ extern "C" {
 #define HOMRALGYU_BOOK_BYTES 192
 #define HOMRALGYU_KEPT_ROOM 227
 #define HOMRALGYU_LOG_ROOM 4096
+
+/* An answer of 64 bits, taken apart: document 01's number; the number of the field at fault, 20 for SF020, or 0 if there is no place; and
+ * the place, a bit of the payload or an entry of the sheet. The field is the one in use, as SF096 for Galileo's ephemeris type, and SF069 for
+ * the reserved bit. The size and the bits of a mask are two entries of one field, and each group of SF079 is an entry. An entry over 2^32 - 1,
+ * which no message has, would be told as that. */
+static inline uint8_t homralgyu_number(uint64_t answer)
+{
+    return (uint8_t)(answer & 0xFF);
+}
+
+static inline uint32_t homralgyu_sf(uint64_t answer)
+{
+    return (uint32_t)((answer >> 8) & 0xFFFFFF);
+}
+
+static inline uint32_t homralgyu_place(uint64_t answer)
+{
+    return (uint32_t)(answer >> 32);
+}
 
 /* A header: fifteen numbers. */
 enum homralgyu_header {
@@ -70,28 +94,32 @@ uint8_t homralgyu_frame_write(uint8_t message_type, uint8_t check_type, uint8_t 
                               size_t out_len, uint64_t *size, size_t size_len);
 
 /* Judges a payload of a type (TF002) and subtype (TF007) as homralgyu_payload_read does, and stores no sheet.
- * Refusals in order: ROOM (counts, 2), UNKNOWN_TYPE, LENGTH, then the first fault in reading order: SHORT, FIELD or MASK_EMPTY.
+ * Refusals in order: ROOM (counts, 2), UNKNOWN_TYPE, LENGTH, then the first fault in reading order: SHORT, FIELD or MASK_EMPTY, with SF number
+ * and bit of the payload.
  * Writes the bits of the message and its entries into counts. */
-uint8_t homralgyu_payload_judge(uint8_t kind, uint8_t subtype, const uint8_t *payload, size_t payload_len, uint64_t *counts,
-                                size_t counts_len);
+uint64_t homralgyu_payload_judge(uint8_t kind, uint8_t subtype, const uint8_t *payload, size_t payload_len, uint64_t *counts,
+                                 size_t counts_len);
 
 /* Reads a payload into a sheet, one code an entry in reading order.
- * Refusals in order: ROOM (counts, 2; sheet, 8,184), UNKNOWN_TYPE, LENGTH, then the first fault in reading order: SHORT, FIELD or MASK_EMPTY.
+ * Refusals in order: ROOM (counts, 2; sheet, 8,184), UNKNOWN_TYPE, LENGTH, then the first fault in reading order: SHORT, FIELD or MASK_EMPTY,
+ * with SF number and bit of the payload.
  * Writes the entries into the sheet, and the bits read and the entries written into counts. */
-uint8_t homralgyu_payload_read(uint8_t kind, uint8_t subtype, const uint8_t *payload, size_t payload_len, uint64_t *sheet,
-                               size_t sheet_len, uint64_t *counts, size_t counts_len);
+uint64_t homralgyu_payload_read(uint8_t kind, uint8_t subtype, const uint8_t *payload, size_t payload_len, uint64_t *sheet,
+                                size_t sheet_len, uint64_t *counts, size_t counts_len);
 
 /* Judges a sheet as homralgyu_sheet_write does, and writes no payload.
- * Refusals in order: ROOM (counts, 2), UNKNOWN_TYPE, the first fault (SHORT, FIELD or MASK_EMPTY), LEFTOVER, LENGTH.
+ * Refusals in order: ROOM (counts, 2), UNKNOWN_TYPE, the first fault (SHORT, FIELD or MASK_EMPTY, with SF number and entry of the sheet),
+ * LEFTOVER, LENGTH. For SHORT the entry is the count of those that are lent, and the field the one that is missing there.
  * Writes the bits and the bytes of the payload into counts. */
-uint8_t homralgyu_sheet_judge(uint8_t kind, uint8_t subtype, const uint64_t *sheet, size_t sheet_len, uint64_t *counts,
-                              size_t counts_len);
+uint64_t homralgyu_sheet_judge(uint8_t kind, uint8_t subtype, const uint64_t *sheet, size_t sheet_len, uint64_t *counts,
+                               size_t counts_len);
 
 /* Writes a sheet as a payload; the sheet is all its entries. The last byte is filled with zeros.
- * Refusals in order: ROOM (counts, 2; out, 1,023), UNKNOWN_TYPE, the first fault (SHORT, FIELD or MASK_EMPTY), LEFTOVER, LENGTH.
+ * Refusals in order: ROOM (counts, 2; out, 1,023), UNKNOWN_TYPE, the first fault (SHORT, FIELD or MASK_EMPTY, with SF number and entry of the
+ * sheet), LEFTOVER, LENGTH.
  * Writes the payload into out, and its bits and bytes into counts. */
-uint8_t homralgyu_sheet_write(uint8_t kind, uint8_t subtype, const uint64_t *sheet, size_t sheet_len, uint8_t *out, size_t out_len,
-                              uint64_t *counts, size_t counts_len);
+uint64_t homralgyu_sheet_write(uint8_t kind, uint8_t subtype, const uint64_t *sheet, size_t sheet_len, uint8_t *out, size_t out_len,
+                               uint64_t *counts, size_t counts_len);
 
 /* A tray is 1,103 bytes and three numbers: bytes held, length of the frame last shown, noise not yet told. At the start of a stream all
  * of it is 0.
@@ -111,11 +139,11 @@ uint8_t homralgyu_stream_finish(uint8_t *bytes, size_t bytes_len, uint64_t *tray
  * and is written as 0.
  *
  * Takes the payload of a GAD into the book, whole or not at all.
- * Refusals in order: ROOM (book, 2; bytes, 192), STATE (the book is not sound), LENGTH, the payload's first fault (SHORT or FIELD), then at the
- * first faulty block AREA_OFF, CONFLICT, BOOK_FULL.
+ * Refusals in order: ROOM (book, 2; bytes, 192), STATE (the book is not sound), LENGTH, the payload's first fault (SHORT or FIELD, with SF
+ * number and bit of the payload), then at the first faulty block AREA_OFF, CONFLICT, BOOK_FULL, without a place.
  * Writes the book's numbers, and six bytes an area. */
-uint8_t homralgyu_book_take(uint64_t *book, size_t book_len, uint8_t *bytes, size_t bytes_len, const uint8_t *payload,
-                            size_t payload_len);
+uint64_t homralgyu_book_take(uint64_t *book, size_t book_len, uint8_t *bytes, size_t bytes_len, const uint8_t *payload,
+                             size_t payload_len);
 
 /* Writes a book as a kept book.
  * Refusals in order: ROOM (book, 2; written, 1; bytes, 192; out, 227), STATE (the book is not sound).
@@ -169,30 +197,32 @@ enum homralgyu_satellite_floats {
     HOMRALGYU_SATELLITE_FLOATS            /* the room that the floats want: 5 */
 };
 
-/* Refusals in order: ROOM (view, 14; floats, 5), UNKNOWN_TYPE, the first fault (SHORT, FIELD or MASK_EMPTY), LEFTOVER, LENGTH, FIELD for a place
- * past the last satellite.
+/* Refusals in order: ROOM (view, 14; floats, 5), UNKNOWN_TYPE, the first fault (SHORT, FIELD or MASK_EMPTY, with SF number and entry of the
+ * sheet), LEFTOVER, LENGTH, FIELD with SF number 0 for a place past the last satellite.
  * Writes the numbers into view, and the floats of a satellite in use. */
-uint8_t homralgyu_satellite_at(uint8_t subtype, const uint64_t *sheet, size_t sheet_len, uint64_t place, uint64_t *view, size_t view_len,
-                               double *floats, size_t floats_len);
+uint64_t homralgyu_satellite_at(uint8_t subtype, const uint64_t *sheet, size_t sheet_len, uint64_t place, uint64_t *view, size_t view_len,
+                                double *floats, size_t floats_len);
 
 /* The first block of an area, by its ID, in a GAD sheet.
- * Refusals in order: ROOM (view, 3; floats, 4), the first fault (SHORT or FIELD), LEFTOVER, LENGTH.
+ * Refusals in order: ROOM (view, 3; floats, 4), the first fault (SHORT or FIELD, with SF number and entry of the sheet), LEFTOVER, LENGTH.
  * Writes into view 1 and the counts of nodes, SF034 and SF035; and into floats the reference corner's latitude and longitude and the spacings of
  * latitude and longitude, in degrees. That no block has the ID is no refusal: 0 is written into view, and nothing more. */
-uint8_t homralgyu_gad_area(uint8_t id, const uint64_t *sheet, size_t sheet_len, uint64_t *view, size_t view_len, double *floats,
-                           size_t floats_len);
+uint64_t homralgyu_gad_area(uint8_t id, const uint64_t *sheet, size_t sheet_len, uint64_t *view, size_t view_len, double *floats,
+                            size_t floats_len);
 
 /* The same in an HPAC sheet of a subtype.
- * Refusals in order: ROOM (view, 5), UNKNOWN_TYPE, the first fault (SHORT, FIELD or MASK_EMPTY), LEFTOVER, LENGTH.
+ * Refusals in order: ROOM (view, 5), UNKNOWN_TYPE, the first fault (SHORT, FIELD or MASK_EMPTY, with SF number and entry of the sheet), LEFTOVER,
+ * LENGTH.
  * Writes into view 1, the sheet's entry at which the block starts, SF039, and SF040 of the troposphere and of the ionosphere; or 0. */
-uint8_t homralgyu_hpac_area(uint8_t subtype, uint8_t id, const uint64_t *sheet, size_t sheet_len, uint64_t *view, size_t view_len);
+uint64_t homralgyu_hpac_area(uint8_t subtype, uint8_t id, const uint64_t *sheet, size_t sheet_len, uint64_t *view, size_t view_len);
 
 /* The same in a BPAC sheet, by a BPAC area ID, 0 to 3.
- * Refusals in order: ROOM (view, 4; floats, 5), the first fault (SHORT or FIELD), LEFTOVER, LENGTH, FIELD for an ID over 3.
+ * Refusals in order: ROOM (view, 4; floats, 5), the first fault (SHORT or FIELD, with SF number and entry of the sheet), LEFTOVER, LENGTH, FIELD
+ * with SF number 0 for an ID over 3.
  * Writes into view 1, the sheet's entry at which the block starts, and the counts of nodes, SF075 and SF076; and into floats the reference corner's
  * latitude and longitude and the spacings of latitude and longitude, in degrees, and the average VTEC in TECU; or 0 into view. */
-uint8_t homralgyu_bpac_area(uint8_t id, const uint64_t *sheet, size_t sheet_len, uint64_t *view, size_t view_len, double *floats,
-                            size_t floats_len);
+uint64_t homralgyu_bpac_area(uint8_t id, const uint64_t *sheet, size_t sheet_len, uint64_t *view, size_t view_len, double *floats,
+                             size_t floats_len);
 
 /* A desk is eleven numbers and the bytes of two books, 192 each: the live book's and the run's. */
 enum homralgyu_desk {
@@ -247,11 +277,12 @@ uint8_t homralgyu_desk_is_sound(const uint64_t *desk, size_t desk_len, const uin
 /* Takes a frame that came in at this second: a GAD into the live book; an HPAC message into the run log by the run's book, after opening a run if
  * its tag is another; after a gap with an empty live book.
  * Refusals in order: ROOM (desk, 11; written, 1; live, 192; run, 192; log, 4,096), STATE (the desk is not sound), those of homralgyu_frame_check,
- * NOT_OURS, SEALED, those of the payload, then for HPAC TAG, for GAD AREA_OFF, CONFLICT, BOOK_FULL.
+ * NOT_OURS, SEALED, the payload's first fault (SHORT, FIELD or MASK_EMPTY, with SF number and bit of the frame's payload, counted from its first
+ * bit), then for HPAC TAG, for GAD AREA_OFF, CONFLICT, BOOK_FULL, without a place. SHORT with SF number 0 is the frame's own.
  * Writes the desk, of both books bytes of areas that they hold, the entries of the run log into log, and how many bytes they have into written. */
-uint8_t homralgyu_desk_take(const uint8_t *frame, size_t frame_len, uint64_t second, uint64_t *desk, size_t desk_len, uint8_t *live,
-                            size_t live_len, uint8_t *run, size_t run_len, uint8_t *log, size_t log_len, uint64_t *written,
-                            size_t written_len);
+uint64_t homralgyu_desk_take(const uint8_t *frame, size_t frame_len, uint64_t second, uint64_t *desk, size_t desk_len, uint8_t *live,
+                             size_t live_len, uint8_t *run, size_t run_len, uint8_t *log, size_t log_len, uint64_t *written,
+                             size_t written_len);
 
 /* Takes a book (two numbers and its bytes, as homralgyu_kept_read gives them) as the live book. An open run stays as it is, and so does the
  * second of the last accepted frame.
@@ -271,21 +302,24 @@ uint8_t homralgyu_desk_find(const uint64_t *desk, size_t desk_len, const uint8_t
 uint8_t homralgyu_book_find(const uint64_t *book, size_t book_len, const uint8_t *bytes, size_t bytes_len, uint8_t id, uint8_t *area,
                             size_t area_len, uint64_t *found, size_t found_len);
 
-/* Stream and desk together: what is told is five numbers. */
+/* Stream and desk together: what is told is seven numbers. */
 enum homralgyu_told {
     HOMRALGYU_TOLD_EVENT,  /* 0 hungry, 1 frame, 2 noise, 3 done */
     HOMRALGYU_TOLD_USED,   /* bytes of the input used */
     HOMRALGYU_TOLD_NOISE,  /* the count of noise that is told, else 0 */
     HOMRALGYU_TOLD_NUMBER, /* of a frame the desk's answer: 0, or the number of its refusal; else 0 */
     HOMRALGYU_TOLD_LOG,    /* bytes of the log written */
-    HOMRALGYU_TOLD         /* the room that it wants: 5 */
+    HOMRALGYU_TOLD_SF,     /* of a frame that the desk refuses with a place: the SF number; else 0 */
+    HOMRALGYU_TOLD_BIT,    /* and the bit of the frame's payload; else 0 */
+    HOMRALGYU_TOLD         /* the room that it wants: 7 */
 };
 
 /* homralgyu_prepare_call takes input until an event is due or all of it is used, and gives a frame to the desk, with this second;
  * homralgyu_prepare_finish is called at the stream's end until it says done. Tray and its bytes are those of homralgyu_stream_call, desk and
  * the bytes of its two books, live and run, those of homralgyu_desk_take.
- * Refusals in order: ROOM (tray, 3; desk, 11; told, 5; header, 15; bytes, 1,103; live, 192; run, 192; log, 4,096), STATE (the tray or
- * the desk is not sound). A frame that the desk refuses is an event like another, with the refusal's number in told; books and log stay.
+ * Refusals in order: ROOM (tray, 3; desk, 11; told, 7; header, 15; bytes, 1,103; live, 192; run, 192; log, 4,096), STATE (the tray or
+ * the desk is not sound). A frame that the desk refuses is an event like another, with the refusal's number and place in told, as
+ * homralgyu_desk_take has them; books and log stay.
  * Writes the tray and its bytes, the desk and its books, told, and the frame's entries of the run log from the log's start on. Of a
  * frame, accepted or refused by the desk, which then lies first in the tray's bytes, it writes the header. */
 uint8_t homralgyu_prepare_call(uint8_t *bytes, size_t bytes_len, uint64_t *tray, size_t tray_len, uint64_t *desk, size_t desk_len,

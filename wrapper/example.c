@@ -1,7 +1,7 @@
 /* One job in C: messages come as a stream with noise before them, in portions of 40 bytes. Each event of the stream is printed by its number;
  * then a desk is made, the same stream is prepared, a portion a second, and each event is printed with the log bytes that it adds, and these are
- * read back entry by entry. Then an area is looked up, a message comes before and after a gap, and the book is kept and taken in by a second desk.
- * Last come views of two sheets. */
+ * read back entry by entry; of the last message a byte is lost, and the desk says where it ends too early. Then an area is looked up, a message
+ * comes before and after a gap, and the book is kept and taken in by a second desk. Last come views of two sheets, and where a third is at fault. */
 #include "homralgyu.h"
 
 #include <stdio.h>
@@ -28,10 +28,20 @@ struct input {
     size_t size;
 };
 
-static void must(uint8_t answer, const char *call)
+/* An answer: its number, and of a refusal with a place the field and the bit of the payload or the entry of the sheet. */
+static void tell_answer(unsigned number, unsigned sf, const char *unit, unsigned place)
+{
+    printf("%u", number);
+    if (sf != 0)
+        printf(" at SF%03u, %s %u", sf, unit, place);
+    printf("\n");
+}
+
+static void must(uint64_t answer, const char *call)
 {
     if (answer != 0) {
-        printf("%s answered %u\n", call, answer);
+        printf("%s answered ", call);
+        tell_answer(homralgyu_number(answer), homralgyu_sf(answer), "place", homralgyu_place(answer));
         exit(1);
     }
 }
@@ -44,16 +54,22 @@ static void print_bytes(const char *what, const uint8_t *bytes, size_t size)
     printf("\n");
 }
 
-/* A sheet as a plain frame at the end of the input. */
-static void add(struct input *input, uint8_t type, uint8_t solution, uint64_t tag, const uint64_t *sheet, size_t entries)
+/* A sheet as a plain frame at the end of the input, without the last bytes of its payload, as many as are lost. */
+static void add_cut(struct input *input, uint8_t type, uint8_t solution, uint64_t tag, const uint64_t *sheet, size_t entries,
+                    size_t lost)
 {
     uint8_t payload[HOMRALGYU_LONGEST_PAYLOAD], frame[HOMRALGYU_LONGEST_FRAME];
     uint64_t counts[2], size[1];
     must(homralgyu_sheet_write(type, GPS, sheet, entries, payload, sizeof payload, counts, 2), "sheet_write");
-    must(homralgyu_frame_write(type, 2, GPS, 0, tag, solution, PROCESSOR, payload, counts[1], frame, sizeof frame, size, 1),
+    must(homralgyu_frame_write(type, 2, GPS, 0, tag, solution, PROCESSOR, payload, counts[1] - lost, frame, sizeof frame, size, 1),
          "frame_write");
     memcpy(input->bytes + input->size, frame, size[0]);
     input->size += size[0];
+}
+
+static void add(struct input *input, uint8_t type, uint8_t solution, uint64_t tag, const uint64_t *sheet, size_t entries)
+{
+    add_cut(input, type, solution, tag, sheet, entries, 0);
 }
 
 static void make_input(struct input *input)
@@ -74,6 +90,7 @@ static void make_input(struct input *input)
     add(input, HPAC, SOLUTION, 9, slant, sizeof slant / sizeof *slant);
     add(input, HPAC, SOLUTION + 1, 9, bare, sizeof bare / sizeof *bare);
     add(input, HPAC, SOLUTION, 43200, bare, sizeof bare / sizeof *bare);
+    add_cut(input, GAD, SOLUTION, 0, gad, sizeof gad / sizeof *gad, 1); /* 64 bits, and SF037 has five from bit 61 on */
 }
 
 /* One event printed by its number; 0 where nothing more is due. With another number for an event this job would print something else, stop
@@ -175,8 +192,11 @@ static void read_log(const uint8_t *log, size_t size)
 static int tell_desk(struct job *job)
 {
     int more = tell(job);
-    if (job->told[HOMRALGYU_TOLD_EVENT] == FRAME)
-        printf("the desk answers %u\n", (unsigned)job->told[HOMRALGYU_TOLD_NUMBER]);
+    if (job->told[HOMRALGYU_TOLD_EVENT] == FRAME) {
+        printf("the desk answers ");
+        tell_answer((unsigned)job->told[HOMRALGYU_TOLD_NUMBER], (unsigned)job->told[HOMRALGYU_TOLD_SF], "bit",
+                    (unsigned)job->told[HOMRALGYU_TOLD_BIT]);
+    }
     if (job->told[HOMRALGYU_TOLD_LOG] != 0)
         print_bytes("log", job->log, job->told[HOMRALGYU_TOLD_LOG]);
     read_log(job->log, job->told[HOMRALGYU_TOLD_LOG]);
@@ -297,6 +317,16 @@ static void look(void)
            floats[HOMRALGYU_SATELLITE_YAW_ANGLE]);
 }
 
+/* Where a sheet is at fault: SF040, at the entry 6, is 0 to 2. */
+static void look_wrong(void)
+{
+    const uint64_t hpac[] = {0, 3, 0, 0, 5, 9, 3, 0};
+    uint64_t area[5];
+    uint64_t answer = homralgyu_hpac_area(GPS, 5, hpac, sizeof hpac / sizeof *hpac, area, 5);
+    printf("SF040 of 3: ");
+    tell_answer(homralgyu_number(answer), homralgyu_sf(answer), "entry", homralgyu_place(answer));
+}
+
 int main(void)
 {
     static struct job stream, job, next; /* zeros: a tray has to start so */
@@ -313,5 +343,6 @@ int main(void)
     hand_over(&job, &next);
     find(&next, 5);
     look();
+    look_wrong();
     return 0;
 }

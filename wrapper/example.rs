@@ -1,10 +1,10 @@
-//! The wrapper in use: a frame written, found in a stream behind three bytes of noise, and its payload read; then a desk that takes two messages, the
-//! run log read back, a desk before and after a gap, and views of two sheets.
+//! The wrapper in use: a frame written, found in a stream behind three bytes of noise, and its payload read; where a payload and a sheet are at fault;
+//! then a desk that takes two messages, the run log read back, a desk before and after a gap, and views of two sheets.
 
-use homralgyu::{Desk, Entry, Event, Parts, Refusal, Stream};
+use homralgyu::{Desk, Entry, Event, Fault, Parts, Stream};
 
 /// A sheet of GPS as a plain frame.
-fn frame_of(message_type: u8, sheet: &[u64]) -> Result<Vec<u8>, Refusal> {
+fn frame_of(message_type: u8, sheet: &[u64]) -> Result<Vec<u8>, Fault> {
     let mut payload = [0; homralgyu::LONGEST_PAYLOAD];
     let (bits, bytes) = homralgyu::write_sheet(message_type, 0, sheet, &mut payload)?;
     println!("payload of {bits} bits in {bytes} bytes");
@@ -23,7 +23,7 @@ fn frame_of(message_type: u8, sheet: &[u64]) -> Result<Vec<u8>, Refusal> {
     Ok(frame)
 }
 
-fn find_and_read() -> Result<(), Refusal> {
+fn find_and_read() -> Result<(), Fault> {
     // document 01, measured case 4: a GPS OCB with one unused satellite has 50 bits, 7 bytes
     let sheet = [0, 0, 0, 0, 0, 0, 0, 1 << 31, 1];
     let frame = frame_of(0, &sheet)?;
@@ -54,10 +54,21 @@ fn find_and_read() -> Result<(), Refusal> {
     println!("end: {:?}", stream.finish()?);
     println!("SF020 at 0: {:?}", homralgyu::value(20, 0)?);
     println!("a frame that is cut: {:?}", homralgyu::check(&frame[..frame.len() - 1]));
+    at_fault(homralgyu::open(&frame)?.1);
     Ok(())
 }
 
-fn desk() -> Result<(), Refusal> {
+/// Where it went wrong, in words that can go to the provider's support.
+fn at_fault(payload: &[u8]) {
+    let mut sheet = vec![0; homralgyu::SHEET_ROOM];
+    let cut = homralgyu::read_payload(0, 0, &payload[..payload.len() - 1], &mut sheet);
+    println!("a payload that is cut: {}", cut.unwrap_err());
+    let mut out = [0; homralgyu::LONGEST_PAYLOAD];
+    let empty = homralgyu::write_sheet(0, 0, &[0; 9], &mut out);
+    println!("a mask without a satellite: {}", empty.unwrap_err());
+}
+
+fn desk() -> Result<(), Fault> {
     // document 01, measured case 10: the first HPAC, without a book, one area 5
     let message = frame_of(1, &[0, 3, 0, 0, 5, 9, 0, 0])?;
     let definition = frame_of(2, &[0, 3, 0, 0, 5, 900, 0, 1, 0, 0, 0])?;
@@ -88,14 +99,15 @@ fn desk() -> Result<(), Refusal> {
 
 /// A message that opens a run, 449 seconds behind the definition and 450, which is a gap; and a frame that is cut, after a gap.
 /// The seconds are a running count that the caller keeps, and no second of the day.
-fn gap(definition: &[u8], message: &[u8]) -> Result<(), Refusal> {
+fn gap(definition: &[u8], message: &[u8]) -> Result<(), Fault> {
     let mut log = [0; homralgyu::LOG_ROOM];
     let mut desk = Desk::new(5, 11, 0)?;
     desk.take(definition, 1000, &mut log)?;
     for (frame, second) in [(message, 1449), (message, 1450), (&message[..5], 1450)] {
         let mut then = desk.clone();
-        let opened =
-            then.take(frame, second, &mut log).and_then(|written| homralgyu::read_entry(&log[..written]));
+        let opened = then
+            .take(frame, second, &mut log)
+            .and_then(|written| Ok(homralgyu::read_entry(&log[..written])?));
         println!("second {second}: {:?}", opened.map(|(entry, _)| entry));
         println!(
             "last accepted {:?}, area 5 in the live book: {:02X?}",
@@ -107,7 +119,7 @@ fn gap(definition: &[u8], message: &[u8]) -> Result<(), Refusal> {
 }
 
 /// The run log entry by entry, with the residuals of each area that is placed.
-fn read_log(mut log: &[u8]) -> Result<(), Refusal> {
+fn read_log(mut log: &[u8]) -> Result<(), Fault> {
     while !log.is_empty() {
         let (entry, used) = homralgyu::read_entry(log)?;
         println!("{entry:?}");
@@ -128,7 +140,7 @@ fn read_log(mut log: &[u8]) -> Result<(), Refusal> {
     Ok(())
 }
 
-fn look() -> Result<(), Refusal> {
+fn look() -> Result<(), Fault> {
     // satellite 1 of GPS with an orbit block and its yaw; area 5
     let ocb = [0, 0, 0, 1, 0, 0, 0, 1 << 31, 0, 4, 0, 9, 0, 8191, 16382, 59];
     let gad = [0, 3, 0, 0, 5, 900, 0, 1, 0, 0, 0];
@@ -139,7 +151,7 @@ fn look() -> Result<(), Refusal> {
     Ok(())
 }
 
-fn main() -> Result<(), Refusal> {
+fn main() -> Result<(), Fault> {
     find_and_read()?;
     desk()?;
     look()

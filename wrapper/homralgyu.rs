@@ -20,6 +20,8 @@
 //! # }
 //! ```
 
+use std::fmt;
+
 /// The longest payload, in bytes (document 01).
 pub const LONGEST_PAYLOAD: usize = 1023;
 /// The longest frame, in bytes; also a tray.
@@ -33,7 +35,8 @@ pub const KEPT_ROOM: usize = 227;
 /// The bytes of log that a frame wants.
 pub const LOG_ROOM: usize = 4096;
 
-/// The functions of `include/homralgyu.h`, on slices of any size: what document 01 calls ROOM is theirs to say.
+/// The functions of `include/homralgyu.h`, on slices of any size: what document 01 calls ROOM is theirs to say. An answer of
+/// 64 bits is number + 2^8 * SF number + 2^32 * place.
 pub mod raw {
     extern "C" {
         fn homralgyu_frame_check(
@@ -64,7 +67,7 @@ pub mod raw {
             payload_len: usize,
             counts: *mut u64,
             counts_len: usize,
-        ) -> u8;
+        ) -> u64;
         fn homralgyu_payload_read(
             kind: u8,
             subtype: u8,
@@ -74,7 +77,7 @@ pub mod raw {
             sheet_len: usize,
             counts: *mut u64,
             counts_len: usize,
-        ) -> u8;
+        ) -> u64;
         fn homralgyu_sheet_judge(
             kind: u8,
             subtype: u8,
@@ -82,7 +85,7 @@ pub mod raw {
             sheet_len: usize,
             counts: *mut u64,
             counts_len: usize,
-        ) -> u8;
+        ) -> u64;
         fn homralgyu_sheet_write(
             kind: u8,
             subtype: u8,
@@ -92,7 +95,7 @@ pub mod raw {
             out_len: usize,
             counts: *mut u64,
             counts_len: usize,
-        ) -> u8;
+        ) -> u64;
         fn homralgyu_stream_call(
             bytes: *mut u8,
             bytes_len: usize,
@@ -122,7 +125,7 @@ pub mod raw {
             bytes_len: usize,
             payload: *const u8,
             payload_len: usize,
-        ) -> u8;
+        ) -> u64;
         fn homralgyu_kept_write(
             book: *const u64,
             book_len: usize,
@@ -185,7 +188,7 @@ pub mod raw {
             log_len: usize,
             written: *mut u64,
             written_len: usize,
-        ) -> u8;
+        ) -> u64;
         fn homralgyu_desk_take_book(
             desk: *mut u64,
             desk_len: usize,
@@ -250,7 +253,7 @@ pub mod raw {
         }
     }
 
-    pub fn payload_judge(kind: u8, subtype: u8, payload: &[u8], counts: &mut [u64]) -> u8 {
+    pub fn payload_judge(kind: u8, subtype: u8, payload: &[u8], counts: &mut [u64]) -> u64 {
         unsafe {
             homralgyu_payload_judge(
                 kind,
@@ -263,7 +266,7 @@ pub mod raw {
         }
     }
 
-    pub fn payload_read(kind: u8, subtype: u8, payload: &[u8], sheet: &mut [u64], counts: &mut [u64]) -> u8 {
+    pub fn payload_read(kind: u8, subtype: u8, payload: &[u8], sheet: &mut [u64], counts: &mut [u64]) -> u64 {
         unsafe {
             homralgyu_payload_read(
                 kind,
@@ -278,7 +281,7 @@ pub mod raw {
         }
     }
 
-    pub fn sheet_judge(kind: u8, subtype: u8, sheet: &[u64], counts: &mut [u64]) -> u8 {
+    pub fn sheet_judge(kind: u8, subtype: u8, sheet: &[u64], counts: &mut [u64]) -> u64 {
         unsafe {
             homralgyu_sheet_judge(
                 kind,
@@ -291,7 +294,7 @@ pub mod raw {
         }
     }
 
-    pub fn sheet_write(kind: u8, subtype: u8, sheet: &[u64], out: &mut [u8], counts: &mut [u64]) -> u8 {
+    pub fn sheet_write(kind: u8, subtype: u8, sheet: &[u64], out: &mut [u8], counts: &mut [u64]) -> u64 {
         unsafe {
             homralgyu_sheet_write(
                 kind,
@@ -344,7 +347,7 @@ pub mod raw {
         }
     }
 
-    pub fn book_take(book: &mut [u64], bytes: &mut [u8], payload: &[u8]) -> u8 {
+    pub fn book_take(book: &mut [u64], bytes: &mut [u8], payload: &[u8]) -> u64 {
         unsafe {
             homralgyu_book_take(
                 book.as_mut_ptr(),
@@ -419,7 +422,7 @@ pub mod raw {
         run: &mut [u8],
         log: &mut [u8],
         written: &mut [u64],
-    ) -> u8 {
+    ) -> u64 {
         unsafe {
             homralgyu_desk_take(
                 frame.as_ptr(),
@@ -508,7 +511,7 @@ pub mod raw {
             view_len: usize,
             floats: *mut f64,
             floats_len: usize,
-        ) -> u8;
+        ) -> u64;
         fn homralgyu_gad_area(
             id: u8,
             sheet: *const u64,
@@ -517,7 +520,7 @@ pub mod raw {
             view_len: usize,
             floats: *mut f64,
             floats_len: usize,
-        ) -> u8;
+        ) -> u64;
         fn homralgyu_hpac_area(
             subtype: u8,
             id: u8,
@@ -525,7 +528,7 @@ pub mod raw {
             sheet_len: usize,
             view: *mut u64,
             view_len: usize,
-        ) -> u8;
+        ) -> u64;
         fn homralgyu_bpac_area(
             id: u8,
             sheet: *const u64,
@@ -534,10 +537,10 @@ pub mod raw {
             view_len: usize,
             floats: *mut f64,
             floats_len: usize,
-        ) -> u8;
+        ) -> u64;
     }
 
-    pub fn satellite_at(subtype: u8, sheet: &[u64], place: u64, view: &mut [u64], floats: &mut [f64]) -> u8 {
+    pub fn satellite_at(subtype: u8, sheet: &[u64], place: u64, view: &mut [u64], floats: &mut [f64]) -> u64 {
         unsafe {
             homralgyu_satellite_at(
                 subtype,
@@ -552,7 +555,7 @@ pub mod raw {
         }
     }
 
-    pub fn gad_area(id: u8, sheet: &[u64], view: &mut [u64], floats: &mut [f64]) -> u8 {
+    pub fn gad_area(id: u8, sheet: &[u64], view: &mut [u64], floats: &mut [f64]) -> u64 {
         unsafe {
             homralgyu_gad_area(
                 id,
@@ -566,13 +569,13 @@ pub mod raw {
         }
     }
 
-    pub fn hpac_area(subtype: u8, id: u8, sheet: &[u64], view: &mut [u64]) -> u8 {
+    pub fn hpac_area(subtype: u8, id: u8, sheet: &[u64], view: &mut [u64]) -> u64 {
         unsafe {
             homralgyu_hpac_area(subtype, id, sheet.as_ptr(), sheet.len(), view.as_mut_ptr(), view.len())
         }
     }
 
-    pub fn bpac_area(id: u8, sheet: &[u64], view: &mut [u64], floats: &mut [f64]) -> u8 {
+    pub fn bpac_area(id: u8, sheet: &[u64], view: &mut [u64], floats: &mut [f64]) -> u64 {
         unsafe {
             homralgyu_bpac_area(
                 id,
@@ -774,9 +777,108 @@ pub mod raw {
     }
 }
 
-/// A refusal by its number in document 01, 1 to 18.
+/// A refusal by its number in document 01, 1 to 18; displayed by its name there.
 #[derive(Clone, Copy, PartialEq, Eq, Debug)]
 pub struct Refusal(pub u8);
+
+const NAMES: [&str; 18] = [
+    "SHORT",
+    "PREAMBLE",
+    "FRAME_CRC",
+    "LENGTH",
+    "MESSAGE_CRC",
+    "UNKNOWN_TYPE",
+    "MASK_EMPTY",
+    "FIELD",
+    "ROOM",
+    "SEALED",
+    "TAG",
+    "NOT_OURS",
+    "AREA_OFF",
+    "CONFLICT",
+    "BOOK_FULL",
+    "LEFTOVER",
+    "STATE",
+    "FORM",
+];
+
+impl fmt::Display for Refusal {
+    fn fmt(&self, f: &mut fmt::Formatter<'_>) -> fmt::Result {
+        match NAMES.get(usize::from(self.0).wrapping_sub(1)) {
+            Some(name) => f.write_str(name),
+            None => write!(f, "number {}", self.0),
+        }
+    }
+}
+
+impl std::error::Error for Refusal {}
+
+/// What a place counts: bits of a payload, for the calls that read one, or entries of a sheet, for those that are lent one.
+#[derive(Clone, Copy, PartialEq, Eq, Debug)]
+pub enum Unit {
+    Bit,
+    Entry,
+}
+
+/// Where a payload or a sheet is at fault; displayed as `SF040, bit 34`.
+#[derive(Clone, Copy, PartialEq, Eq, Debug)]
+pub struct Place {
+    /// the number of the field, 40 for SF040; the reserved bit is SF069
+    pub sf: u32,
+    pub unit: Unit,
+    /// the bit of the payload or the entry of the sheet, from 0 on, where the field's entry begins; for SHORT where it would
+    pub at: u32,
+}
+
+impl fmt::Display for Place {
+    fn fmt(&self, f: &mut fmt::Formatter<'_>) -> fmt::Result {
+        let unit = match self.unit {
+            Unit::Bit => "bit",
+            Unit::Entry => "entry",
+        };
+        write!(f, "SF{:03}, {unit} {}", self.sf, self.at)
+    }
+}
+
+/// A refusal and its place: SHORT, FIELD and MASK_EMPTY of a payload or of a sheet have one, all other refusals none, nor do
+/// the SHORT of a frame and the FIELD of an argument. Displayed in words that can go to the provider's support:
+///
+/// ```
+/// use homralgyu::{Fault, Place, Refusal, Unit};
+/// let fault = Fault { refusal: Refusal(8), place: Some(Place { sf: 40, unit: Unit::Bit, at: 34 }) };
+/// assert_eq!(fault.to_string(), "FIELD at SF040, bit 34");
+/// assert_eq!(Fault::from(Refusal(9)).to_string(), "ROOM");
+/// ```
+///
+/// By `?` it becomes a `Refusal`, without its place, where a function returns that, and a `Refusal` becomes a `Fault`.
+#[derive(Clone, Copy, PartialEq, Eq, Debug)]
+pub struct Fault {
+    pub refusal: Refusal,
+    pub place: Option<Place>,
+}
+
+impl fmt::Display for Fault {
+    fn fmt(&self, f: &mut fmt::Formatter<'_>) -> fmt::Result {
+        match self.place {
+            Some(place) => write!(f, "{} at {place}", self.refusal),
+            None => self.refusal.fmt(f),
+        }
+    }
+}
+
+impl std::error::Error for Fault {}
+
+impl From<Fault> for Refusal {
+    fn from(fault: Fault) -> Refusal {
+        fault.refusal
+    }
+}
+
+impl From<Refusal> for Fault {
+    fn from(refusal: Refusal) -> Fault {
+        Fault { refusal, place: None }
+    }
+}
 
 fn answer<T>(number: u8, value: T) -> Result<T, Refusal> {
     if number == 0 {
@@ -784,6 +886,15 @@ fn answer<T>(number: u8, value: T) -> Result<T, Refusal> {
     } else {
         Err(Refusal(number))
     }
+}
+
+/// An answer of 64 bits, whose place is counted in this unit.
+fn placed(answer: u64, unit: Unit) -> Result<(), Fault> {
+    if answer == 0 {
+        return Ok(());
+    }
+    let (sf, at) = ((answer >> 8) as u32 & 0xFF_FFFF, (answer >> 32) as u32);
+    Err(Fault { refusal: Refusal(answer as u8), place: (sf != 0).then_some(Place { sf, unit, at }) })
 }
 
 /// TF002, TF005, TF007 to TF011 of a plain frame.
@@ -845,23 +956,25 @@ pub fn write(parts: &Parts, payload: &[u8], out: &mut [u8]) -> Result<usize, Ref
     answer(raw::frame_write(parts, payload, out, &mut size), ()).map(|()| size[0] as usize)
 }
 
-/// Reads a payload into a sheet of 8,184 entries or more: the bits read and the entries written.
+/// Reads a payload into a sheet of 8,184 entries or more: the bits read and the entries written. A fault of the payload has
+/// its place, in bits.
 pub fn read_payload(
     kind: u8,
     subtype: u8,
     payload: &[u8],
     sheet: &mut [u64],
-) -> Result<(usize, usize), Refusal> {
+) -> Result<(usize, usize), Fault> {
     let mut counts = [0; 2];
-    answer(raw::payload_read(kind, subtype, payload, sheet, &mut counts), ())
-        .map(|()| (counts[0] as usize, counts[1] as usize))
+    placed(raw::payload_read(kind, subtype, payload, sheet, &mut counts), Unit::Bit)?;
+    Ok((counts[0] as usize, counts[1] as usize))
 }
 
-/// Writes a sheet as a payload into 1,023 bytes or more: the bits and the bytes written.
-pub fn write_sheet(kind: u8, subtype: u8, sheet: &[u64], out: &mut [u8]) -> Result<(usize, usize), Refusal> {
+/// Writes a sheet as a payload into 1,023 bytes or more: the bits and the bytes written. A fault of the sheet has its place,
+/// in entries.
+pub fn write_sheet(kind: u8, subtype: u8, sheet: &[u64], out: &mut [u8]) -> Result<(usize, usize), Fault> {
     let mut counts = [0; 2];
-    answer(raw::sheet_write(kind, subtype, sheet, out, &mut counts), ())
-        .map(|()| (counts[0] as usize, counts[1] as usize))
+    placed(raw::sheet_write(kind, subtype, sheet, out, &mut counts), Unit::Entry)?;
+    Ok((counts[0] as usize, counts[1] as usize))
 }
 
 /// What a field's code means.
@@ -949,10 +1062,11 @@ pub struct Satellite {
     pub blocks: Option<Blocks>,
 }
 
-/// The satellite at a place, from 0 on in the mask's order, of an OCB sheet.
-pub fn satellite_at(subtype: u8, sheet: &[u64], place: u64) -> Result<Satellite, Refusal> {
+/// The satellite at a place, from 0 on in the mask's order, of an OCB sheet. A fault of the sheet has its place, in entries,
+/// here and in the views below; FIELD for a satellite that is not there has none.
+pub fn satellite_at(subtype: u8, sheet: &[u64], place: u64) -> Result<Satellite, Fault> {
     let (mut n, mut x) = ([0; 14], [0.0; 5]);
-    answer(raw::satellite_at(subtype, sheet, place, &mut n, &mut x), ())?;
+    placed(raw::satellite_at(subtype, sheet, place, &mut n, &mut x), Unit::Entry)?;
     let blocks = Blocks {
         continuity: n[2],
         orbit: (n[3] == 1).then_some(OrbitBlock { iode: n[4], corrections: [x[0], x[1], x[2]] }),
@@ -984,9 +1098,9 @@ pub struct Grid {
 }
 
 /// The first block with this ID of a GAD sheet.
-pub fn gad_area(id: u8, sheet: &[u64]) -> Result<Option<Grid>, Refusal> {
+pub fn gad_area(id: u8, sheet: &[u64]) -> Result<Option<Grid>, Fault> {
     let (mut n, mut x) = ([0; 3], [0.0; 4]);
-    answer(raw::gad_area(id, sheet, &mut n, &mut x), ())?;
+    placed(raw::gad_area(id, sheet, &mut n, &mut x), Unit::Entry)?;
     Ok((n[0] == 1).then_some(Grid {
         latitude: x[0],
         longitude: x[1],
@@ -1007,9 +1121,9 @@ pub struct HpacArea {
 }
 
 /// The first block with this ID of an HPAC sheet.
-pub fn hpac_area(subtype: u8, id: u8, sheet: &[u64]) -> Result<Option<HpacArea>, Refusal> {
+pub fn hpac_area(subtype: u8, id: u8, sheet: &[u64]) -> Result<Option<HpacArea>, Fault> {
     let mut n = [0; 5];
-    answer(raw::hpac_area(subtype, id, sheet, &mut n), ())?;
+    placed(raw::hpac_area(subtype, id, sheet, &mut n), Unit::Entry)?;
     Ok((n[0] == 1).then_some(HpacArea {
         start: n[1] as usize,
         points: n[2],
@@ -1026,10 +1140,10 @@ pub struct BpacArea {
     pub average: f64,
 }
 
-/// The first block with this BPAC area ID, 0 to 3, of a BPAC sheet.
-pub fn bpac_area(id: u8, sheet: &[u64]) -> Result<Option<BpacArea>, Refusal> {
+/// The first block with this BPAC area ID, 0 to 3, of a BPAC sheet. FIELD for an ID over 3 has no place.
+pub fn bpac_area(id: u8, sheet: &[u64]) -> Result<Option<BpacArea>, Fault> {
     let (mut n, mut x) = ([0; 4], [0.0; 5]);
-    answer(raw::bpac_area(id, sheet, &mut n, &mut x), ())?;
+    placed(raw::bpac_area(id, sheet, &mut n, &mut x), Unit::Entry)?;
     Ok((n[0] == 1).then_some(BpacArea {
         start: n[1] as usize,
         grid: Grid {
@@ -1123,9 +1237,9 @@ impl Book {
         Book { numbers: [0; 2], bytes: [0; BOOK_BYTES] }
     }
 
-    /// Takes a GAD payload, whole or not at all.
-    pub fn take(&mut self, payload: &[u8]) -> Result<(), Refusal> {
-        answer(raw::book_take(&mut self.numbers, &mut self.bytes, payload), ())
+    /// Takes a GAD payload, whole or not at all. A fault of the payload has its place, in bits; the book's refusals have none.
+    pub fn take(&mut self, payload: &[u8]) -> Result<(), Fault> {
+        placed(raw::book_take(&mut self.numbers, &mut self.bytes, payload), Unit::Bit)
     }
 
     /// The areas, six bytes each, ascending by ID.
@@ -1190,10 +1304,11 @@ impl Desk {
     }
 
     /// Takes a frame with the second it came in, by the caller's running count, and with 4,096 bytes or more lent for the
-    /// log: the bytes that it adds to the run log.
-    pub fn take(&mut self, frame: &[u8], second: u64, log: &mut [u8]) -> Result<usize, Refusal> {
+    /// log: the bytes that it adds to the run log. A fault of the payload has its place, in bits from the payload's first on;
+    /// SHORT without a place is the frame's own.
+    pub fn take(&mut self, frame: &[u8], second: u64, log: &mut [u8]) -> Result<usize, Fault> {
         let mut written = [0];
-        let number = raw::desk_take(
+        let answer = raw::desk_take(
             frame,
             second,
             &mut self.numbers,
@@ -1202,7 +1317,7 @@ impl Desk {
             log,
             &mut written,
         );
-        answer(number, ()).map(|()| written[0] as usize)
+        placed(answer, Unit::Bit).map(|()| written[0] as usize)
     }
 
     /// The second of the last accepted frame, as it counted; before the first one there is none. A refused frame moves none.
@@ -1241,8 +1356,8 @@ impl Desk {
 pub enum Prepared {
     /// all input is used and nothing is due
     Hungry,
-    /// a frame, the bytes of `Prepare::frame`, and what the desk said of it
-    Frame(Header, Result<(), Refusal>),
+    /// a frame, the bytes of `Prepare::frame`, and what the desk said of it: a fault of its payload has its place, in bits
+    Frame(Header, Result<(), Fault>),
     /// so many bytes of noise
     Noise(u64),
     /// after the end of the stream: all is told
@@ -1269,7 +1384,7 @@ impl Prepare {
     /// call than the one that brought its last byte; it then has the later second, and behind a stall it counts as come after
     /// the gap.
     pub fn call(&mut self, input: &[u8], second: u64) -> Result<(Prepared, usize), Refusal> {
-        let (mut told, mut header) = ([0; 5], [0; 15]);
+        let (mut told, mut header) = ([0; 7], [0; 15]);
         let number = raw::prepare_call(
             &mut self.stream.bytes,
             &mut self.stream.tray,
@@ -1289,7 +1404,7 @@ impl Prepare {
 
     /// The stream has ended; called until it says done. The second is as in `call`.
     pub fn finish(&mut self, second: u64) -> Result<Prepared, Refusal> {
-        let (mut told, mut header) = ([0; 5], [0; 15]);
+        let (mut told, mut header) = ([0; 7], [0; 15]);
         let number = raw::prepare_finish(
             &mut self.stream.bytes,
             &mut self.stream.tray,
@@ -1322,10 +1437,13 @@ impl Prepare {
     }
 }
 
-fn prepared(told: &[u64; 5], header: &[u64; 15]) -> Prepared {
+fn prepared(told: &[u64; 7], header: &[u64; 15]) -> Prepared {
     match told[0] {
         0 => Prepared::Hungry,
-        1 => Prepared::Frame(header_of(header), answer(told[3] as u8, ())),
+        1 => {
+            let answer = told[3] + (told[5] << 8) + (told[6] << 32);
+            Prepared::Frame(header_of(header), placed(answer, Unit::Bit))
+        }
         2 => Prepared::Noise(told[2]),
         _ => Prepared::Done,
     }

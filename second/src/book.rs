@@ -3,9 +3,9 @@
 //! "The book holds one AIOU and up to 32 areas, ascending by ID, six bytes each: the 47 bits of the
 //! GAD block and a zero bit, 192 bytes."
 
-use crate::answer::{stop, Refusal};
+use crate::answer::{stop, Refusal, Refused};
 use crate::payload::{gad_area, Entries, Field, GadArea, Message};
-use crate::sheet::close;
+use crate::sheet::{close, open};
 use crate::views::AreaId;
 use std::ops::Range;
 
@@ -43,11 +43,11 @@ pub fn area_of(number: u64) -> Option<GadArea> {
     /// The bits not read yet, and how many they are.
     struct Bits(u64, u32);
     impl Entries for Bits {
-        fn next(&mut self, field: Field) -> Result<u64, Refusal> {
+        fn next(&mut self, field: Field) -> Result<u64, Refused> {
             self.1 = self.1.checked_sub(field.width).ok_or(Refusal::Short)?;
             let code = self.0 >> self.1;
             self.0 -= code << self.1;
-            field.judge(code)
+            Ok(field.judge(code)?)
         }
         fn count(&self) -> usize {
             0
@@ -138,12 +138,33 @@ pub fn put(areas: &[GadArea], bytes: &mut [u8]) {
     }
 }
 
-/// Takes a GAD on a sheet: ROOM, STATE, the payload's refusals, the book's.
-pub fn take(book: &Book, bytes: &mut [u8], sheet: &[u64]) -> Result<Book, Refusal> {
+/// Takes a GAD on a sheet: ROOM, STATE, the sheet's refusals, the book's. Request 2: "Every call above
+/// passes the place on as it got it", here a sheet entry. The book's own refusals carry none.
+pub fn take(book: &Book, bytes: &mut [u8], sheet: &[u64]) -> Result<Book, Refused> {
+    let held = ready(book, bytes)?;
+    let (message, _) = close(2, 0, sheet)?;
+    Ok(take_message(book, &held, bytes, &message)?)
+}
+
+/// Takes the payload of a GAD: ROOM, STATE, the payload's refusals, the book's. The place passed on is a
+/// bit here.
+pub fn take_payload(book: &Book, bytes: &mut [u8], payload: &[u8]) -> Result<Book, Refused> {
+    let held = ready(book, bytes)?;
+    let (message, _, _) = open(2, 0, payload)?;
+    Ok(take_message(book, &held, bytes, &message)?)
+}
+
+/// ROOM and STATE, or the areas held.
+fn ready(book: &Book, bytes: &[u8]) -> Result<Vec<GadArea>, Refusal> {
     stop(bytes.len() < BOOK_BYTES, Refusal::Room)?;
-    let held = areas(book, bytes).ok_or(Refusal::State)?;
-    let Message::Gad(gad) = close(2, 0, sheet)?.0 else { return Err(Refusal::UnknownType) };
-    take_blocks(book, &held, bytes, gad.aiou, &gad.areas)
+    areas(book, bytes).ok_or(Refusal::State)
+}
+
+fn take_message(book: &Book, held: &[GadArea], bytes: &mut [u8], message: &Message) -> Result<Book, Refusal> {
+    match message {
+        Message::Gad(gad) => take_blocks(book, held, bytes, gad.aiou, &gad.areas),
+        _ => Err(Refusal::UnknownType),
+    }
 }
 
 /// Takes the blocks of a GAD into a sound book of those areas.
@@ -173,6 +194,7 @@ pub fn find(book: &Book, bytes: &[u8], id: AreaId) -> Range<usize> {
 #[cfg(test)]
 mod tests {
     use super::*;
+    use crate::answer::Place;
 
     pub fn area(id: u64, latitude: u64, latitude_count: u64, latitude_spacing: u64) -> GadArea {
         GadArea {
@@ -235,18 +257,40 @@ mod tests {
         assert_eq!(find(&book, &bytes, AreaId(6)), 0..0);
         assert_eq!(find(&book, &bytes[..191], AreaId(9)), 0..0);
         let before = bytes;
-        assert_eq!(take(&book, &mut bytes[..191], &sheet), Err(Refusal::Room));
-        assert_eq!(take(&Book { count: 3, ..book }, &mut bytes, &sheet), Err(Refusal::State));
-        assert_eq!(take(&book, &mut bytes, &sheet[..17]), Err(Refusal::Short));
+        assert_eq!(take(&book, &mut bytes[..191], &sheet), Err(Refusal::Room.into()));
+        assert_eq!(take(&Book { count: 3, ..book }, &mut bytes, &sheet), Err(Refusal::State.into()));
+        let missing = Place { sf: 37, at: 17 };
+        assert_eq!(take(&book, &mut bytes, &sheet[..17]), Err(missing.refuses(Refusal::Short)));
         // the second block is off: nothing of the first is written
         let off = [0, 4, 0, 1, 7, 900, 0, 0, 0, 0, 0, 8, 0, 0, 1, 0, 0, 0];
-        assert_eq!(take(&book, &mut bytes, &off), Err(Refusal::AreaOff));
+        assert_eq!(take(&book, &mut bytes, &off), Err(Refusal::AreaOff.into()));
         assert_eq!(bytes, before);
         // another AIOU with one area: the bytes past it stay
         let new = [0, 4, 0, 0, 200, 900, 0, 0, 0, 0, 0];
         assert_eq!(take(&book, &mut bytes, &new), Ok(Book { aiou: Some(4), count: 1 }));
         assert_eq!(bytes[0], 200);
         assert_eq!(bytes[6..], before[6..]);
+    }
+
+    #[test]
+    fn of_a_payload_the_place_is_a_bit() {
+        // SIOU 0, AIOU 3, reserved 0, one area: ID 5, latitude 900, one node
+        let mut payload = [0b00000000, 0b00011000, 0b00000000, 0b10101110, 0b00010000, 0, 0, 0, 0];
+        let mut bytes = [0xA5; BOOK_BYTES];
+        let none = Book::default();
+        let short = |sf, at| Err(Place { sf, at }.refuses(Refusal::Short));
+        assert_eq!(take_payload(&none, &mut bytes, &payload[..1]), short(5, 0));
+        assert_eq!(take_payload(&none, &mut bytes, &payload[..2]), short(30, 14));
+        assert_eq!(take_payload(&none, &mut bytes, &payload[..8]), short(37, 61));
+        assert_eq!(take_payload(&none, &mut bytes, &[]), Err(Refusal::Length.into()));
+        // latitude 1924: SF032 has bits 27 to 37
+        payload[3] |= 0b00010000;
+        let latitude = Place { sf: 32, at: 27 };
+        assert_eq!(take_payload(&none, &mut bytes, &payload), Err(latitude.refuses(Refusal::Field)));
+        assert_eq!(take_payload(&none, &mut bytes[..191], &payload), Err(Refusal::Room.into()));
+        assert_eq!(bytes, [0xA5; BOOK_BYTES]);
+        payload[3] &= 0b11101111;
+        assert_eq!(take_payload(&none, &mut bytes, &payload), Ok(Book { aiou: Some(3), count: 1 }));
     }
 
     #[test]

@@ -4,14 +4,14 @@
 //! inputs in the same order. "Biased to edges": top codes, middle codes, empty and full masks,
 //! sizes next to their bounds come far more often than by chance.
 
-use crate::answer::Refusal;
+use crate::answer::{Place, Refusal, Refused};
 use crate::bits::BitWriter;
 use crate::book::{area_number, put, with_gad, Book, BOOK_BYTES, MOST_AREAS};
 use crate::desk::{Desk, Last, Run, GAP, HALF_DAY};
 use crate::entries::{self, Entry, Placed, Satellite, BANDS, LAST_REASON, MOST_COUNT, MOST_SATELLITES};
 use crate::frame::{assemble, Plain, Seal, AUTHENTICATION_BYTES, LONGEST_FRAME, LONGEST_PAYLOAD, PREAMBLE};
 use crate::groups::groups;
-use crate::payload::{message, Entries, Field, GadArea, Takes};
+use crate::payload::{message, Entries, Field, GadArea, Takes, CONSTELLATIONS};
 use crate::sheet::open;
 use crate::stream::{Tray, MOST_NOISE};
 use std::collections::VecDeque;
@@ -124,7 +124,7 @@ struct Chooser<'a> {
 }
 
 impl Entries for Chooser<'_> {
-    fn next(&mut self, field: Field) -> Result<u64, Refusal> {
+    fn next(&mut self, field: Field) -> Result<u64, Refused> {
         let queue = self.wanted.iter_mut().find(|(sf, _)| *sf == field.sf);
         let code = match queue.and_then(|(_, codes)| codes.pop_front()) {
             Some(code) => code,
@@ -177,6 +177,11 @@ impl Chooser<'_> {
                 } else {
                     self.rng.pick(&[0, 127, 64, 1, small, some])
                 }
+            }
+            // so that a node mask has one group, some whole ones, or a last one that is not whole
+            (75 | 76, _) => {
+                let some = self.rng.below(16);
+                self.rng.pick(&[0, 15, some, some])
             }
             (40, _) if self.thin => self.rng.pick(&[0, 0, 1, 2]),
             (40, _) => self.rng.below(3),
@@ -283,7 +288,12 @@ pub fn any_sheet(rng: &mut Rng) -> Sheet {
 impl Sheet {
     /// bits of the message
     pub fn bits(&self) -> usize {
-        self.fields.iter().map(|field| field.width as usize).sum()
+        self.begins(self.fields.len())
+    }
+
+    /// bits before an entry
+    pub fn begins(&self, entry: usize) -> usize {
+        self.fields[..entry].iter().map(|field| field.width as usize).sum()
     }
 
     /// The bits of its codes, each cut to its width, valid or not; the last byte filled with zeros.
@@ -380,6 +390,142 @@ pub fn odd_sheet(rng: &mut Rng, type_: u64, subtype: u64) -> Vec<u64> {
     made.codes
 }
 
+/// A fault at one entry of a sheet that is valid but for it, or of the payload of one.
+#[derive(Clone, Copy, PartialEq, Eq, Debug)]
+pub struct Fault {
+    pub why: Refusal,
+    pub entry: usize,
+}
+
+impl Fault {
+    /// What the writer has to say of it: the entries before it are counted.
+    pub fn written(&self, sheet: &Sheet) -> Refused {
+        Place { sf: sheet.fields[self.entry].sf, at: self.entry }.refuses(self.why)
+    }
+
+    /// What the reader has to say of it: the bits of the entries before it are counted.
+    pub fn read(&self, sheet: &Sheet) -> Refused {
+        Place { sf: sheet.fields[self.entry].sf, at: sheet.begins(self.entry) }.refuses(self.why)
+    }
+}
+
+/// An entry out of these: each SF number as likely as another, however many entries have it; and of a
+/// mask its size as likely as its bits, of SF079 a group that is not whole as likely as whole ones.
+fn some_entry(rng: &mut Rng, sheet: &Sheet, of: &[usize]) -> Option<usize> {
+    let sort = |entry: usize| {
+        let Field { sf, width, .. } = sheet.fields[entry];
+        (sf, if sf == 79 { width < 64 } else { width <= 2 })
+    };
+    let mut sorts: Vec<(u16, bool)> = of.iter().map(|&entry| sort(entry)).collect();
+    sorts.sort();
+    sorts.dedup();
+    let any = (!sorts.is_empty()).then(|| rng.pick(&sorts))?;
+    let entries: Vec<usize> = of.iter().copied().filter(|&entry| sort(entry) == any).collect();
+    Some(rng.pick(&entries))
+}
+
+/// A code that the field does not take though it has its width, and what it is then: none where every
+/// such code is taken.
+fn wrong_code(rng: &mut Rng, field: Field) -> Option<(u64, Refusal)> {
+    let top = field.top();
+    match field.takes {
+        Takes::Symmetric => Some((top, Refusal::Field)),
+        Takes::Yaw => Some((rng.pick(&[60, 61, 62]), Refusal::Field)),
+        Takes::UpTo(most) if most < top => {
+            let some = rng.between(most + 1, top);
+            Some((rng.pick(&[most + 1, top, some]), Refusal::Field))
+        }
+        Takes::SatelliteMask => Some((0, Refusal::MaskEmpty)),
+        _ => None,
+    }
+}
+
+/// A code too wide for the field: just so, by far, or the old one again if it is cut to the width, to 8,
+/// 16 or 32 bits. None for 64 bits.
+fn wide_code(rng: &mut Rng, field: Field, old: u64) -> Option<u64> {
+    let bit = 1u64.checked_shl(field.width)?;
+    let far = old | 1 << rng.pick(&[8, 16, 32, 63]).max(field.width);
+    Some(rng.pick(&[bit, bit | old, far, u64::MAX]))
+}
+
+/// A valid sheet that ends before an entry.
+pub fn cut_sheet(rng: &mut Rng, sheet: &Sheet) -> (Vec<u64>, Fault) {
+    let all: Vec<usize> = (0..sheet.codes.len()).collect();
+    let entry = some_entry(rng, sheet, &all).unwrap_or(0);
+    (sheet.codes[..entry].to_vec(), Fault { why: Refusal::Short, entry })
+}
+
+/// A valid sheet with one code that its field does not take: too wide for it, or not.
+pub fn wrong_sheet(rng: &mut Rng, sheet: &Sheet) -> Option<(Vec<u64>, Fault)> {
+    let all: Vec<usize> = (0..sheet.codes.len()).collect();
+    let entry = some_entry(rng, sheet, &all)?;
+    let (field, mut codes) = (sheet.fields[entry], sheet.codes.clone());
+    let wide = wide_code(rng, field, codes[entry]).map(|code| (code, Refusal::Field));
+    let wrong = if rng.one_in(2) { wrong_code(rng, field) } else { None };
+    let (code, why) = wrong.or(wide)?;
+    codes[entry] = code;
+    Some((codes, Fault { why, entry }))
+}
+
+/// The payload of a valid sheet, ending inside an entry or just before it. A payload has whole bytes, and at
+/// least one: many an entry has no end of a byte in it.
+pub fn cut_payload(rng: &mut Rng, sheet: &Sheet) -> Option<(Vec<u8>, Fault)> {
+    let mut ends = Vec::new();
+    let mut begins = 0;
+    for (entry, field) in sheet.fields.iter().enumerate() {
+        let after = begins + field.width as usize;
+        ends.extend((begins.div_ceil(8).max(1)..after.div_ceil(8)).map(|end| (entry, end)));
+        begins = after;
+    }
+    let entries: Vec<usize> = ends.iter().map(|&(entry, _)| entry).collect();
+    let entry = some_entry(rng, sheet, &entries)?;
+    let ends: Vec<usize> = ends.into_iter().filter(|&(of, _)| of == entry).map(|(_, end)| end).collect();
+    let end = rng.pick(&ends);
+    Some((sheet.payload()[..end].to_vec(), Fault { why: Refusal::Short, entry }))
+}
+
+/// The first bytes, 1,001 to 1,023, of a message that is longer than any payload: it is SHORT far behind. None if
+/// no such message was found.
+pub fn long_payload(rng: &mut Rng, type_: u64, subtype: u64) -> Option<(Sheet, Vec<u8>, Fault)> {
+    let long = |made: &Sheet| made.bits() > 8 * LONGEST_PAYLOAD;
+    let made = (0..4).map(|_| rich_sheet(rng, type_, subtype, 3, Vec::new())).find(long)?;
+    let end = rng.between(1001, LONGEST_PAYLOAD as u64) as usize;
+    let mut after = 0;
+    let ends_in = |field: &Field| {
+        after += field.width as usize;
+        after > 8 * end
+    };
+    let entry = made.fields.iter().position(ends_in)?;
+    let payload = made.payload()[..end].to_vec();
+    Some((made, payload, Fault { why: Refusal::Short, entry }))
+}
+
+/// The payload of a valid sheet but for one code that its field does not take.
+pub fn wrong_payload(rng: &mut Rng, sheet: &Sheet) -> Option<(Vec<u8>, Fault)> {
+    let all = 0..sheet.codes.len();
+    let narrow: Vec<usize> = all.filter(|&entry| wrong_code(rng, sheet.fields[entry]).is_some()).collect();
+    let entry = some_entry(rng, sheet, &narrow)?;
+    let (code, why) = wrong_code(rng, sheet.fields[entry])?;
+    let mut other = sheet.clone();
+    other.codes[entry] = code;
+    Some((other.payload(), Fault { why, entry }))
+}
+
+/// A valid sheet of over 270,000 entries, far too long for a payload: 32 areas of HPAC with 127 nodes and
+/// 63 or 64 satellites.
+pub fn longest_sheet(rng: &mut Rng, subtype: u64) -> Sheet {
+    let mask = &CONSTELLATIONS[subtype as usize];
+    let full = u64::MAX >> (64 - mask.mask_sizes[3]);
+    let row = |codes: &[u64], count: usize| codes.iter().copied().cycle().take(count).collect();
+    let wanted = vec![
+        (30, row(&[31], 1)),
+        (39, row(&[127], 32)),
+        (40, row(&[2], 64)),
+        (mask.mask, row(&[3, full], 64)),
+    ];
+    rich_sheet(rng, 1, subtype, 0, wanted)
+}
+
 /// A payload that is read, with any fill and extra bytes behind it now and then.
 pub fn payload(rng: &mut Rng, type_: u64, subtype: u64) -> Vec<u8> {
     let made = sheet(rng, type_, subtype);
@@ -438,7 +584,7 @@ pub fn odd_payload(rng: &mut Rng, type_: u64, subtype: u64) -> Vec<u8> {
 fn refused_payload(rng: &mut Rng, type_: u64, subtype: u64, refusal: Refusal) -> Option<Vec<u8>> {
     (0..60).map(|_| odd_payload(rng, type_, subtype)).find(|odd| {
         let fits = (1..=LONGEST_PAYLOAD).contains(&odd.len());
-        fits && open(type_, subtype, odd).is_err_and(|given| given == refusal)
+        fits && open(type_, subtype, odd).is_err_and(|given| given.why == refusal)
     })
 }
 

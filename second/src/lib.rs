@@ -1,11 +1,13 @@
-//! The second program: document 01, and requests 1 and 3 of document 02, written once more, from the
+//! The second program: document 01, and requests 1 to 3 of document 02, written once more, from the
 //! documents alone.
 //!
 //! It was written without the desk's own code at hand, so that a mistake in one need not be
 //! repeated in the other. It is meant to be read beside document 01: one file a topic, the
 //! rule quoted above the lines that follow it, bit by bit rather than fast.
 //!
-//! - A refusal is `Err(Refusal)`; `answer::number` gives document 01's number of any result.
+//! - A refusal is `Err(Refusal)`, or `Err(Refused)` of a call that can say where a payload or a sheet is
+//!   at fault; `answer::number` gives document 01's number of any result, `answer::with_place` number
+//!   and place in one.
 //! - "Lent" buffers are slices; only what document 01 lets a call write is written, so the buffers
 //!   can be compared byte for byte after every call, refused ones included.
 //! - A state (tray, book, desk) is a plain struct of numbers, and may hold any numbers at all:

@@ -5,7 +5,7 @@
 //! Whoever answers decides which way it goes: the reader takes the codes from bits, the writer
 //! from a sheet, the generator makes them up.
 
-use crate::answer::Refusal;
+use crate::answer::{Refusal, Refused};
 use crate::bits::{fits, positions};
 
 /// What a field takes.
@@ -33,7 +33,8 @@ pub enum Takes {
     NodeMask,
 }
 
-/// One entry of a sheet: its SF number, its width in bits, what it takes.
+/// One entry of a sheet: its SF number, its width in bits, what it takes. "A mask's size and bits are two
+/// entries with one SF number", and so are the groups of SF079.
 #[derive(Clone, Copy, PartialEq, Eq, Debug)]
 pub struct Field {
     pub sf: u16,
@@ -70,9 +71,10 @@ impl Field {
     }
 }
 
-/// Who answers a walk: the code of the next entry, or the fault at it.
+/// Who answers a walk: the code of the next entry, or the fault at it. The walk says which field is in
+/// use there, by its SF number; whoever answers knows where it is, and says both if it is at fault.
 pub trait Entries {
-    fn next(&mut self, field: Field) -> Result<u64, Refusal>;
+    fn next(&mut self, field: Field) -> Result<u64, Refused>;
     /// entries handed out so far
     fn count(&self) -> usize;
 }
@@ -373,9 +375,9 @@ pub fn known(type_: u64, subtype: u64) -> bool {
 }
 
 /// The walk of a payload: UNKNOWN_TYPE, or its message, or the first fault in reading order.
-pub fn message<E: Entries>(e: &mut E, type_: u64, subtype: u64) -> Result<Message, Refusal> {
+pub fn message<E: Entries>(e: &mut E, type_: u64, subtype: u64) -> Result<Message, Refused> {
     if !known(type_, subtype) {
-        return Err(Refusal::UnknownType);
+        return Err(Refusal::UnknownType.into());
     }
     match type_ {
         0 => ocb(e, &CONSTELLATIONS[subtype as usize]).map(Message::Ocb),
@@ -385,20 +387,21 @@ pub fn message<E: Entries>(e: &mut E, type_: u64, subtype: u64) -> Result<Messag
     }
 }
 
-fn entry<E: Entries>(e: &mut E, sf: u16, width: u32, takes: Takes) -> Result<u64, Refusal> {
+fn entry<E: Entries>(e: &mut E, sf: u16, width: u32, takes: Takes) -> Result<u64, Refused> {
     e.next(Field { sf, width, takes })
 }
 
-fn full<E: Entries>(e: &mut E, sf: u16, width: u32) -> Result<u64, Refusal> {
+fn full<E: Entries>(e: &mut E, sf: u16, width: u32) -> Result<u64, Refused> {
     entry(e, sf, width, Takes::Full)
 }
 
-fn symmetric<E: Entries>(e: &mut E, sf: u16, width: u32) -> Result<u64, Refusal> {
+fn symmetric<E: Entries>(e: &mut E, sf: u16, width: u32) -> Result<u64, Refused> {
     entry(e, sf, width, Takes::Symmetric)
 }
 
-/// "mask size and mask bits (a number, leftmost bit highest) as two entries"
-fn satellite_mask<E: Entries>(e: &mut E, c: &Constellation) -> Result<Mask, Refusal> {
+/// "mask size and mask bits (a number, leftmost bit highest) as two entries"; request 2: "a fault of the
+/// bits has the bits' own place".
+fn satellite_mask<E: Entries>(e: &mut E, c: &Constellation) -> Result<Mask, Refused> {
     let size_code = entry(e, c.mask, 2, Takes::MaskSize)?;
     let width = c.mask_sizes[size_code as usize & 3];
     let bits = entry(e, c.mask, width, Takes::SatelliteMask)?;
@@ -406,7 +409,7 @@ fn satellite_mask<E: Entries>(e: &mut E, c: &Constellation) -> Result<Mask, Refu
 }
 
 /// "bias mask size likewise"
-fn bias_mask<E: Entries>(e: &mut E, sf: u16, c: &Constellation) -> Result<Mask, Refusal> {
+fn bias_mask<E: Entries>(e: &mut E, sf: u16, c: &Constellation) -> Result<Mask, Refused> {
     let size_code = entry(e, sf, 1, Takes::BiasSize)?;
     let width = c.bias_sizes[size_code as usize & 1];
     let bits = entry(e, sf, width, Takes::BiasMask)?;
@@ -414,9 +417,10 @@ fn bias_mask<E: Entries>(e: &mut E, sf: u16, c: &Constellation) -> Result<Mask, 
 }
 
 /// "OCB header: SF005 9, SF010 1, reserved 1, SF008 1, SF009 1, ephemeris type 2, 2, 3, 4, 3, mask."
-fn ocb<E: Entries>(e: &mut E, c: &Constellation) -> Result<Ocb, Refusal> {
+fn ocb<E: Entries>(e: &mut E, c: &Constellation) -> Result<Ocb, Refused> {
     let siou = full(e, 5, 9)?;
     let end_of_set = full(e, 10, 1)?;
+    // request 2: "The reserved bit is SF069." It is so in all four headers.
     let reserved = full(e, 69, 1)?;
     let yaw_present = full(e, 8, 1)?;
     let datum = full(e, 9, 1)?;
@@ -436,7 +440,7 @@ fn ocb_satellite<E: Entries>(
     c: &Constellation,
     number: u64,
     yaw_present: u64,
-) -> Result<OcbSatellite, Refusal> {
+) -> Result<OcbSatellite, Refused> {
     let place = e.count();
     if full(e, 13, 1)? == 1 {
         return Ok(OcbSatellite { number, entry: place, in_use: None });
@@ -451,7 +455,7 @@ fn ocb_satellite<E: Entries>(
     Ok(OcbSatellite { number, entry: place, in_use: Some(blocks) })
 }
 
-fn orbit<E: Entries>(e: &mut E, c: &Constellation, yaw_present: u64) -> Result<OrbitBlock, Refusal> {
+fn orbit<E: Entries>(e: &mut E, c: &Constellation, yaw_present: u64) -> Result<OrbitBlock, Refused> {
     Ok(OrbitBlock {
         iode: full(e, c.iode.0, c.iode.1)?,
         radial: symmetric(e, 20, 14)?,
@@ -461,7 +465,7 @@ fn orbit<E: Entries>(e: &mut E, c: &Constellation, yaw_present: u64) -> Result<O
     })
 }
 
-fn clock<E: Entries>(e: &mut E) -> Result<ClockBlock, Refusal> {
+fn clock<E: Entries>(e: &mut E) -> Result<ClockBlock, Refused> {
     Ok(ClockBlock {
         iode_continuity: full(e, 22, 3)?,
         correction: symmetric(e, 20, 14)?,
@@ -469,7 +473,7 @@ fn clock<E: Entries>(e: &mut E) -> Result<ClockBlock, Refusal> {
     })
 }
 
-fn bias<E: Entries>(e: &mut E, c: &Constellation) -> Result<BiasBlock, Refusal> {
+fn bias<E: Entries>(e: &mut E, c: &Constellation) -> Result<BiasBlock, Refused> {
     let first = e.count();
     let phase_mask = bias_mask(e, c.phase_mask, c)?;
     let mut phases = Vec::new();
@@ -488,7 +492,7 @@ fn bias<E: Entries>(e: &mut E, c: &Constellation) -> Result<BiasBlock, Refusal> 
     Ok(BiasBlock { entries: (first, e.count()), phase_mask, phases, code_mask, codes })
 }
 
-fn hpac<E: Entries>(e: &mut E, c: &Constellation) -> Result<Hpac, Refusal> {
+fn hpac<E: Entries>(e: &mut E, c: &Constellation) -> Result<Hpac, Refused> {
     let siou = full(e, 5, 9)?;
     let aiou = full(e, 68, 4)?;
     let reserved = full(e, 69, 1)?;
@@ -501,7 +505,7 @@ fn hpac<E: Entries>(e: &mut E, c: &Constellation) -> Result<Hpac, Refusal> {
     Ok(Hpac { siou, aiou, reserved, areas })
 }
 
-fn hpac_area<E: Entries>(e: &mut E, c: &Constellation) -> Result<HpacArea, Refusal> {
+fn hpac_area<E: Entries>(e: &mut E, c: &Constellation) -> Result<HpacArea, Refused> {
     let id = full(e, 31, 8)?;
     let nodes = full(e, 39, 7)?;
     let troposphere_blocks = entry(e, 40, 2, Takes::UpTo(2))?;
@@ -522,7 +526,7 @@ fn coefficients<E: Entries>(
     e: &mut E,
     equation: u64,
     fields: [(u16, u32); 4],
-) -> Result<Vec<(u16, u64)>, Refusal> {
+) -> Result<Vec<(u16, u64)>, Refused> {
     let count = match equation {
         0 => 1,
         1 => 3,
@@ -535,7 +539,7 @@ fn coefficients<E: Entries>(
     Ok(codes)
 }
 
-fn grid<E: Entries>(e: &mut E, size_code: u64, sf: u16, width: u32, nodes: u64) -> Result<Grid, Refusal> {
+fn grid<E: Entries>(e: &mut E, size_code: u64, sf: u16, width: u32, nodes: u64) -> Result<Grid, Refused> {
     let residual = Field { sf, width, takes: Takes::Residual };
     let mut residuals = Vec::new();
     for _ in 0..nodes {
@@ -544,7 +548,7 @@ fn grid<E: Entries>(e: &mut E, size_code: u64, sf: u16, width: u32, nodes: u64) 
     Ok(Grid { size_code, residual, residuals })
 }
 
-fn troposphere<E: Entries>(e: &mut E, with_grid: bool, nodes: u64) -> Result<TroposphereBlock, Refusal> {
+fn troposphere<E: Entries>(e: &mut E, with_grid: bool, nodes: u64) -> Result<TroposphereBlock, Refused> {
     let equation = entry(e, 41, 3, Takes::UpTo(2))?;
     let quality = full(e, 42, 3)?;
     let average = symmetric(e, 43, 8)?;
@@ -569,7 +573,7 @@ fn ionosphere<E: Entries>(
     c: &Constellation,
     with_grid: bool,
     nodes: u64,
-) -> Result<IonosphereBlock, Refusal> {
+) -> Result<IonosphereBlock, Refused> {
     let equation = entry(e, 54, 3, Takes::UpTo(2))?;
     let mask = satellite_mask(e, c)?;
     let mut satellites = Vec::new();
@@ -594,7 +598,7 @@ fn ionosphere<E: Entries>(
     Ok(IonosphereBlock { equation, mask, satellites })
 }
 
-fn gad<E: Entries>(e: &mut E) -> Result<Gad, Refusal> {
+fn gad<E: Entries>(e: &mut E) -> Result<Gad, Refused> {
     let siou = full(e, 5, 9)?;
     let aiou = full(e, 68, 4)?;
     let reserved = full(e, 69, 1)?;
@@ -607,7 +611,7 @@ fn gad<E: Entries>(e: &mut E) -> Result<Gad, Refusal> {
 }
 
 /// Table 6.24, the 47 bits of an area. The book and the kept book walk them too.
-pub fn gad_area<E: Entries>(e: &mut E) -> Result<GadArea, Refusal> {
+pub fn gad_area<E: Entries>(e: &mut E) -> Result<GadArea, Refused> {
     Ok(GadArea {
         id: full(e, 31, 8)?,
         latitude: entry(e, 32, 11, Takes::UpTo(1800))?,
@@ -619,7 +623,7 @@ pub fn gad_area<E: Entries>(e: &mut E) -> Result<GadArea, Refusal> {
     })
 }
 
-fn bpac<E: Entries>(e: &mut E) -> Result<Bpac, Refusal> {
+fn bpac<E: Entries>(e: &mut E) -> Result<Bpac, Refused> {
     let siou = full(e, 5, 9)?;
     let reserved = full(e, 69, 1)?;
     let shell_height = full(e, 70, 2)?;
@@ -632,7 +636,7 @@ fn bpac<E: Entries>(e: &mut E) -> Result<Bpac, Refusal> {
 }
 
 /// "average VTEC before the node mask, one VTEC block per set mask bit"
-fn bpac_area<E: Entries>(e: &mut E) -> Result<BpacArea, Refusal> {
+fn bpac_area<E: Entries>(e: &mut E) -> Result<BpacArea, Refused> {
     let id = full(e, 72, 2)?;
     let latitude = entry(e, 73, 8, Takes::UpTo(170))?;
     let longitude = entry(e, 74, 9, Takes::UpTo(360))?;
@@ -641,7 +645,7 @@ fn bpac_area<E: Entries>(e: &mut E) -> Result<BpacArea, Refusal> {
     let latitude_spacing = full(e, 77, 2)?;
     let longitude_spacing = full(e, 78, 2)?;
     let average = symmetric(e, 80, 12)?;
-    // "SF079 in groups of 64 from the left"
+    // "SF079 in groups of 64 from the left"; "Each group of SF079 is an entry."
     let mut left = ((latitude_count + 1) * (longitude_count + 1)) as u32;
     let mut present = Vec::new();
     while left > 0 {

@@ -4,9 +4,10 @@
 //! frame adds none." A call tests ROOM of every lent buffer, then STATE of tray and desk, then takes
 //! its step. What the desk says of a frame is an event of the call with its number, not a refusal.
 //! Document 02, request 1: the second "is an argument of each call and of finish, and counts for the
-//! frame told by it"; a call that tells none makes nothing of it.
+//! frame told by it"; a call that tells none makes nothing of it. Request 2: "In the joined call a refused
+//! frame is an event, so what it tells gains SF number and bit."
 
-use crate::answer::{number, stop, Refusal};
+use crate::answer::{number, stop, Place, Refusal};
 use crate::book::BOOK_BYTES;
 use crate::desk::{self, Desk, LOG_BYTES};
 use crate::frame::LONGEST_FRAME;
@@ -34,12 +35,14 @@ pub enum Event {
     Noise {
         count: u64,
     },
-    /// a frame, what the desk said of it (0 for OK) and the log bytes it wrote
+    /// a frame, what the desk said of it (0 for OK), where it went wrong if the desk says it, and the log
+    /// bytes it wrote
     Frame {
         length: u64,
         type_: u64,
         subtype: u64,
         answer: u8,
+        place: Option<Place>,
         logged: usize,
     },
 }
@@ -90,7 +93,8 @@ fn told(state: &State, lent: &mut Lent, step: Step, second: u64) -> Result<Prepa
             let taken = desk::take(&desk, frame, second, lent.live, lent.run, lent.log);
             let logged = taken.map_or(0, |taken| taken.logged);
             desk = taken.map_or(desk, |taken| taken.desk);
-            Event::Frame { length, type_, subtype, answer: number(&taken), logged }
+            let place = taken.err().and_then(|refused| refused.place);
+            Event::Frame { length, type_, subtype, answer: number(&taken), place, logged }
         }
     };
     Ok(Prepared { state: State { tray: step.tray, desk }, event, used: step.used })
@@ -133,6 +137,32 @@ mod tests {
         let said = finish(&state, &mut lent, 0).unwrap();
         assert_eq!(said.event, Event::Done);
         assert_eq!(said.state.tray, Tray::default());
+    }
+
+    #[test]
+    fn a_refused_frame_says_where_the_desk_says_it() {
+        let mut bad = HPAC;
+        bad[4] |= 0x30; // SF040 of 3, at bit 34
+        let mut mask = [&HPAC[..], &[0; 5]].concat();
+        mask[4] |= 0x04; // SF040 of the ionosphere 1, its mask empty at bit 43
+        let told = [
+            (plain(1, 7, &HPAC), 0, None),
+            (plain(1, 7, &HPAC[..4]), 1, Some(Place { sf: 39, at: 27 })),
+            (plain(1, 7, &bad), 8, Some(Place { sf: 40, at: 34 })),
+            (plain(1, 7, &mask), 7, Some(Place { sf: 11, at: 43 })),
+            (plain(2, 7, &GAD[..2]), 1, Some(Place { sf: 30, at: 14 })),
+            (plain(1, 43200, &HPAC), 11, None),
+            (plain(0, 7, &[0]), 12, None),
+        ];
+        let mut line = Line::new();
+        for (frame, expected, where_) in told {
+            let [tray, live, run, log] = &mut line.buffers;
+            let mut lent = Lent { tray, live, run, log };
+            let said = call(&line.state, &mut lent, &frame, 0).unwrap();
+            line.state = said.state;
+            let Event::Frame { answer, place, .. } = said.event else { panic!("{:?}", said.event) };
+            assert_eq!((answer, place), (expected, where_));
+        }
     }
 
     #[test]

@@ -1,6 +1,8 @@
-//! Document 01, "The sheet: a lent slice of u64, one code per field in reading order".
+//! Document 01, "The sheet: a lent slice of u64, one code per field in reading order", with document 02,
+//! request 2: SHORT, FIELD and MASK_EMPTY say where. ROOM, UNKNOWN_TYPE, LENGTH and LEFTOVER are of no
+//! entry and carry no place.
 
-use crate::answer::{stop, Refusal};
+use crate::answer::{stop, Place, Refusal, Refused};
 use crate::bits::{BitReader, BitWriter};
 use crate::frame::LONGEST_PAYLOAD;
 use crate::payload::{known, message, Entries, Field, Message};
@@ -29,9 +31,12 @@ struct FromBits<'a> {
 }
 
 impl Entries for FromBits<'_> {
-    fn next(&mut self, field: Field) -> Result<u64, Refusal> {
-        let code = self.bits.take(field.width).ok_or(Refusal::Short)?;
-        self.codes.push(field.judge(code)?);
+    /// A fault carries "the SF number and the bit where that entry begins", counted from the payload's
+    /// first bit; "For SHORT it is where the entry would begin."
+    fn next(&mut self, field: Field) -> Result<u64, Refused> {
+        let place = Place { sf: field.sf, at: self.bits.read };
+        let code = self.bits.take(field.width).ok_or(place.refuses(Refusal::Short))?;
+        self.codes.push(field.judge(code).map_err(|why| place.refuses(why))?);
         Ok(code)
     }
     fn count(&self) -> usize {
@@ -47,9 +52,12 @@ struct FromSheet<'a> {
 }
 
 impl Entries for FromSheet<'_> {
-    fn next(&mut self, field: Field) -> Result<u64, Refusal> {
-        let code = *self.sheet.get(self.taken).ok_or(Refusal::Short)?;
-        field.judge(code)?;
+    /// "from the writer, the SF number and the sheet entry", counted from 0: "for SHORT it is the sheet's
+    /// length, with the SF number of the entry missing there".
+    fn next(&mut self, field: Field) -> Result<u64, Refused> {
+        let place = Place { sf: field.sf, at: self.taken };
+        let code = *self.sheet.get(self.taken).ok_or(place.refuses(Refusal::Short))?;
+        field.judge(code).map_err(|why| place.refuses(why))?;
         self.bits.put(code, field.width);
         self.taken += 1;
         Ok(code)
@@ -61,7 +69,7 @@ impl Entries for FromSheet<'_> {
 
 /// A payload as message and sheet: "UNKNOWN_TYPE, LENGTH, then the first fault in reading order".
 /// "Reading stops at the message's own end; later bits are ignored".
-pub fn open(type_: u64, subtype: u64, payload: &[u8]) -> Result<(Message, Vec<u64>, Read), Refusal> {
+pub fn open(type_: u64, subtype: u64, payload: &[u8]) -> Result<(Message, Vec<u64>, Read), Refused> {
     stop(!known(type_, subtype), Refusal::UnknownType)?;
     stop(payload.is_empty() || payload.len() > LONGEST_PAYLOAD, Refusal::Length)?;
     let mut from = FromBits { bits: BitReader::new(payload), codes: Vec::new() };
@@ -71,7 +79,7 @@ pub fn open(type_: u64, subtype: u64, payload: &[u8]) -> Result<(Message, Vec<u6
 }
 
 /// "Reading order of checks: ROOM, UNKNOWN_TYPE, LENGTH, then the first fault in reading order"
-pub fn read(type_: u64, subtype: u64, payload: &[u8], sheet: &mut [u64]) -> Result<Read, Refusal> {
+pub fn read(type_: u64, subtype: u64, payload: &[u8], sheet: &mut [u64]) -> Result<Read, Refused> {
     stop(sheet.len() < SHEET_ENTRIES, Refusal::Room)?;
     let (_, codes, read) = open(type_, subtype, payload)?;
     // 1,023 bytes have 8,184 bits and an entry has at least one: the codes always fit.
@@ -81,7 +89,7 @@ pub fn read(type_: u64, subtype: u64, payload: &[u8], sheet: &mut [u64]) -> Resu
 
 /// A whole sheet as message and bits: "UNKNOWN_TYPE, first fault, LEFTOVER, LENGTH".
 /// "The lent sheet's length is the sheet."
-pub fn close(type_: u64, subtype: u64, sheet: &[u64]) -> Result<(Message, BitWriter), Refusal> {
+pub fn close(type_: u64, subtype: u64, sheet: &[u64]) -> Result<(Message, BitWriter), Refused> {
     let mut from = FromSheet { sheet, taken: 0, bits: BitWriter::new() };
     let message = message(&mut from, type_, subtype)?;
     stop(from.taken < sheet.len(), Refusal::Leftover)?;
@@ -91,7 +99,7 @@ pub fn close(type_: u64, subtype: u64, sheet: &[u64]) -> Result<(Message, BitWri
 
 /// "Writing: ROOM, UNKNOWN_TYPE, first fault, LEFTOVER, LENGTH." "writing 1,023 bytes of room"
 /// "The writer fills the last byte with zeros."
-pub fn write(type_: u64, subtype: u64, sheet: &[u64], out: &mut [u8]) -> Result<Written, Refusal> {
+pub fn write(type_: u64, subtype: u64, sheet: &[u64], out: &mut [u8]) -> Result<Written, Refused> {
     stop(out.len() < LONGEST_PAYLOAD, Refusal::Room)?;
     let (_, bits) = close(type_, subtype, sheet)?;
     let bytes = bits.bytes();
@@ -103,7 +111,7 @@ pub fn write(type_: u64, subtype: u64, sheet: &[u64], out: &mut [u8]) -> Result<
 mod tests {
     use super::*;
 
-    fn written(type_: u64, subtype: u64, sheet: &[u64]) -> Result<(Written, Vec<u8>), Refusal> {
+    fn written(type_: u64, subtype: u64, sheet: &[u64]) -> Result<(Written, Vec<u8>), Refused> {
         let mut out = [0xA5u8; 1025];
         let result = write(type_, subtype, sheet, &mut out);
         let upto = result.map(|w| w.bytes).unwrap_or(0);
@@ -111,12 +119,22 @@ mod tests {
         result.map(|w| (w, out[..upto].to_vec()))
     }
 
-    fn read_back(type_: u64, subtype: u64, payload: &[u8]) -> Result<(Read, Vec<u64>), Refusal> {
+    fn read_back(type_: u64, subtype: u64, payload: &[u8]) -> Result<(Read, Vec<u64>), Refused> {
         let mut sheet = [0xA5A5u64; 8186];
         let result = read(type_, subtype, payload, &mut sheet);
         let upto = result.map(|r| r.entries).unwrap_or(0);
         assert!(sheet[upto..].iter().all(|&entry| entry == 0xA5A5));
         result.map(|r| (r, sheet[..upto].to_vec()))
+    }
+
+    /// A refusal without a place.
+    fn plain<T>(why: Refusal) -> Result<T, Refused> {
+        Err(why.into())
+    }
+
+    /// A refusal at a field, at a bit or a sheet entry.
+    fn at<T>(why: Refusal, sf: u16, at: usize) -> Result<T, Refused> {
+        Err(Place { sf, at }.refuses(why))
     }
 
     /// GPS: SIOU, EOS, reserved, yaw, datum, ephemeris, mask size, mask, SF013
@@ -152,37 +170,39 @@ mod tests {
         assert!(written(0, 0, &orbit(0, 0)).is_ok());
         assert!(written(0, 0, &orbit(16382, 59)).is_ok());
         assert!(written(0, 0, &orbit(8191, 63)).is_ok());
-        assert_eq!(written(0, 0, &orbit(16383, 0)), Err(Refusal::Field));
+        assert_eq!(written(0, 0, &orbit(16383, 0)), at(Refusal::Field, 20, 12));
         for yaw in [60, 61, 62, 64] {
-            assert_eq!(written(0, 0, &orbit(0, yaw)), Err(Refusal::Field));
+            assert_eq!(written(0, 0, &orbit(0, yaw)), at(Refusal::Field, 21, 15));
         }
         let mut gad = GAD;
         gad[5] = 1801;
-        assert_eq!(written(2, 0, &gad), Err(Refusal::Field));
+        assert_eq!(written(2, 0, &gad), at(Refusal::Field, 32, 5));
         gad[5] = 0;
         gad[6] = 3601;
-        assert_eq!(written(2, 0, &gad), Err(Refusal::Field));
+        assert_eq!(written(2, 0, &gad), at(Refusal::Field, 33, 6));
     }
 
     #[test]
     fn the_writers_order() {
-        assert_eq!(write(9, 9, &[], &mut [0; 1022]), Err(Refusal::Room));
-        assert_eq!(written(0, 5, &[]), Err(Refusal::UnknownType));
-        assert_eq!(written(1, 5, &[]), Err(Refusal::UnknownType));
-        assert_eq!(written(2, 1, &[]), Err(Refusal::UnknownType));
-        assert_eq!(written(3, 1, &[]), Err(Refusal::UnknownType));
-        assert_eq!(written(4, 0, &[]), Err(Refusal::UnknownType));
-        assert_eq!(written(u64::MAX, 0, &[]), Err(Refusal::UnknownType));
-        assert_eq!(written(0, 0, &UNUSED[..8]), Err(Refusal::Short));
+        assert_eq!(write(9, 9, &[], &mut [0; 1022]), plain(Refusal::Room));
+        assert_eq!(written(0, 5, &[]), plain(Refusal::UnknownType));
+        assert_eq!(written(1, 5, &[]), plain(Refusal::UnknownType));
+        assert_eq!(written(2, 1, &[]), plain(Refusal::UnknownType));
+        assert_eq!(written(3, 1, &[]), plain(Refusal::UnknownType));
+        assert_eq!(written(4, 0, &[]), plain(Refusal::UnknownType));
+        assert_eq!(written(u64::MAX, 0, &[]), plain(Refusal::UnknownType));
+        assert_eq!(written(0, 0, &[]), at(Refusal::Short, 5, 0));
+        assert_eq!(written(0, 0, &UNUSED[..8]), at(Refusal::Short, 13, 8));
         let mut sheet = UNUSED.to_vec();
         sheet.push(0);
-        assert_eq!(written(0, 0, &sheet), Err(Refusal::Leftover));
+        assert_eq!(written(0, 0, &sheet), plain(Refusal::Leftover));
+        // the bits of the mask are entry 7, its size is entry 6
         sheet[7] = 0;
-        assert_eq!(written(0, 0, &sheet), Err(Refusal::MaskEmpty));
+        assert_eq!(written(0, 0, &sheet), at(Refusal::MaskEmpty, 11, 7));
         sheet[7] = 1 << 32;
-        assert_eq!(written(0, 0, &sheet), Err(Refusal::Field));
+        assert_eq!(written(0, 0, &sheet), at(Refusal::Field, 11, 7));
         sheet[6] = 4;
-        assert_eq!(written(0, 0, &sheet), Err(Refusal::Field));
+        assert_eq!(written(0, 0, &sheet), at(Refusal::Field, 11, 6));
     }
 
     #[test]
@@ -193,20 +213,154 @@ mod tests {
             sheet.extend_from_slice(&[0, 0, 0, 3]);
             sheet.extend([16383; 127]);
         }
-        assert_eq!(written(1, 0, &sheet), Err(Refusal::Length));
+        assert_eq!(written(1, 0, &sheet), plain(Refusal::Length));
         sheet.push(1);
-        assert_eq!(written(1, 0, &sheet), Err(Refusal::Leftover));
+        assert_eq!(written(1, 0, &sheet), plain(Refusal::Leftover));
+        // a fault wins over both, wherever it is
+        let last = sheet.len() - 2;
+        sheet[last] = 16384;
+        assert_eq!(written(1, 0, &sheet), at(Refusal::Field, 67, last));
+        assert_eq!(written(1, 0, &sheet[..last]), at(Refusal::Short, 67, last));
     }
 
     #[test]
     fn the_readers_order() {
-        assert_eq!(read(9, 9, &[], &mut [0; 8183]), Err(Refusal::Room));
-        assert_eq!(read_back(4, 0, &[]), Err(Refusal::UnknownType));
-        assert_eq!(read_back(0, 0, &[]), Err(Refusal::Length));
-        assert_eq!(read_back(0, 0, &[0; 1024]), Err(Refusal::Length));
-        assert_eq!(read_back(0, 0, &[0; 1023]), Err(Refusal::MaskEmpty));
+        assert_eq!(read(9, 9, &[], &mut [0; 8183]), plain(Refusal::Room));
+        assert_eq!(read_back(4, 0, &[]), plain(Refusal::UnknownType));
+        assert_eq!(read_back(0, 0, &[]), plain(Refusal::Length));
+        assert_eq!(read_back(0, 0, &[0; 1024]), plain(Refusal::Length));
+        // the size of the mask is at bit 15, its bits are at bit 17
+        assert_eq!(read_back(0, 0, &[0; 1023]), at(Refusal::MaskEmpty, 11, 17));
         let (_, bytes) = written(0, 0, &UNUSED).unwrap();
-        assert_eq!(read_back(0, 0, &bytes[..6]), Err(Refusal::Short));
+        assert_eq!(read_back(0, 0, &bytes[..6]), at(Refusal::Short, 11, 17));
+        assert_eq!(read_back(0, 0, &bytes[..2]), at(Refusal::Short, 11, 15));
+        assert_eq!(read_back(0, 0, &bytes[..1]), at(Refusal::Short, 5, 0));
+        // BeiDou's ephemeris type is at bits 13 to 16
+        assert_eq!(read_back(0, 3, &bytes[..2]), at(Refusal::Short, 97, 13));
+        // SF040 of the ionosphere at bit 19 + 8 + 7 + 2
+        let mut hpac = [0; 9];
+        hpac[4] = 0b00001100;
+        assert_eq!(read_back(1, 0, &hpac), at(Refusal::Field, 40, 36));
+        hpac[4] = 0b00000100;
+        // SF054 at bit 38, mask size at 41, mask at 43
+        assert_eq!(read_back(1, 4, &hpac), at(Refusal::MaskEmpty, 95, 43));
+        assert_eq!(read_back(1, 0, &hpac), at(Refusal::Short, 11, 43));
+    }
+
+    /// What the tables of document 000 say of one message each: SF number and bits of every entry.
+    type Rows = Vec<(u16, usize)>;
+
+    /// The rows of a constellation's OCB, tables 6.3 to 6.12: two satellites, the first out of use, the
+    /// second with all blocks, the yaw, two phase biases and two code biases.
+    fn ocb_rows(constellation: [(u16, usize); 5], bias_bits: usize) -> Rows {
+        let [ephemeris, (mask, mask_bits), iode, (phases, _), (codes, _)] = constellation;
+        let mut rows = vec![(5, 9), (10, 1), (69, 1), (8, 1), (9, 1), ephemeris];
+        rows.extend([(mask, 2), (mask, mask_bits)]);
+        rows.extend([(13, 1), (13, 1), (14, 3), (15, 3)]);
+        rows.extend([iode, (20, 14), (20, 14), (20, 14), (21, 6)]);
+        rows.extend([(22, 3), (20, 14), (24, 3)]);
+        rows.extend([(phases, 1), (phases, bias_bits)]);
+        rows.extend([(23, 1), (15, 3), (20, 14), (23, 1), (15, 3), (20, 14)]);
+        rows.extend([(codes, 1), (codes, bias_bits), (29, 11), (29, 11)]);
+        rows
+    }
+
+    /// Its codes, all of them 0 but for flags and masks.
+    #[rustfmt::skip]
+    const OCB: [u64; 32] = [
+        0, 0, 0, 1, 0, 0, 0, 3, // yaw present, two satellites
+        1, 0, 7, 0, // out of use; in use with all blocks
+        0, 0, 0, 0, 0, 0, 0, 0, // orbit, yaw, clock
+        0, 3, 0, 0, 0, 0, 0, 0, // two phase biases
+        0, 3, 0, 0, // two code biases
+    ];
+
+    /// An HPAC of one area, tables 6.13 to 6.22: equation types 2, both size indicators at these, residuals of
+    /// these sizes, two nodes, two satellites.
+    fn hpac(large: u64, troposphere: u64, ionosphere: u64, mask: (u16, usize)) -> (Vec<u64>, Rows) {
+        let mut rows = vec![(5, 9), (68, 4), (69, 1), (30, 5), (31, 8), (39, 7), (40, 2), (40, 2)];
+        let mut codes = vec![0, 0, 0, 0, 0, 2, 2, 2];
+        rows.extend([(41, 3), (42, 3), (43, 8), (44, 1)]);
+        codes.extend([2, 0, 0, large]);
+        rows.extend(match large {
+            0 => [(45, 7), (46, 7), (46, 7), (47, 9)],
+            _ => [(48, 9), (49, 9), (49, 9), (50, 11)],
+        });
+        rows.push((51, 1));
+        rows.extend([[(52, 6), (53, 8)][troposphere as usize]; 2]);
+        codes.extend([0, 0, 0, 0, troposphere, 0, 0]);
+        rows.extend([(54, 3), (mask.0, 2), mask]);
+        codes.extend([2, 0, 3]);
+        for _ in 0..2 {
+            rows.extend([(55, 4), (56, 1)]);
+            rows.extend(match large {
+                0 => [(57, 12), (58, 12), (58, 12), (59, 13)],
+                _ => [(60, 14), (61, 14), (61, 14), (62, 15)],
+            });
+            rows.push((63, 2));
+            rows.extend([[(64, 4), (65, 7), (66, 10), (67, 14)][ionosphere as usize]; 2]);
+            codes.extend([0, large, 0, 0, 0, 0, ionosphere, 0, 0]);
+        }
+        (codes, rows)
+    }
+
+    /// A message of each layout, with its rows.
+    fn messages() -> Vec<(u64, u64, Vec<u64>, Rows)> {
+        let mut all = Vec::new();
+        // ephemeris type, mask, IODE, phase bias mask, code bias mask; bits of a bias mask of size 0
+        let constellations = [
+            ([(16, 2), (11, 32), (18, 8), (25, 6), (27, 6)], 6),
+            ([(17, 2), (12, 24), (19, 7), (26, 5), (28, 5)], 5),
+            ([(96, 3), (93, 36), (99, 10), (102, 8), (105, 8)], 8),
+            ([(97, 4), (94, 37), (100, 8), (103, 8), (106, 8)], 8),
+            ([(98, 3), (95, 10), (101, 8), (104, 6), (107, 6)], 6),
+        ];
+        for (subtype, (of, bias_bits)) in constellations.into_iter().enumerate() {
+            all.push((0, subtype as u64, OCB.to_vec(), ocb_rows(of, bias_bits)));
+            for (large, troposphere, ionosphere) in [(0, 0, 0), (1, 1, 1), (0, 1, 2), (1, 0, 3)] {
+                let (codes, rows) = hpac(large, troposphere, ionosphere, of[1]);
+                all.push((1, subtype as u64, codes, rows));
+            }
+        }
+        let mut rows = vec![(5, 9), (68, 4), (69, 1), (30, 5)];
+        let area = [(31, 8), (32, 11), (33, 12), (34, 3), (35, 3), (36, 5), (37, 5)];
+        rows.extend(area.iter().chain(&area));
+        all.push((2, 0, [vec![0, 0, 0, 1], vec![0; 14]].concat(), rows));
+        // 16 x 5 nodes, in groups of 64 and 16 bits; a small and a large residual
+        let mut rows = vec![(5, 9), (69, 1), (70, 2), (71, 2), (72, 2), (73, 8), (74, 9)];
+        rows.extend([(75, 4), (76, 4), (77, 2), (78, 2), (80, 12), (79, 64), (79, 16)]);
+        rows.extend([(55, 4), (81, 1), (82, 7), (55, 4), (81, 1), (83, 11)]);
+        all.push((3, 0, vec![0, 0, 0, 0, 0, 0, 0, 15, 4, 0, 0, 0, 1, 1, 0, 0, 0, 0, 1, 0], rows));
+        all
+    }
+
+    #[test]
+    fn the_place_of_every_entry_is_that_of_the_tables() {
+        let mut met = std::collections::BTreeSet::new();
+        for (type_, subtype, codes, rows) in messages() {
+            assert_eq!(codes.len(), rows.len(), "{type_}-{subtype}");
+            let (w, bytes) = written(type_, subtype, &codes).unwrap();
+            assert_eq!(w.bits, rows.iter().map(|(_, bits)| bits).sum::<usize>());
+            let mut begins: usize = 0;
+            for (entry, &(sf, bits)) in rows.iter().enumerate() {
+                met.insert(sf);
+                // the sheet ends before it, or its code is too wide for it
+                assert_eq!(written(type_, subtype, &codes[..entry]), at(Refusal::Short, sf, entry));
+                if bits < 64 {
+                    let mut wide = codes.clone();
+                    wide[entry] = 1 << bits;
+                    assert_eq!(written(type_, subtype, &wide), at(Refusal::Field, sf, entry));
+                }
+                // the payload ends in it
+                for end in begins.div_ceil(8).max(1)..(begins + bits).div_ceil(8) {
+                    assert_eq!(read_back(type_, subtype, &bytes[..end]), at(Refusal::Short, sf, begins));
+                }
+                begins += bits;
+            }
+        }
+        // all SF numbers of tables 6.3 to 6.28
+        let all = [5].into_iter().chain(8..=37).chain(39..=83).chain(93..=107);
+        assert_eq!(met, all.collect());
     }
 
     #[test]
@@ -226,9 +380,10 @@ mod tests {
         assert_eq!(read_back(3, 0, &bytes).unwrap().1, sheet);
         let mut wide = sheet;
         wide[13] = 256;
-        assert_eq!(written(3, 0, &wide), Err(Refusal::Field));
+        assert_eq!(written(3, 0, &wide), at(Refusal::Field, 79, 13));
         // a node mask without a bit is accepted
         assert!(written(3, 0, &[3, 0, 3, 0, 2, 170, 360, 0, 0, 3, 0, 4094, 0]).is_ok());
-        assert_eq!(written(3, 0, &[3, 0, 3, 0, 2, 170, 360, 0, 0, 3, 0, 4095, 0]), Err(Refusal::Field));
+        let average = [3, 0, 3, 0, 2, 170, 360, 0, 0, 3, 0, 4095, 0];
+        assert_eq!(written(3, 0, &average), at(Refusal::Field, 80, 11));
     }
 }

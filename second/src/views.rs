@@ -1,10 +1,11 @@
 //! Views of a message on a sheet: a satellite of an OCB, an area of an HPAC, GAD or BPAC.
 //!
 //! A view is given of a sheet that the writer would take: the writer's refusals (UNKNOWN_TYPE, first
-//! fault, LEFTOVER, LENGTH) come first. "Where an ID repeats in a message, a call that looks for it
-//! finds the first."
+//! fault, LEFTOVER, LENGTH) come first, SHORT, FIELD and MASK_EMPTY with the SF number and the sheet
+//! entry (request 2). "A view's own FIELD (a place past the last satellite) has none", and nor has that of
+//! an ID out of its range. "Where an ID repeats in a message, a call that looks for it finds the first."
 
-use crate::answer::Refusal;
+use crate::answer::{Refusal, Refused};
 use crate::payload::{Bpac, Gad, Grid, Hpac, Message, Ocb, OcbSatellite};
 use crate::sheet::close;
 use crate::values::{count, float, orbit, residual, yaw, Orbit, Residual, Yaw};
@@ -61,14 +62,14 @@ pub struct SatelliteView {
     pub satellite: Satellite,
 }
 
-fn ocb(subtype: u64, sheet: &[u64]) -> Result<Ocb, Refusal> {
+fn ocb(subtype: u64, sheet: &[u64]) -> Result<Ocb, Refused> {
     match close(0, subtype, sheet)?.0 {
         Message::Ocb(ocb) => Ok(ocb),
-        _ => Err(Refusal::UnknownType),
+        _ => Err(Refusal::UnknownType.into()),
     }
 }
 
-fn view(of: &OcbSatellite) -> Result<SatelliteView, Refusal> {
+fn view(of: &OcbSatellite) -> Result<SatelliteView, Refused> {
     let satellite = match &of.in_use {
         None => Satellite::OutOfUse,
         Some(blocks) => Satellite::InUse(InUse {
@@ -99,24 +100,24 @@ fn view(of: &OcbSatellite) -> Result<SatelliteView, Refusal> {
 }
 
 /// All satellites of an OCB in mask order.
-pub fn satellites(subtype: u64, sheet: &[u64]) -> Result<Vec<SatelliteView>, Refusal> {
+pub fn satellites(subtype: u64, sheet: &[u64]) -> Result<Vec<SatelliteView>, Refused> {
     ocb(subtype, sheet)?.satellites.iter().map(view).collect()
 }
 
 /// The satellite at a place: 0 for the first of the mask. A place past the last: FIELD.
-pub fn satellite(subtype: u64, sheet: &[u64], place: u64) -> Result<SatelliteView, Refusal> {
+pub fn satellite(subtype: u64, sheet: &[u64], place: u64) -> Result<SatelliteView, Refused> {
     let all = satellites(subtype, sheet)?;
-    all.into_iter().nth(usize::try_from(place).unwrap_or(usize::MAX)).ok_or(Refusal::Field)
+    all.into_iter().nth(usize::try_from(place).unwrap_or(usize::MAX)).ok_or(Refusal::Field.into())
 }
 
 /// The satellite of a number; none if the mask does not have it.
-pub fn satellite_of(subtype: u64, sheet: &[u64], number: u64) -> Result<Option<SatelliteView>, Refusal> {
+pub fn satellite_of(subtype: u64, sheet: &[u64], number: u64) -> Result<Option<SatelliteView>, Refused> {
     Ok(satellites(subtype, sheet)?.into_iter().find(|s| s.number == number))
 }
 
 /// The satellite whose SF013 is this entry of the sheet; an entry that is no SF013: FIELD.
-pub fn satellite_at(subtype: u64, sheet: &[u64], entry: u64) -> Result<SatelliteView, Refusal> {
-    satellites(subtype, sheet)?.into_iter().find(|s| s.entry as u64 == entry).ok_or(Refusal::Field)
+pub fn satellite_at(subtype: u64, sheet: &[u64], entry: u64) -> Result<SatelliteView, Refused> {
+    satellites(subtype, sheet)?.into_iter().find(|s| s.entry as u64 == entry).ok_or(Refusal::Field.into())
 }
 
 /// An area of a GAD.
@@ -132,14 +133,14 @@ pub struct GadView {
     pub longitude_spacing: f64,
 }
 
-fn gad(sheet: &[u64]) -> Result<Gad, Refusal> {
+fn gad(sheet: &[u64]) -> Result<Gad, Refused> {
     match close(2, 0, sheet)?.0 {
         Message::Gad(gad) => Ok(gad),
-        _ => Err(Refusal::UnknownType),
+        _ => Err(Refusal::UnknownType.into()),
     }
 }
 
-pub fn gad_areas(sheet: &[u64]) -> Result<Vec<GadView>, Refusal> {
+pub fn gad_areas(sheet: &[u64]) -> Result<Vec<GadView>, Refused> {
     let view = |area: &crate::payload::GadArea| {
         Ok(GadView {
             id: AreaId(area.id),
@@ -155,10 +156,10 @@ pub fn gad_areas(sheet: &[u64]) -> Result<Vec<GadView>, Refusal> {
 }
 
 /// The first area of that ID; none if there is none. An ID over 255: FIELD, after the sheet's own.
-pub fn gad_area(sheet: &[u64], id: AreaId) -> Result<Option<GadView>, Refusal> {
+pub fn gad_area(sheet: &[u64], id: AreaId) -> Result<Option<GadView>, Refused> {
     let areas = gad_areas(sheet)?;
     if id.0 > 255 {
-        return Err(Refusal::Field);
+        return Err(Refusal::Field.into());
     }
     Ok(areas.into_iter().find(|area| area.id == id))
 }
@@ -201,10 +202,10 @@ pub struct IonosphereSatelliteView {
     pub residuals: Option<Vec<Residual>>,
 }
 
-fn hpac(subtype: u64, sheet: &[u64]) -> Result<Hpac, Refusal> {
+fn hpac(subtype: u64, sheet: &[u64]) -> Result<Hpac, Refused> {
     match close(1, subtype, sheet)?.0 {
         Message::Hpac(hpac) => Ok(hpac),
-        _ => Err(Refusal::UnknownType),
+        _ => Err(Refusal::UnknownType.into()),
     }
 }
 
@@ -223,7 +224,7 @@ fn residuals(grid: &Option<Grid>) -> Result<Option<Vec<Residual>>, Refusal> {
     }
 }
 
-pub fn hpac_areas(subtype: u64, sheet: &[u64]) -> Result<Vec<HpacView>, Refusal> {
+pub fn hpac_areas(subtype: u64, sheet: &[u64]) -> Result<Vec<HpacView>, Refused> {
     let mut views = Vec::new();
     for area in &hpac(subtype, sheet)?.areas {
         let troposphere = match &area.troposphere {
@@ -257,10 +258,10 @@ pub fn hpac_areas(subtype: u64, sheet: &[u64]) -> Result<Vec<HpacView>, Refusal>
 }
 
 /// The first area of that ID; none if there is none. An ID over 255: FIELD, after the sheet's own.
-pub fn hpac_area(subtype: u64, sheet: &[u64], id: AreaId) -> Result<Option<HpacView>, Refusal> {
+pub fn hpac_area(subtype: u64, sheet: &[u64], id: AreaId) -> Result<Option<HpacView>, Refused> {
     let areas = hpac_areas(subtype, sheet)?;
     if id.0 > 255 {
-        return Err(Refusal::Field);
+        return Err(Refusal::Field.into());
     }
     Ok(areas.into_iter().find(|area| area.id == id))
 }
@@ -282,14 +283,14 @@ pub struct BpacView {
     pub nodes: Vec<Option<(u64, Residual)>>,
 }
 
-fn bpac(sheet: &[u64]) -> Result<Bpac, Refusal> {
+fn bpac(sheet: &[u64]) -> Result<Bpac, Refused> {
     match close(3, 0, sheet)?.0 {
         Message::Bpac(bpac) => Ok(bpac),
-        _ => Err(Refusal::UnknownType),
+        _ => Err(Refusal::UnknownType.into()),
     }
 }
 
-pub fn bpac_areas(sheet: &[u64]) -> Result<Vec<BpacView>, Refusal> {
+pub fn bpac_areas(sheet: &[u64]) -> Result<Vec<BpacView>, Refused> {
     let mut views = Vec::new();
     for area in &bpac(sheet)?.areas {
         let mut vtecs = area.vtecs.iter();
@@ -319,10 +320,10 @@ pub fn bpac_areas(sheet: &[u64]) -> Result<Vec<BpacView>, Refusal> {
 }
 
 /// The first area of that ID; none if there is none. An ID over 3: FIELD, after the sheet's own.
-pub fn bpac_area(sheet: &[u64], id: BpacAreaId) -> Result<Option<BpacView>, Refusal> {
+pub fn bpac_area(sheet: &[u64], id: BpacAreaId) -> Result<Option<BpacView>, Refused> {
     let areas = bpac_areas(sheet)?;
     if id.0 > 3 {
-        return Err(Refusal::Field);
+        return Err(Refusal::Field.into());
     }
     Ok(areas.into_iter().find(|area| area.id == id))
 }
@@ -330,6 +331,10 @@ pub fn bpac_area(sheet: &[u64], id: BpacAreaId) -> Result<Option<BpacView>, Refu
 #[cfg(test)]
 mod tests {
     use super::*;
+    use crate::answer::Place;
+
+    /// "A view's own FIELD .. has none": no place.
+    const OWN: Refused = Refused { why: Refusal::Field, place: None };
 
     #[test]
     fn a_satellite_is_out_of_use_or_carries_blocks() {
@@ -356,14 +361,19 @@ mod tests {
         let clock = blocks.clock.unwrap();
         assert_eq!((clock.iode_continuity, clock.correction, clock.range_error), (2, 0.002, 7));
         assert_eq!(blocks.biases, 20..27);
-        assert_eq!(satellite(4, &sheet, 2), Err(Refusal::Field));
-        assert_eq!(satellite(4, &sheet, u64::MAX), Err(Refusal::Field));
-        assert_eq!(satellite(5, &sheet, 0), Err(Refusal::UnknownType));
-        assert_eq!(satellite(4, &sheet[..26], 0), Err(Refusal::Short));
+        assert_eq!(satellite(4, &sheet, 2), Err(OWN));
+        assert_eq!(satellite(4, &sheet, u64::MAX), Err(OWN));
+        assert_eq!(satellite(5, &sheet, 0), Err(Refusal::UnknownType.into()));
+        // the sheet's refusals, with their place, come first: the bits of the code bias mask are missing,
+        // and the yaw is out of its range
+        assert_eq!(satellite(4, &sheet[..26], 2), Err(Place { sf: 107, at: 26 }.refuses(Refusal::Short)));
+        let mut yaw = sheet;
+        yaw[16] = 62;
+        assert_eq!(satellite(4, &yaw, 0), Err(Place { sf: 21, at: 16 }.refuses(Refusal::Field)));
         assert_eq!(satellite_of(4, &sheet, 202), Ok(Some(second.clone())));
         assert_eq!(satellite_of(4, &sheet, 194), Ok(None));
         assert_eq!(satellite_at(4, &sheet, 9), Ok(second));
-        assert_eq!(satellite_at(4, &sheet, 10), Err(Refusal::Field));
+        assert_eq!(satellite_at(4, &sheet, 10), Err(OWN));
     }
 
     #[test]
@@ -386,7 +396,11 @@ mod tests {
         assert_eq!((area.latitude_nodes, area.longitude_nodes), (8, 1));
         assert_eq!((area.latitude_spacing, area.longitude_spacing), (3.2, 0.1));
         assert_eq!(gad_area(&sheet, AreaId(6)), Ok(None));
-        assert_eq!(gad_area(&sheet, AreaId(256)), Err(Refusal::Field));
+        assert_eq!(gad_area(&sheet, AreaId(256)), Err(OWN));
+        assert_eq!(
+            gad_area(&sheet[..17], AreaId(256)),
+            Err(Place { sf: 37, at: 17 }.refuses(Refusal::Short))
+        );
     }
 
     #[test]
@@ -397,7 +411,9 @@ mod tests {
         let expected = [None, Some((15, Residual::Invalid)), Some((1, Residual::Tecu(-255.75))), None];
         assert_eq!(area.nodes, expected);
         assert_eq!(bpac_area(&sheet, BpacAreaId(1)), Ok(None));
-        assert_eq!(bpac_area(&sheet, BpacAreaId(4)), Err(Refusal::Field));
+        assert_eq!(bpac_area(&sheet, BpacAreaId(4)), Err(OWN));
+        let large = Place { sf: 83, at: 18 };
+        assert_eq!(bpac_area(&sheet[..18], BpacAreaId(4)), Err(large.refuses(Refusal::Short)));
     }
 
     #[test]
@@ -421,5 +437,9 @@ mod tests {
         let second = ionosphere.satellites[1].residuals.clone().unwrap();
         assert_eq!(second, [Residual::Invalid, Residual::Tecu(327.64)]);
         assert_eq!(hpac_area(0, &sheet, AreaId(6)), Ok(None));
+        let mut empty = sheet;
+        empty[18] = 0;
+        let mask = Place { sf: 11, at: 18 };
+        assert_eq!(hpac_area(0, &empty, AreaId(6)), Err(mask.refuses(Refusal::MaskEmpty)));
     }
 }

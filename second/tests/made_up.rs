@@ -1,7 +1,7 @@
 //! Round trips and agreements over made-up inputs, and that the generator reaches every answer and
 //! option that it promises.
 
-use second::answer::{number, Refusal};
+use second::answer::{number, with_place, Place, Refusal, Refused};
 use second::book::{self, Book};
 use second::desk::{self, Last, Of};
 use second::entries::{self, Coded, Entry, BANDS};
@@ -14,6 +14,7 @@ use second::values::Residual;
 use second::views::AreaId;
 use second::{groups, kept, sheet, values, views};
 use std::collections::{BTreeMap, BTreeSet};
+use std::ops::RangeInclusive;
 
 /// The numbers of a test. With SEED set to a number in the environment, other ones.
 fn made_from(test: u64) -> Rng {
@@ -238,6 +239,149 @@ fn odd_payloads_reach_every_refusal_and_what_is_read_is_written_back() {
     assert_eq!(reached, BTreeSet::from([0, 1, 4, 6, 7, 8, 9]));
 }
 
+/// The SF numbers of the tables of document 000 that are in these ranges.
+fn sf_numbers(ranges: &[RangeInclusive<u16>]) -> BTreeSet<u16> {
+    ranges.iter().cloned().flatten().collect()
+}
+
+/// Does a refusal carry a place exactly if it is one that has to?
+fn says_where(refused: &Refused) -> bool {
+    let has_one = matches!(refused.why, Refusal::Short | Refusal::Field | Refusal::MaskEmpty);
+    refused.place.is_some() == has_one
+}
+
+/// The SF numbers of the faults met, by the refusal.
+type Met = BTreeMap<Refusal, BTreeSet<u16>>;
+
+fn meet(met: &mut Met, expected: Refused) {
+    met.entry(expected.why).or_default().insert(expected.place.unwrap().sf);
+}
+
+#[test]
+fn a_fault_is_said_at_the_entry_it_was_put_at_and_every_sf_number_comes() {
+    let mut rng = made_from(17);
+    let (mut reading, mut writing) = (Met::new(), Met::new());
+    let (mut out, mut entries) = ([0xA5; 1023], [0xA5; 8184]);
+    for round in 0..12 * 250usize {
+        let (type_, subtype) = TWELVE[round % 12];
+        let made = second::generate::sheet(&mut rng, type_, subtype);
+        for _ in 0..3 {
+            let faulty = [Some(cut_sheet(&mut rng, &made)), wrong_sheet(&mut rng, &made)];
+            for (codes, fault) in faulty.into_iter().flatten() {
+                let expected = fault.written(&made);
+                assert_eq!(sheet::close(type_, subtype, &codes).err(), Some(expected));
+                assert_eq!(sheet::write(type_, subtype, &codes, &mut out), Err(expected));
+                // for SHORT the entry is the sheet's length
+                let at = expected.place.unwrap().at;
+                assert_eq!(at == codes.len(), expected.why == Refusal::Short);
+                meet(&mut writing, expected);
+                // longer behind the fault, it is the same
+                if expected.why != Refusal::Short {
+                    let longer = [&codes[..], &[u64::MAX]].concat();
+                    assert_eq!(sheet::close(type_, subtype, &longer).err(), Some(expected));
+                }
+            }
+            let faulty = [cut_payload(&mut rng, &made), wrong_payload(&mut rng, &made)];
+            for (payload, fault) in faulty.into_iter().flatten() {
+                let expected = fault.read(&made);
+                assert_eq!(sheet::open(type_, subtype, &payload).err(), Some(expected));
+                assert_eq!(sheet::read(type_, subtype, &payload, &mut entries), Err(expected));
+                meet(&mut reading, expected);
+            }
+        }
+    }
+    assert!(out.iter().all(|&byte| byte == 0xA5) && entries.iter().all(|&entry| entry == 0xA5));
+    let masks = sf_numbers(&[11..=12, 93..=95]);
+    // tables 6.3 to 6.28
+    let all = sf_numbers(&[5..=5, 8..=37, 39..=83, 93..=107]);
+    let expected =
+        [(Refusal::Short, all.clone()), (Refusal::MaskEmpty, masks.clone()), (Refusal::Field, all)];
+    assert_eq!(writing, expected.into());
+    // A payload ends at the end of a byte, and the headers begin at its first bit: in OCB SF010, SF069,
+    // SF008, SF009 and the ephemeris types but BeiDou's lie within bits 9 to 15, in HPAC and GAD SF068 and
+    // SF069, in BPAC SF069 to SF071. None of these is ever SHORT.
+    let short = sf_numbers(&[5..=5, 11..=15, 18..=37, 39..=67, 72..=83, 93..=95, 97..=97, 99..=107]);
+    // "Codes": those that do not take their full width
+    let field = sf_numbers(&[20..=21, 29..=29, 32..=33, 40..=41, 43..=43, 45..=50, 54..=54, 57..=62]);
+    let field = &field | &sf_numbers(&[73..=74, 80..=80]);
+    let expected = [(Refusal::Short, short), (Refusal::MaskEmpty, masks), (Refusal::Field, field)];
+    assert_eq!(reading, expected.into());
+}
+
+#[test]
+fn only_short_field_and_mask_empty_say_where_and_a_mask_at_its_bits() {
+    let mut rng = made_from(18);
+    let mut masks = BTreeSet::new();
+    for round in 0..8000usize {
+        let (type_, subtype) = TWELVE[round % 12];
+        let told = if rng.one_in(20) { (rng.below(6), rng.below(17)) } else { (type_, subtype) };
+        let codes = odd_sheet(&mut rng, type_, subtype);
+        let size = buffer_size(&mut rng, 1023);
+        let written = sheet::write(told.0, told.1, &codes, &mut vec![0; size]);
+        let payload = odd_payload(&mut rng, type_, subtype);
+        let size = buffer_size(&mut rng, 8184);
+        let read = sheet::read(told.0, told.1, &payload, &mut vec![0; size]);
+        for refused in written.err().iter().chain(&read.err()) {
+            assert!(says_where(refused), "{refused:?}");
+            let answer = with_place(&Err::<(), Refused>(*refused));
+            let place = refused.place.unwrap_or(Place { sf: 0, at: 0 });
+            assert_eq!(answer % 256, refused.why.number() as u64);
+            assert_eq!((answer >> 8 & 0xFF_FFFF, answer >> 32), (place.sf as u64, place.at as u64));
+        }
+        let Err(Refused { why, place: Some(place) }) = written else { continue };
+        // an entry at fault is on the sheet, and what stands there is what is wrong
+        match why {
+            Refusal::Short => assert_eq!(place.at, codes.len()),
+            Refusal::MaskEmpty => {
+                assert_eq!(codes[place.at], 0);
+                assert!(codes[place.at - 1] <= 3);
+                masks.insert((type_, place.sf));
+                // with a bit in the mask the fault, if there is one left, is behind it
+                let mut mended = codes.clone();
+                mended[place.at] = 1;
+                let then = sheet::close(told.0, told.1, &mended).err().and_then(|refused| refused.place);
+                assert!(then.is_none_or(|then| then.at > place.at));
+            }
+            _ => {
+                let mut mended = codes.clone();
+                mended[place.at] = if mended[place.at] == 0 { 1 } else { 0 };
+                let then = sheet::close(told.0, told.1, &mended).err();
+                let here = |refused: Refused| refused.place == Some(place) && refused.why == Refusal::Field;
+                assert!(!then.is_some_and(here));
+            }
+        }
+    }
+    let of = |type_: u64| [11, 12, 93, 94, 95].map(|sf| (type_, sf));
+    assert_eq!(masks, of(0).into_iter().chain(of(1)).collect());
+}
+
+#[test]
+fn the_longest_payloads_and_the_longest_sheet_of_all_say_where() {
+    let mut rng = made_from(19);
+    let mut met = BTreeSet::new();
+    for round in 0..240usize {
+        let (type_, subtype) = TWELVE[round % 12];
+        let Some((made, payload, fault)) = long_payload(&mut rng, type_, subtype) else { continue };
+        let expected = fault.read(&made);
+        assert!(expected.place.unwrap().at > 7900);
+        assert_eq!(sheet::open(type_, subtype, &payload).err(), Some(expected));
+        met.insert(type_);
+    }
+    // 32 areas of GAD are 1,523 bits; a BPAC is rarely so long
+    assert!(met.contains(&0) && met.contains(&1) && !met.contains(&2));
+    for subtype in [0, 1] {
+        let mut made = longest_sheet(&mut rng, subtype);
+        let count = made.codes.len();
+        assert!(count > 270_000);
+        assert_eq!(sheet::close(1, subtype, &made.codes).err(), Some(Refusal::Length.into()));
+        let last = made.fields[count - 1];
+        let at = |why| Some(Place { sf: last.sf, at: count - 1 }.refuses(why));
+        assert_eq!(sheet::close(1, subtype, &made.codes[..count - 1]).err(), at(Refusal::Short));
+        made.codes[count - 1] = last.top() + 1;
+        assert_eq!(sheet::close(1, subtype, &made.codes).err(), at(Refusal::Field));
+    }
+}
+
 #[test]
 fn every_code_of_every_valued_field_is_judged() {
     for sf in values::valued() {
@@ -286,10 +430,14 @@ fn views_agree_with_the_sheet() {
         }
         let odd = odd_sheet(&mut rng, type_, subtype);
         let place = rng.below(70);
-        let _ = views::satellite(subtype, &odd, place);
-        let _ = views::hpac_area(subtype, &odd, AreaId(place));
-        let _ = views::gad_area(&odd, AreaId(place));
-        let _ = views::bpac_area(&odd, views::BpacAreaId(place));
+        // a view's refusals are the writer's, place and all; its own FIELD has no place
+        let own = |of| sheet::close(of, if of < 2 { subtype } else { 0 }, &odd).err();
+        let seen = views::satellite(subtype, &odd, place).err();
+        assert!(seen == own(0) || own(0).is_none() && seen == Some(Refusal::Field.into()));
+        assert_eq!(views::hpac_area(subtype, &odd, AreaId(place)).err(), own(1));
+        assert_eq!(views::gad_area(&odd, AreaId(place)).err(), own(2));
+        let seen = views::bpac_area(&odd, views::BpacAreaId(place)).err();
+        assert!(seen == own(3) || own(3).is_none() && place > 3 && seen == Some(Refusal::Field.into()));
     }
 }
 
@@ -580,7 +728,7 @@ fn told(log: &[u8]) -> Vec<(u64, u64)> {
 
 /// What a stream told, call by call, and what it left.
 struct Said {
-    answers: Vec<u8>,
+    answers: Vec<(u8, Option<Place>)>,
     log: Vec<u8>,
     desk: desk::Desk,
     live: Vec<u8>,
@@ -632,8 +780,8 @@ fn together(
             },
             prepare::Event::Done => break,
             prepare::Event::Noise { .. } => {}
-            prepare::Event::Frame { answer, logged, .. } => {
-                answers.push(answer);
+            prepare::Event::Frame { answer, place, logged, .. } => {
+                answers.push((answer, place));
                 told.extend_from_slice(&log[..logged]);
                 at_finish += finishing as u64;
             }
@@ -645,7 +793,7 @@ fn together(
 #[test]
 fn scenes_reach_every_answer_and_entry_and_the_joined_call_agrees() {
     let mut rng = made_from(10);
-    let mut reached = BTreeSet::new();
+    let (mut reached, mut places) = (BTreeSet::new(), BTreeSet::new());
     let mut logged = BTreeSet::new();
     let mut longest = 0;
     // frames taken after a gap, and frames that finish told
@@ -663,8 +811,15 @@ fn scenes_reach_every_answer_and_entry_and_the_joined_call_agrees() {
             let result = desk::take(&desk, frame, second, &mut live, &mut run, &mut log);
             reached.insert(number(&result));
             match result {
-                Err(_) => {
+                Err(refused) => {
                     assert_eq!((&live, &run, &log), (&before_live, &before_run, &as_lent));
+                    // the place is the payload's as its reader gives it; a frame's own SHORT has none
+                    let own = check(frame).ok().filter(|_| [1, 7, 8].contains(&refused.why.number()));
+                    let payload = own.map(|of| (of.type_, of.subtype, frame[of.payload].to_vec()));
+                    let said =
+                        payload.map(|(type_, subtype, of)| sheet::open(type_, subtype, &of).unwrap_err());
+                    assert_eq!(refused.place, said.and_then(|said| said.place));
+                    places.extend(refused.place.map(|_| refused.why));
                 }
                 Ok(taken) => {
                     desk = taken.desk;
@@ -705,7 +860,7 @@ fn scenes_reach_every_answer_and_entry_and_the_joined_call_agrees() {
                 latest = latest.max(second);
                 seconds.push(second);
                 let result = desk::take(&apart, &input[at..], second, &mut live, &mut run, &mut log);
-                apart_answers.push(number(&result));
+                apart_answers.push((number(&result), result.err().and_then(|refused| refused.place)));
                 if let Ok(taken) = result {
                     gaps += desk::gap(&apart, second) as u64;
                     apart = taken.desk;
@@ -726,6 +881,7 @@ fn scenes_reach_every_answer_and_entry_and_the_joined_call_agrees() {
     // SHORT to MESSAGE_CRC, MASK_EMPTY, FIELD, SEALED to BOOK_FULL
     let expected: BTreeSet<u8> = [0, 1, 2, 3, 4, 5, 7, 8, 10, 11, 12, 13, 14, 15].into();
     assert_eq!(reached, expected);
+    assert_eq!(places, BTreeSet::from([Refusal::Short, Refusal::MaskEmpty, Refusal::Field]));
     assert_eq!(logged, BTreeSet::from([(1, 0), (2, 0), (3, 1), (3, 2), (3, 3), (3, 4)]));
     assert!(longest < 4096 && longest > 500, "{longest}");
 }
@@ -913,7 +1069,17 @@ fn gads_on_sheets_are_taken_by_the_book() {
         let aiou = rng.pick(&[same, same, same, same, same, other]);
         let sheet = gad_sheet(&mut rng, aiou, &blocks);
         let before = bytes.clone();
+        // cut, the sheet says an entry and the payload a bit
+        let (codes, fault) = cut_sheet(&mut rng, &sheet);
+        assert_eq!(book::take(&book, &mut bytes, &codes), Err(fault.written(&sheet)));
+        let (payload, fault) = cut_payload(&mut rng, &sheet).unwrap();
+        assert_eq!(book::take_payload(&book, &mut bytes, &payload), Err(fault.read(&sheet)));
+        assert_eq!(bytes, before);
+        let mut copy = bytes.clone();
         let result = book::take(&book, &mut bytes, &sheet.codes);
+        assert_eq!(book::take_payload(&book, &mut copy, &sheet.payload()), result);
+        assert_eq!(copy, bytes);
+        assert!(result.err().is_none_or(|refused| says_where(&refused)));
         reached.insert(number(&result));
         match result {
             Err(_) => assert_eq!(bytes, before),

@@ -8,6 +8,7 @@ use native.Mathlib.Numerals.{add-one}
 use lib.Dec.{eqb}
 use lib.ListN.{length, drop}
 use borrow.Author.Tests.{lt-ltb, le-ltb, eq-eqb, ne-eqb}
+use Rattle.answer.specs.Place.{nowhere}
 use Rattle.answer.specs.declared.Refusal.the-variants.{AreaOff, Conflict, BookFull}
 use Rattle.bits.specs.Bits.{field, got}
 use Rattle.bits.specs.Laws.{got-there, field-lt}
@@ -140,17 +141,17 @@ module _ (a n : ℕ) (f : Found) where
   pub found-same : (b : ℕ) → f ≡ Area b → a ≡ b → Held n ≡ judgeFound a f n
   found-same b e q = rw (e, eq-eqb a b q)
 
-  pub found-other : (b : ℕ) → f ≡ Area b → (a ≡ b → ⊥) → Refused Conflict ≡ judgeFound a f n
+  pub found-other : (b : ℕ) → f ≡ Area b → (a ≡ b → ⊥) → Refused (nowhere Conflict) ≡ judgeFound a f n
   found-other b e q = rw (e, ne-eqb a b q)
 
   pub found-new : f ≡ Nothing → n < mostAreas → Held (n + 1) ≡ judgeFound a f n
   found-new e h = rw (e, lt-ltb n mostAreas h)
 
-  pub found-full : f ≡ Nothing → mostAreas ≤ n → Refused BookFull ≡ judgeFound a f n
+  pub found-full : f ≡ Nothing → mostAreas ≤ n → Refused (nowhere BookFull) ≡ judgeFound a f n
   found-full e h = rw (e, le-ltb n mostAreas h)
 
 module _ (p l m : List ℕ) (i n x : ℕ) (ex : x ≡ blockAt p i) (b : Bool) (eb : b ≡ areaOff x) where
-  pub block-off : b ≡ true → Refused AreaOff ≡ judgeBlock (blockAt p i) (orElse (lookup (sf031 (blockAt p i)) l) (lookup (sf031 (blockAt p i)) m)) n
+  pub block-off : b ≡ true → Refused (nowhere AreaOff) ≡ judgeBlock (blockAt p i) (orElse (lookup (sf031 (blockAt p i)) l) (lookup (sf031 (blockAt p i)) m)) n
   block-off h = let z : areaOff (blockAt p i) ≡ true = ap areaOff (sym ex) ∙ sym eb ∙ h in rw z
 
   pub block-on : b ≡ false → (d : ℕ) (f : Found) (r : Judged) → d ≡ sf031 x → f ≡ orElse (lookup d l) (lookup d m) → r ≡ judgeFound x f n

@@ -6,7 +6,8 @@ use Prim.Native.Nat.{ℕ, _*_, _≤_, _<_}
 use native.Mathlib.Omega.{arith}
 use lib.ListN.{length}
 use borrow.Author.Tests.{lt-ltb, le-ltb, not-true, not-false}
-use Rattle.answer.specs.declared.Refusal.{Refusal}
+use Rattle.answer.specs.declared.Fault as answer
+use Rattle.answer.specs.Place.{nowhere}
 use Rattle.answer.specs.declared.Refusal.the-variants as refusal
 use Rattle.sizes.specs.Sizes.{bookBytes}
 use Rattle.layout.specs.Layout as layout
@@ -24,7 +25,7 @@ use Rattle.book.specs.declared.Taken.the-variants as taking
 
 module _ (book : Book) (s p : List ℕ) where
   -- no room, or no sound book
-  pub take-room : length s < bookBytes → taking.Refused refusal.Room ≡ takenOf book s p
+  pub take-room : length s < bookBytes → taking.Refused (nowhere refusal.Room) ≡ takenOf book s p
   unfolding outcome
   take-room h = rw (lt-ltb (length s) bookBytes h)
 
@@ -33,7 +34,7 @@ module _ (book : Book) (s p : List ℕ) where
   left-room h = rw (lt-ltb (length s) bookBytes h)
 
   module _ (h : bookBytes ≤ length s) (b : Bool) (eb : b ≡ sound book s) where
-    pub take-state : not b ≡ true → taking.Refused refusal.State ≡ takenOf book s p
+    pub take-state : not b ≡ true → taking.Refused (nowhere refusal.State) ≡ takenOf book s p
     unfolding outcome
     take-state k = let y : sound book s ≡ false = sym eb ∙ not-true b k in rw (le-ltb (length s) bookBytes h, y)
 
@@ -46,7 +47,7 @@ module _ (book : Book) (s p : List ℕ) where
       take-sound = sym eb ∙ not-false b k
 
       module _ (v : ReadAnswer) (ev : v ≡ judged 2 0 p) where
-        module _ (r : Refusal) (q : v ≡ reader.Refused r) where
+        module _ (r : answer.Fault) (q : v ≡ reader.Refused r) where
           is-refused : judging 2 0 p ≡ layout.refused r
           unfolding judged
           is-refused = go (judging 2 0 p) (sym q ∙ ev)

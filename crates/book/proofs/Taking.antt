@@ -9,7 +9,7 @@ use lib.Dec.{leb, ltb, eqb}
 use lib.ListN.{length, getD, take, drop, length-append, length-drop, take-append-drop, drop-of-length-le}
 use lib.Seq.{drop-cons, drop-drop, drop-at, take-at}
 use borrow.Author.Tests.{lt-ltb, le-ltb, le-leb, eq-eqb, ne-eqb}
-use Rattle.answer.specs.declared.Refusal.{Refusal}
+use Rattle.answer.specs.declared.Fault as answer
 use mir.Syntax.{w8}
 use mir.Val.{Fits}
 use Rattle.sizes.specs.Sizes.{mostAreas, bookBytes}
@@ -58,7 +58,7 @@ is-held : (o : Outcome) (n : ℕ) → Held n ≡ judgedBy o → IsHeld o n
 is-held (taken l) n e = record { list = l; is = refl; many = cc }
 is-held (refused r) n e = let z : _≡_ {A = ℕ} 0 1 = cc in absurd (omega arith)
 
-is-refused : (o : Outcome) (r : Refusal) → Refused r ≡ judgedBy o → o ≡ refused r
+is-refused : (o : Outcome) (r : answer.Fault) → Refused r ≡ judgedBy o → o ≡ refused r
 is-refused (taken l) r e = let z : _≡_ {A = ℕ} 0 1 = cc in absurd (omega arith)
 is-refused (refused q) r e = cc
 
@@ -97,7 +97,7 @@ module _ (s p : List ℕ) (count n i held : ℕ) (q : JudgingBlocks s p count n 
   unfolding takeAll
   opened = ap (λ l. takeAll l (q .areas)) (sym (blocks-next n i p h)) ∙ q .ends
 
-  pub judge-refused : (r : Refusal) → v ≡ Refused r → Refused r ≡ judgedBy (takeAll (blocksOf p) (areasIn count s))
+  pub judge-refused : (r : answer.Fault) → v ≡ Refused r → Refused r ≡ judgedBy (takeAll (blocksOf p) (areasIn count s))
   judge-refused r z =
       ap judgedBy (ap (λ o. andThen o (λ l. takeAll (blocksFrom (n - (i + 1)) (i + 1) p) l)) (sym (is-refused (takeBlock (blockAt p i) (q .areas)) r (sym z ∙ judged))) ∙ opened)
 
@@ -436,13 +436,13 @@ module _ (book : Book) (s p : List ℕ) (w : sound book s ≡ true) (aiou n : �
       go false = record { ascending = Ascending.none; image = refl }
 
   module _ (v : Judged) (ev : v ≡ judgedBy (takeAll (blocksOf p) (areasIn n s))) where
-    refusal-is : (r : Refusal) → v ≡ Refused r → refused r ≡ takeBits book s p
+    refusal-is : (r : answer.Fault) → v ≡ Refused r → refused r ≡ takeBits book s p
     refusal-is r q = sym (is-refused _ r (sym q ∙ ev)) ∙ sym outcome-is
 
-    pub take-refused : (r : Refusal) → v ≡ Refused r → Taken.Refused r ≡ answerOf (takeBits book s p) (aiouOf p)
+    pub take-refused : (r : answer.Fault) → v ≡ Refused r → Taken.Refused r ≡ answerOf (takeBits book s p) (aiouOf p)
     take-refused r q = ap (λ o. answerOf o (aiouOf p)) (refusal-is r q)
 
-    pub left-refused : (r : Refusal) → v ≡ Refused r → s ≡ leftBy (takeBits book s p) s
+    pub left-refused : (r : answer.Fault) → v ≡ Refused r → s ≡ leftBy (takeBits book s p) s
     left-refused r q = ap (λ o. leftBy o s) (refusal-is r q)
 
     pub is-taken : (m : ℕ) → v ≡ Held m → isTaken (takeAll (blocksOf p) (areasIn n s)) ≡ true

@@ -3,6 +3,7 @@ use mathlib.Core.Path.{_≡_, refl}
 use mathlib.Core.List.{List, [], _∷_}
 use Prim.Native.Nat.{ℕ}
 use lib.ListN.{take, replicate}
+use Rattle.answer.specs.Place.{nowhere, faultAt}
 use Rattle.answer.specs.declared.Refusal.the-variants as refusal
 use Rattle.bits.specs.Bits.{bitsOf, toBits, number}
 use Rattle.fields.specs.Fields.{table, find, lineOf, sf}
@@ -34,12 +35,12 @@ pub one-found : found (bookOf 4 1) (bytesAfter noBook lent oneArea) (record { 0 
 unfolding found placeOf isArea outcome judging readL sf lineOf find table judge toBits bitsOf number sound headSound areasSound before areasIn takeAll takeBlock areaOff lookup insert bytesOfAll
 one-found = refl
 
--- the first fault in reading order: a latitude of 1801 is FIELD, though the payload ends before its block does
-pub range-first : takenOf noBook lent (2 ∷ 152 ∷ 0 ∷ 252 ∷ 37 ∷ []) ≡ Refused refusal.Field
+-- the first fault in reading order: a latitude of 1801, SF032 from bit 27 on, is FIELD there, though the payload ends before its block does
+pub range-first : takenOf noBook lent (2 ∷ 152 ∷ 0 ∷ 252 ∷ 37 ∷ []) ≡ Refused (faultAt refusal.Field 32 27)
 unfolding outcome judging readL sf lineOf find table judge toBits bitsOf number sound headSound areasSound
 range-first = refl
 
 -- another definition of area 7 in the same GAD is CONFLICT
-pub other-definition : takenOf noBook lent (2 ∷ 152 ∷ 32 ∷ 243 ∷ 73 ∷ 244 ∷ 28 ∷ 74 ∷ 65 ∷ 230 ∷ 155 ∷ 232 ∷ 56 ∷ 148 ∷ 128 ∷ []) ≡ Refused refusal.Conflict
+pub other-definition : takenOf noBook lent (2 ∷ 152 ∷ 32 ∷ 243 ∷ 73 ∷ 244 ∷ 28 ∷ 74 ∷ 65 ∷ 230 ∷ 155 ∷ 232 ∷ 56 ∷ 148 ∷ 128 ∷ []) ≡ Refused (nowhere refusal.Conflict)
 unfolding outcome judging readL sf lineOf find table judge toBits bitsOf number sound headSound areasSound before areasIn takeAll takeBlock areaOff lookup insert
 other-definition = refl

@@ -7,6 +7,7 @@ use native.Mathlib.Omega.{arith}
 use lib.Dec.{ltb, eqb}
 use lib.ListN.{length, take}
 use Rattle.answer.specs.Stop.{stop}
+use Rattle.answer.specs.Place.{nowhere}
 use Rattle.answer.specs.declared.Refusal.the-variants.{AreaOff, Conflict, BookFull}
 use Rattle.area.specs.Area.{sf031, areaOff}
 use Rattle.sizes.specs.Sizes.{mostAreas}
@@ -29,26 +30,26 @@ isTaken (taken l) = true
 isTaken (refused r) = false
 
 abbrev pub judgeFound : ℕ → Found → ℕ → Judged
-judgeFound a (Area b) n = cond (eqb a b) (Held n) (Refused Conflict)
-judgeFound a Nothing n = cond (ltb n mostAreas) (Held (n + 1)) (Refused BookFull)
+judgeFound a (Area b) n = cond (eqb a b) (Held n) (Refused (nowhere Conflict))
+judgeFound a Nothing n = cond (ltb n mostAreas) (Held (n + 1)) (Refused (nowhere BookFull))
 
 abbrev pub judgeBlock : ℕ → Found → ℕ → Judged
-judgeBlock a f n = cond (areaOff a) (Refused AreaOff) (judgeFound a f n)
+judgeBlock a f n = cond (areaOff a) (Refused (nowhere AreaOff)) (judgeFound a f n)
 
 pub judge-is : (a : ℕ) (l : List ℕ) → judgedBy (takeBlock a l) ≡ judgeBlock a (lookup (sf031 a) l) (length l)
 unfolding takeBlock
 judge-is a l = go (areaOff a) (lookup (sf031 a) l)
   where
-    go : (t : Bool) (f : Found) → judgedBy (stop t (refused AreaOff) (placed a l f)) ≡ cond t (Refused AreaOff) (judgeFound a f (length l))
+    go : (t : Bool) (f : Found) → judgedBy (stop t (refused (nowhere AreaOff)) (placed a l f)) ≡ cond t (Refused (nowhere AreaOff)) (judgeFound a f (length l))
     go true f = refl
     go false (Area b) = by (eqb a b)
       where
-        by : (x : Bool) → judgedBy (cond x (taken l) (refused Conflict)) ≡ cond x (Held (length l)) (Refused Conflict)
+        by : (x : Bool) → judgedBy (cond x (taken l) (refused (nowhere Conflict))) ≡ cond x (Held (length l)) (Refused (nowhere Conflict))
         by true = refl
         by false = refl
     go false Nothing = by (ltb (length l) mostAreas)
       where
-        by : (x : Bool) → judgedBy (cond x (taken (insert a l)) (refused BookFull)) ≡ cond x (Held (length l + 1)) (Refused BookFull)
+        by : (x : Bool) → judgedBy (cond x (taken (insert a l)) (refused (nowhere BookFull))) ≡ cond x (Held (length l + 1)) (Refused (nowhere BookFull))
         by true = ap Held (length-insert a l ∙ omega arith)
         by false = refl
 

@@ -10,6 +10,7 @@ use lib.ListN.{length, take, drop, length-drop}
 use lib.Seq.{drop-drop}
 use borrow.Author.Tests.{le-leb, leb-true}
 use Rattle.answer.specs.Stop.{stop}
+use Rattle.answer.specs.Place.{nowhere}
 use Rattle.answer.specs.declared.Refusal.the-variants as refusal
 use Rattle.bits.specs.Bits.{toBits, number}
 use Rattle.bits.specs.Bits as bits
@@ -83,8 +84,8 @@ module _ {A : Type 0} (s : List ℕ) (v : A) where
       let w : ℕ = f .width in
       let l : List ℕ = drop pos (toBits s) in
       let c : ℕ = number (take w l) in
-      let e₁ = enough-acc (leb w (length l)) _ (r .reads) in
-      let e₂ = judged-acc (judge f c) _ (e₁ .1) in
+      let e₁ = enough-acc (f .sf) (leb w (length l)) _ (r .reads) in
+      let e₂ = judged-acc (f .sf) (judge f c) _ (e₁ .1) in
       let e₃ = before-acc c w (readL (next c) (drop w l)) (e₂ .1) in (
         e₂ .0,
         record {
@@ -184,7 +185,7 @@ pub gad-only : (payload : List ℕ) (v : Message) (codes : List ℕ) (used : ℕ
 unfolding judging
 gad-only payload v codes used e = go (badLength (length payload)) e
   where
-    go : (b : Bool) → stop b (refused refusal.Length) (readL gadLayout (toBits payload)) ≡ accepted v codes used → (m : Gad) × (v ≡ gadMessage m) × AtBits payload m
+    go : (b : Bool) → stop b (refused (nowhere refusal.Length)) (readL gadLayout (toBits payload)) ≡ accepted v codes used → (m : Gad) × (v ≡ gadMessage m) × AtBits payload m
     go true e = let z : _≡_ {A = ℕ} 0 1 = cc in absurd (omega arith)
     go false e = gad-accepted gadMessage payload v codes used e
 

@@ -6,7 +6,8 @@ use lib.Dec.{ltb, eqb}
 use lib.ListN.{length, drop}
 use Rattle.answer.specs.Number.{numberOf}
 use Rattle.answer.specs.Stop.{stop}
-use Rattle.answer.specs.declared.Refusal.{Refusal}
+use Rattle.answer.specs.Place.{nowhere}
+use Rattle.answer.specs.declared.Fault as answer
 use Rattle.answer.specs.declared.Refusal.the-variants.{Room, NotOurs, AreaOff, Conflict, BookFull, State}
 use Rattle.layout.specs.Layout as layout
 use Rattle.gad.specs.Gad.{Block, Gad}
@@ -22,11 +23,11 @@ use Rattle.book.specs.declared.Taken.{Taken}
 use Rattle.book.specs.declared.Taken.the-variants.{Holds, Refused}
 
 -- what follows from the GAD that was read, and what from a refusal; nothing else is read from a payload of type 2-0
-abbrev pub reading : {B : Type 0} → layout.Outcome Message → (Gad → B) → (Refusal → B) → B
+abbrev pub reading : {B : Type 0} → layout.Outcome Message → (Gad → B) → (answer.Fault → B) → B
 reading (layout.accepted (gadMessage body) codes bits) next fault = next body
-reading (layout.accepted (ocbMessage constellation body) codes bits) next fault = fault NotOurs
-reading (layout.accepted (hpacMessage constellation body) codes bits) next fault = fault NotOurs
-reading (layout.accepted (bpacMessage body) codes bits) next fault = fault NotOurs
+reading (layout.accepted (ocbMessage constellation body) codes bits) next fault = fault (nowhere NotOurs)
+reading (layout.accepted (hpacMessage constellation body) codes bits) next fault = fault (nowhere NotOurs)
+reading (layout.accepted (bpacMessage body) codes bits) next fault = fault (nowhere NotOurs)
 reading (layout.refused why) next fault = fault why
 
 -- a block as an area, "the 47 bits of the GAD block": SF031 8 bits, SF032 11, SF033 12, SF034 3, SF035 3, SF036 5, SF037 5
@@ -51,19 +52,19 @@ unfoldable pub insert : ℕ → List ℕ → List ℕ
 insert a [] = a ∷ []
 insert a (b ∷ l) = cond (ltb (sf031 a) (sf031 b)) (a ∷ b ∷ l) (b ∷ insert a l)
 
--- the areas held afterwards, or the refusal
+-- the areas held afterwards, or the refusal; a payload's own comes with its place, as the reader gives it
 pub data Outcome : Type 0 where
   taken : List ℕ → Outcome
-  refused : Refusal → Outcome
+  refused : answer.Fault → Outcome
 
 -- "An identical repeat changes nothing." CONFLICT: "same area ID and AIOU, other definition". BOOK_FULL: "a 33rd area ID".
 abbrev pub placed : ℕ → List ℕ → Found → Outcome
-placed a l (Area b) = cond (eqb a b) (taken l) (refused Conflict)
-placed a l Nothing = cond (ltb (length l) mostAreas) (taken (insert a l)) (refused BookFull)
+placed a l (Area b) = cond (eqb a b) (taken l) (refused (nowhere Conflict))
+placed a l Nothing = cond (ltb (length l) mostAreas) (taken (insert a l)) (refused (nowhere BookFull))
 
 -- a block, in the order AREA_OFF, CONFLICT, BOOK_FULL
 unfoldable pub takeBlock : ℕ → List ℕ → Outcome
-takeBlock a l = stop (areaOff a) (refused AreaOff) (placed a l (lookup (sf031 a) l))
+takeBlock a l = stop (areaOff a) (refused (nowhere AreaOff)) (placed a l (lookup (sf031 a) l))
 
 -- "It is taken whole or refused at its first faulty block": each block is judged against the areas with the earlier ones added
 abbrev pub andThen : Outcome → (List ℕ → Outcome) → Outcome
@@ -81,8 +82,8 @@ before book s aiou = cond (eqb (book .«aiou_plus_one») (aiou + 1)) (areasIn (b
 -- "Order: ROOM, STATE, .. payload refusals, .. for GAD the book's refusals"; a payload's own are the reader's, LENGTH and then the first fault in reading order
 unfoldable pub outcome : Book → List ℕ → List ℕ → Outcome
 outcome book s payload =
-    stop (ltb (length s) bookBytes) (refused Room)
-    (stop (not (sound book s)) (refused State)
+    stop (ltb (length s) bookBytes) (refused (nowhere Room))
+    (stop (not (sound book s)) (refused (nowhere State))
     (reading (judging 2 0 payload) (λ m. takeAll (areasOf (m .blocks)) (before book s (m .aiou))) (λ why. refused why)))
 
 -- what `take` answers, and what it leaves of the lent bytes: "only bytes of areas held are written", and a refusal changes nothing
@@ -103,4 +104,4 @@ bytesAfter book s payload = leftBy (outcome book s payload) s
 -- the answer's number in document 01
 abbrev pub numberOfTaken : Taken → ℕ
 numberOfTaken (Holds book) = 0
-numberOfTaken (Refused refusal) = numberOf refusal
+numberOfTaken (Refused fault) = numberOf (fault .refusal)

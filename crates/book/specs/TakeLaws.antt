@@ -8,6 +8,7 @@ use lib.Dec.{ltb, eqb}
 use lib.ListN.{length, getD}
 use borrow.Author.Tests.{lt-ltb, ltb-true, ltb-false, eq-eqb, eqb-true, eqb-false}
 use Rattle.answer.specs.Stop.{stop}
+use Rattle.answer.specs.Place.{nowhere}
 use Rattle.answer.specs.declared.Refusal.the-variants.{AreaOff, Conflict, BookFull}
 use Rattle.area.specs.Area.{sf031, inRange, areaOff, isArea}
 use Rattle.sizes.specs.Sizes.{mostAreas}
@@ -118,16 +119,16 @@ pub took : (a : ℕ) (l m : List ℕ) → takeBlock a l ≡ taken m → Took a l
 unfolding takeBlock
 took a l m = go (areaOff a) refl (lookup (sf031 a) l) refl
   where
-    go : (t : Bool) → areaOff a ≡ t → (f : Found) → lookup (sf031 a) l ≡ f → stop t (refused AreaOff) (placed a l f) ≡ taken m → Took a l m
+    go : (t : Bool) → areaOff a ≡ t → (f : Found) → lookup (sf031 a) l ≡ f → stop t (refused (nowhere AreaOff)) (placed a l f) ≡ taken m → Took a l m
     go true q f r e = let z : _≡_ {A = ℕ} 0 1 = cc in absurd (omega arith)
     go false q (Area b) r e = by (eqb a b) refl e
       where
-        by : (x : Bool) → eqb a b ≡ x → cond x (taken l) (refused Conflict) ≡ taken m → Took a l m
+        by : (x : Bool) → eqb a b ≡ x → cond x (taken l) (refused (nowhere Conflict)) ≡ taken m → Took a l m
         by true p e = let z : l ≡ m = cc in subst (λ m. Took a l m) z (Took.held q (r ∙ ap Area (sym (eqb-true _ _ p))))
         by false p e = let z : _≡_ {A = ℕ} 0 1 = cc in absurd (omega arith)
     go false q Nothing r e = by (ltb (length l) mostAreas) refl e
       where
-        by : (x : Bool) → ltb (length l) mostAreas ≡ x → cond x (taken (insert a l)) (refused BookFull) ≡ taken m → Took a l m
+        by : (x : Bool) → ltb (length l) mostAreas ≡ x → cond x (taken (insert a l)) (refused (nowhere BookFull)) ≡ taken m → Took a l m
         by true p e = let z : insert a l ≡ m = cc in subst (λ m. Took a l m) z (Took.new q r (ltb-true _ _ p))
         by false p e = let z : _≡_ {A = ℕ} 0 1 = cc in absurd (omega arith)
 

@@ -7,7 +7,7 @@ use native.Mathlib.Omega.{arith}
 use lib.Dec.{leb, eqb}
 use lib.ListN.{length, drop, length-append, length-drop}
 use borrow.Author.Tests.{le-ltb, le-leb, ne-eqb}
-use Rattle.answer.specs.declared.Refusal.{Refusal}
+use Rattle.answer.specs.declared.Fault as answer
 use Rattle.bits.specs.Bits.{field}
 use Rattle.bits.specs.Laws.{field-lt}
 use Rattle.layout.specs.Layout as layout
@@ -29,7 +29,7 @@ module _ (book : Book) (s payload : List ℕ) (w : sound book s ≡ true) where
   outcome-sound = rw (le-ltb (length s) bookBytes (sound-room book s w), w)
 
   -- the payload's refusal,
-  module _ (why : Refusal) (e : judging 2 0 payload ≡ layout.refused why) where
+  module _ (why : answer.Fault) (e : judging 2 0 payload ≡ layout.refused why) where
     pub outcome-refused : outcome book s payload ≡ refused why
     outcome-refused = outcome-sound ∙ ap (λ o. reading o (λ m. takeAll (areasOf (m .blocks)) (before book s (m .aiou))) (λ why. refused why)) e
 

@@ -9,7 +9,7 @@ use lib.Dec.{eqb}
 use lib.ListN.{length, getD, drop}
 use lib.Seq.{drop-at}
 use borrow.Author.Tests.{eq-eqb}
-use Rattle.answer.specs.declared.Refusal.{Refusal}
+use Rattle.answer.specs.declared.Fault as answer
 use Rattle.bits.specs.Bits.{Bytes}
 use Rattle.layout.specs.Layout.{accepted}
 use Rattle.gad.specs.Gad.{Gad}
@@ -35,7 +35,7 @@ stays-sound book s payload after w e =
     sound-after book s payload after w e (m .gad) (m .codes) (m .used) (m .reads)
 
 -- "It is taken whole or refused": a refusal changes nothing.
-pub refusal-keeps : (book : Book) (s payload : List ℕ) (r : Refusal) → takenOf book s payload ≡ Refused r → bytesAfter book s payload ≡ s
+pub refusal-keeps : (book : Book) (s payload : List ℕ) (r : answer.Fault) → takenOf book s payload ≡ Refused r → bytesAfter book s payload ≡ s
 refusal-keeps book s payload r = go (outcome book s payload)
   where
     go : (o : Outcome) → answerOf o (reading (judging 2 0 payload) (λ m. m .aiou) (λ why. 0)) ≡ Refused r → leftBy o s ≡ s

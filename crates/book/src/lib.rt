@@ -13,6 +13,8 @@ ghost use Rattle.book.specs.Take.{lookup, looked, insert, takeAll, answe
 ghost use Rattle.book.specs.Payload.{mostBlocks, aiouOf, blockCount, blockStart, blockAt, blocksFrom, blocksOf, takeBits};
 ghost use Rattle.book.specs.TakeLaws.{orElse};
 ghost use Rattle.book.specs.Judge.{judgedBy, isTaken, judgeFound, judgeBlock, Image};
+use answer::Fault;
+use answer::Place;
 use answer::Refusal;
 use area::AreaId;
 use sheet::ReadAnswer;
@@ -32,13 +34,13 @@ pub enum Found {
 // How many areas the book would hold, or why a block is refused.
 enum Judged {
     Held(usize),
-    Refused(Refusal),
+    Refused(Fault),
 }
 
-// The book that a GAD leaves, or why it is not taken.
+// The book that a GAD leaves, or why it is not taken; a fault of the payload with its place, as the reader gives it.
 pub enum Taken {
     Holds(Book),
-    Refused(Refusal),
+    Refused(Fault),
 }
 
 // The book with this AIOU + 1 and so many areas, and the one without areas. Every book is made by one of the two.
@@ -251,14 +253,20 @@ fn judge_found(area: u64, found: Found, held: usize) -> Judged
             if area == other {
                 Judged::Held(held)
             } else {
-                Judged::Refused(Refusal::Conflict)
+                Judged::Refused(Fault {
+                    refusal: Refusal::Conflict,
+                    place: Place::Nowhere,
+                })
             }
         }
         Found::Nothing => {
             if held < sizes::MOST_AREAS {
                 Judged::Held(held + 1)
             } else {
-                Judged::Refused(Refusal::BookFull)
+                Judged::Refused(Fault {
+                    refusal: Refusal::BookFull,
+                    place: Place::Nowhere,
+                })
             }
         }
     }
@@ -271,7 +279,10 @@ fn judge_block(bytes: &[u8], count: usize, payload: &[u8], i: usize, held: usize
 {
     let area = block(payload, i);
     if area::is_off(area) {
-        return Judged::Refused(Refusal::AreaOff);
+        return Judged::Refused(Fault {
+            refusal: Refusal::AreaOff,
+            place: Place::Nowhere,
+        });
     }
     judge_found(area, known(bytes, count, payload, i, area::id(area)), held)
 }
@@ -376,10 +387,16 @@ pub fn take(book: Book, bytes: &mut [u8], payload: &[u8]) -> Taken
     ensures { λ _. ⌜ now (bytes .exit) ≡ bytesAfter book (now (bytes .entry)) (now (payload .entry)) ⌝ }
 {
     if bytes.len() < sizes::BOOK_BYTES {
-        return Taken::Refused(Refusal::Room);
+        return Taken::Refused(Fault {
+            refusal: Refusal::Room,
+            place: Place::Nowhere,
+        });
     }
     if !is_sound(book, bytes) {
-        return Taken::Refused(Refusal::State);
+        return Taken::Refused(Fault {
+            refusal: Refusal::State,
+            place: Place::Nowhere,
+        });
     }
     match sheet::judge(2, 0, payload) {
         ReadAnswer::Refused(refusal) => Taken::Refused(refusal),
@@ -396,6 +413,9 @@ pub fn number_taken(answer: Taken) -> u8
 {
     match answer {
         Taken::Holds(_) => 0,
-        Taken::Refused(refusal) => answer::number(refusal),
+        Taken::Refused(fault) => {
+            let refusal = fault.refusal;
+            answer::number(refusal)
+        }
     }
 }

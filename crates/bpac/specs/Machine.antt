@@ -133,7 +133,7 @@ module _ {A : Type 0} where
       (times groups (field (free 79 64)) (λ gs. field (free 79 (last % 64 + 1)) (λ g. k (gs ++ (g ∷ [])))))
   walks-groups more last zero seen k small rest =
       let part : last % 64 < 64 = mod-lt last (omega arith) in
-      goes refl (fine-free 79 (last % 64 + 1) (omega arith) (omega arith)) (λ c _.
+      goes refl (fine-free 79 (last % 64 + 1) (record { some = omega arith; small = omega arith }) (omega arith) (omega arith)) (λ c _.
       let one : counted seen c ≡ seen + ones c = counted-on seen c (omega arith) in
       subst (λ x. Walks bpacField bpacStep (blocksFrom more x) (k (c ∷ []))) {x = seen + setBits (c ∷ [])} {y = counted seen c} (omega arith) (rest (c ∷ [])))
   walks-groups more last (suc groups) seen k small rest =

@@ -6,6 +6,7 @@ use Prim.Native.Nat.{ℕ, _+_, _*_, _^_}
 use lib.IntN.{pos}
 use lib.ListN.{replicate}
 use lib.Ieee.{Float, fin, binary64, round, div, ofInt}
+use Rattle.answer.specs.Place.{nowhere}
 use Rattle.answer.specs.declared.Refusal.the-variants.{Field, AreaOff}
 use Rattle.area.specs.Area.{areaOff}
 use Rattle.bits.specs.Bits.{bitsOf, toBits, number, field}
@@ -141,7 +142,7 @@ measured =
     at (payloadOf 2 0 (5 ∷ 3 ∷ 0 ∷ 0 ∷ 7 ∷ 1234 ∷ 2000 ∷ 3 ∷ 4 ∷ 9 ∷ 9 ∷ [])) (takes (Written 66 9)) ∷
     -- 7. 8 rows at 3.2 degrees: latitude code 224 fits (-90.0), 223 AREA_OFF.
     at (intoBook (gadOf (eightRows 224))) (leaves (gad.Holds (bookOf 1 1))) ∷
-    at (intoBook (gadOf (eightRows 223))) (leaves (gad.Refused AreaOff)) ∷
+    at (intoBook (gadOf (eightRows 223))) (leaves (gad.Refused (nowhere AreaOff))) ∷
     -- 8. 43,199 is BF D1 02.
     at (inGroups 43199) (bytes (0xBF ∷ 0xD1 ∷ 0x02 ∷ [])) ∷
     -- 9. Tag 4294967295 becomes 23295.

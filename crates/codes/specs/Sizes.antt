@@ -10,7 +10,7 @@ use lib.ListN.{getD}
 use lib.Pow.{pow-pos}
 use Rattle.layout.specs.Layout.{pick}
 use Rattle.layout.specs.Parts.{free}
-use Rattle.layout.specs.Walks.{Fine, fine, fine-free}
+use Rattle.layout.specs.Walks.{Numbered, Fine, fine, fine-free}
 use Rattle.fields.specs.Fields.{table, find, lineOf, sf}
 use Rattle.codes.specs.declared.Constellation.{Constellation}
 use Rattle.codes.specs.declared.Constellation.the-variants.{Gps, Glonass, Galileo, BeiDou, Qzss}
@@ -70,18 +70,29 @@ bias-word Galileo size = word-at (8 ∷ 15 ∷ []) size 15 tt (record { some = l
 bias-word BeiDou size = word-at (8 ∷ 15 ∷ []) size 15 tt (record { some = lit< tt; most = lit≤ tt })
 bias-word Qzss size = word-at (6 ∷ 11 ∷ []) size 15 tt (record { some = lit< tt; most = lit≤ tt })
 
-fine-bits : (sf w : ℕ) → Word w → Fine (maskField sf w)
-fine-bits sf zero h = absurd (omega (arith, h .some))
-fine-bits sf (suc w) h =
+fine-bits : (sf w : ℕ) → Numbered sf → Word w → Fine (maskField sf w)
+fine-bits sf zero n h = absurd (omega (arith, h .some))
+fine-bits sf (suc w) n h =
     record {
       some = h .some;
       word = h .most;
       most = omega (arith, pow-pos w);
       extra = omega (arith, pow-pos w);
+      number = n;
+      under = refl;
+      over = refl;
     }
 
-pub fine-mask : (sf : ℕ) (c : Constellation) (size : ℕ) → Fine (maskField sf (maskSize c size))
-fine-mask sf c size = fine-bits sf (maskSize c size) (mask-word c size)
+numbered-mask : (c : Constellation) → Numbered (maskSf c)
+numbered-mask Gps = record { some = lit< tt; small = lit< tt }
+numbered-mask Glonass = record { some = lit< tt; small = lit< tt }
+numbered-mask Galileo = record { some = lit< tt; small = lit< tt }
+numbered-mask BeiDou = record { some = lit< tt; small = lit< tt }
+numbered-mask Qzss = record { some = lit< tt; small = lit< tt }
 
-pub fine-bias : (sf : ℕ) (c : Constellation) (size : ℕ) → Fine (free sf (biasSize c size))
-fine-bias sf c size = fine-free sf (biasSize c size) (bias-word c size .some) (bias-word c size .most)
+pub fine-mask : (c : Constellation) (size : ℕ) → Fine (maskField (maskSf c) (maskSize c size))
+fine-mask c size = fine-bits (maskSf c) (maskSize c size) (numbered-mask c) (mask-word c size)
+
+-- the bits of a bias mask whose size has this number
+pub fine-bias : (sf : ℕ) → Numbered sf → (c : Constellation) (size : ℕ) → Fine (free sf (biasSize c size))
+fine-bias sf n c size = fine-free sf (biasSize c size) n (bias-word c size .some) (bias-word c size .most)

@@ -10,6 +10,10 @@ use borrow.Author.Tests.{not-false, eqb-true, eqb-false}
 use Rattle.sizes.specs.Sizes.{mostAreas, bookBytes, logRoom}
 use Rattle.answer.specs.Number.{numberOf}
 use Rattle.answer.specs.Stop.{stop}
+use Rattle.answer.specs.Place.{nowhere}
+use Rattle.answer.specs.declared.Fault as answer
+use Rattle.answer.specs.declared.Place.{Place}
+use Rattle.answer.specs.declared.Place.the-variants.{Nowhere, At}
 use Rattle.answer.specs.declared.Refusal.{Refusal}
 use Rattle.answer.specs.declared.Refusal.the-variants.{Preamble, FrameCrc, Length, MessageCrc}
 use Rattle.answer.specs.declared.Refusal.the-variants as refusal
@@ -41,7 +45,7 @@ use Rattle.log.specs.Log.{opened, logOf}
 use Rattle.log.specs.Bound.{always-enough}
 use Rattle.log.specs.Pass.{Reads}
 use Rattle.desk.specs.Desk.{deskSound}
-use Rattle.desk.specs.Answers.{answers}
+use Rattle.desk.specs.Answers.{answers, answersAt}
 use Rattle.desk.specs.Take.{Handed, Verdict, refused, defines, continues, opens, byRun, badTag, tagOf, byBook, byMessage, byPayload, ourType, ours, isSealed, byHeader, byFrame, handling, noRoom, verdict, copied, loggedBy, logBy, saidBy, leaving, leavingBy, frameTaken, numberOfSaid}
 use Rattle.desk.specs.Carrying.{carried}
 use Rattle.desk.specs.Payloads.{our-type, our-subtype, our-row, judging-hpac, short-of, hpac-refuses, gad-refuses}
@@ -56,7 +60,7 @@ use Rattle.desk.specs.declared.Run.the-variants.{Closed, Open}
 data Checks : Checked → Type 0 where
   good : {header : Frame} → Checks (check.Accepted header)
   short : {wanted : ℕ} → Checks (check.Short wanted)
-  bad : {why : Refusal} → answers why ≡ true → Checks (check.Refused why)
+  bad : {why : Refusal} → answers (nowhere why) ≡ true → Checks (check.Refused why)
 
 frame-refuses : (s : List ℕ) → Checks (checked s)
 unfolding checked
@@ -64,7 +68,7 @@ frame-refuses s =
     wants 1 _ (on (not (eqb (getD s 0 0) preamble)) Preamble refl _ (wants 4 _ (on (badFrameCrc s) FrameCrc refl _ (on (eqb (tf003 s) 0) Length refl _
     (wants (payloadAt s) _ (on (authenticated s && ltb 4 (tf015 s)) Length refl _ (wants (frameBytes s) _ (on (badMessageCrc s) MessageCrc refl _ good))))))))
   where
-    on : (b : Bool) (why : Refusal) → answers why ≡ true → (rest : Checked) → Checks rest → Checks (stop b (check.Refused why) rest)
+    on : (b : Bool) (why : Refusal) → answers (nowhere why) ≡ true → (rest : Checked) → Checks rest → Checks (stop b (check.Refused why) rest)
     on true why e rest h = bad e
     on false why e rest h = h
 
@@ -89,10 +93,10 @@ block-refuses a l = go (areaOff a) (gads.lookup (sf031 a) l)
     by true x y p q = p
     by false x y p q = q
 
-    go : (b : Bool) (f : Found) → takeAnswers (stop b (gads.refused refusal.AreaOff) (gads.placed a l f)) ≡ true
+    go : (b : Bool) (f : Found) → takeAnswers (stop b (gads.refused (nowhere refusal.AreaOff)) (gads.placed a l f)) ≡ true
     go true f = refl
-    go false (Area b) = by (eqb a b) (gads.taken l) (gads.refused refusal.Conflict) refl refl
-    go false Nothing = by (ltb (length l) mostAreas) (gads.taken (gads.insert a l)) (gads.refused refusal.BookFull) refl refl
+    go false (Area b) = by (eqb a b) (gads.taken l) (gads.refused (nowhere refusal.Conflict)) refl refl
+    go false Nothing = by (ltb (length l) mostAreas) (gads.taken (gads.insert a l)) (gads.refused (nowhere refusal.BookFull)) refl refl
 
 all-refuses : (blocks l : List ℕ) → takeAnswers (gads.takeAll blocks l) ≡ true
 unfolding gads.takeAll
@@ -106,13 +110,13 @@ all-refuses (a ∷ blocks) l = go (gads.takeBlock a l) (block-refuses a l) (λ l
 outcome-refuses : (book : Book) (s payload : List ℕ) → takeAnswers (gads.outcome book s payload) ≡ true
 unfolding gads.outcome
 outcome-refuses book s payload =
-    on (ltb (length s) bookBytes) refusal.Room refl _ (on (not (sound book s)) refusal.State refl _ (go (judging 2 0 payload) (gad-refuses payload)))
+    on (ltb (length s) bookBytes) (nowhere refusal.Room) refl _ (on (not (sound book s)) (nowhere refusal.State) refl _ (go (judging 2 0 payload) (gad-refuses payload)))
   where
-    on : (b : Bool) (why : Refusal) → answers why ≡ true → (rest : gads.Outcome) → takeAnswers rest ≡ true → takeAnswers (stop b (gads.refused why) rest) ≡ true
+    on : (b : Bool) (why : answer.Fault) → answers why ≡ true → (rest : gads.Outcome) → takeAnswers rest ≡ true → takeAnswers (stop b (gads.refused why) rest) ≡ true
     on true why e rest h = e
     on false why e rest h = h
 
-    go : (o : layout.Outcome Message) → ((why : Refusal) → o ≡ layout.refused why → answers why ≡ true)
+    go : (o : layout.Outcome Message) → ((why : answer.Fault) → o ≡ layout.refused why → answers why ≡ true)
         → takeAnswers (gads.reading o (λ m. gads.takeAll (gads.areasOf (m .blocks)) (gads.before book s (m .aiou))) (λ why. gads.refused why)) ≡ true
     go (layout.accepted (gadMessage body) codes bits) h = all-refuses (gads.areasOf (body .blocks)) (gads.before book s (body .aiou))
     go (layout.accepted (ocbMessage constellation body) codes bits) h = refl
@@ -153,7 +157,7 @@ module _ (desk : Desk) (live run : List ℕ) where
     pub refusal : verdictAnswers v ≡ true
     pub brings : Brings (desk .constellation) live v
 
-  not-taken : (why : Refusal) → answers why ≡ true → Answered (refused why)
+  not-taken : (why : answer.Fault) → answers why ≡ true → Answered (refused why)
   unfolding loggedBy groupsOfAll
   not-taken why e = record { room = lit≤ tt; refusal = e; brings = tt }
 
@@ -161,7 +165,7 @@ module _ (desk : Desk) (live run : List ℕ) where
   unfolding loggedBy groupsOfAll
   defined book bytes h = record { room = lit≤ tt; refusal = refl; brings = h }
 
-  stopped : (b : Bool) (why : Refusal) → answers why ≡ true → (rest : Verdict) → (b ≡ false → Answered rest) → Answered (stop b (refused why) rest)
+  stopped : (b : Bool) (why : answer.Fault) → answers why ≡ true → (rest : Verdict) → (b ≡ false → Answered rest) → Answered (stop b (refused why) rest)
   stopped true why e rest h = not-taken why e
   stopped false why e rest h = h refl
 
@@ -217,12 +221,12 @@ module _ (desk : Desk) (live run : List ℕ) where
         (go (badLength (length payload)) refl (readL (hpac (desk .constellation) done) (toBits payload)) refl)
       where
         go : (b : Bool) → badLength (length payload) ≡ b → (o : layout.Outcome Hpac) → readL (hpac (desk .constellation) done) (toBits payload) ≡ o
-            → Answered (byPayload desk live header payload (stop b (layout.refused refusal.Length) (carried (hpacMessage (desk .constellation)) o)))
-        go true q o e = not-taken refusal.Length refl
+            → Answered (byPayload desk live header payload (stop b (layout.refused (nowhere refusal.Length)) (carried (hpacMessage (desk .constellation)) o)))
+        go true q o e = not-taken (nowhere refusal.Length) refl
         go false q (layout.accepted message codes used) e =
-            stopped (badTag header) refusal.Tag refl (byRun (desk .run) (tagOf header) message)
+            stopped (badTag header) (nowhere refusal.Tag) refl (byRun (desk .run) (tagOf header) message)
             (λ _. by-run (record { short = short-of (length payload) q; message = message; codes = codes; used = used; reads = e }) (desk .run) refl)
-        go false q (layout.refused why) e = not-taken why (hpac-refuses (desk .constellation) payload why e)
+        go false q (layout.refused why) e = not-taken why (hpac-refuses (desk .constellation) payload why q e)
 
     by-gad : Answered (byPayload desk live header payload (judging 2 0 payload))
     by-gad = go (judging 2 0 payload) refl
@@ -240,8 +244,8 @@ module _ (desk : Desk) (live run : List ℕ) where
     by-header : Answered (byHeader desk live header payload)
     unfolding byHeader
     by-header =
-        stopped (not (ours desk header)) refusal.NotOurs refl _ (λ e.
-        stopped (isSealed (header .seal)) refusal.Sealed refl _ (λ f.
+        stopped (not (ours desk header)) (nowhere refusal.NotOurs) refl _ (λ e.
+        stopped (isSealed (header .seal)) (nowhere refusal.Sealed) refl _ (λ f.
         go (eqb (header .«message_type») 2) refl (our-type desk header (not-false (ours desk header) e))))
       where
         go : (b : Bool) → eqb (header .«message_type») 2 ≡ b → ourType (desk .constellation) (header .«message_type») (header .subtype) ≡ true
@@ -256,8 +260,8 @@ module _ (desk : Desk) (live run : List ℕ) where
 
   by-frame : Ready desk live run → (frame : List ℕ) (c : Checked) → Checks c → Answered (byFrame desk live c frame)
   by-frame ready frame (check.Accepted header) good = by-header ready header (payloadIn header frame)
-  by-frame ready frame (check.Short wanted) short = not-taken refusal.Short refl
-  by-frame ready frame (check.Refused why) (bad e) = not-taken why e
+  by-frame ready frame (check.Short wanted) short = not-taken (nowhere refusal.Short) refl
+  by-frame ready frame (check.Refused why) (bad e) = not-taken (nowhere why) e
 
 -- of the desk from which the verdict leaves what it leaves
 module _ (desk : Desk) (second : ℕ) (live run : List ℕ) where
@@ -271,7 +275,7 @@ module _ (desk : Desk) (second : ℕ) (live run : List ℕ) where
   answered-left (continues book message) a = record { room = a .room; refusal = a .refusal; brings = a .brings }
   answered-left (opens tag message) a = record { room = a .room; refusal = a .refusal; brings = a .brings }
 
-  stopped-left : (b : Bool) (why : Refusal) → answers why ≡ true → (rest : Verdict) → (b ≡ false → AnsweredLeft rest) → AnsweredLeft (stop b (refused why) rest)
+  stopped-left : (b : Bool) (why : answer.Fault) → answers why ≡ true → (rest : Verdict) → (b ≡ false → AnsweredLeft rest) → AnsweredLeft (stop b (refused why) rest)
   stopped-left true why e rest h = not-taken desk live run why e
   stopped-left false why e rest h = h refl
 
@@ -282,8 +286,8 @@ answered handed =
     let second : ℕ = handed .second in
     let live : List ℕ = handed .live in
     let run : List ℕ = handed .run in
-    stopped-left desk second live run (noRoom live run (handed .log)) refusal.Room refl _ (λ r.
-    stopped-left desk second live run (not (deskSound desk live run)) refusal.State refl _ (λ s.
+    stopped-left desk second live run (noRoom live run (handed .log)) (nowhere refusal.Room) refl _ (λ r.
+    stopped-left desk second live run (not (deskSound desk live run)) (nowhere refusal.State) refl _ (λ s.
     answered-left desk second live run _
     (by-frame (handling desk second) live run
     (record { state = handling-sound desk second live run (not-false (deskSound desk live run) s); room = has-room live run (handed .log) r .run-room })
@@ -309,32 +313,33 @@ log-kept handed = go (noRoom (handed .live) (handed .run) (handed .log)) refl
         length-append l (drop (length l) (handed .log))
         ∙ omega (arith, length-drop (length l) (handed .log), answered handed .room, has-room (handed .live) (handed .run) (handed .log) e .log-room)
 
-six-not : (why : Refusal) → answers why ≡ true → numberOf why ≡ 6 → ⊥
-six-not refusal.Short e n = omega arith
-six-not refusal.Preamble e n = omega arith
-six-not refusal.FrameCrc e n = omega arith
-six-not refusal.Length e n = omega arith
-six-not refusal.MessageCrc e n = omega arith
-six-not refusal.UnknownType e n = true≢false (sym e)
-six-not refusal.MaskEmpty e n = omega arith
-six-not refusal.Field e n = omega arith
-six-not refusal.Room e n = omega arith
-six-not refusal.Sealed e n = omega arith
-six-not refusal.Tag e n = omega arith
-six-not refusal.NotOurs e n = omega arith
-six-not refusal.AreaOff e n = omega arith
-six-not refusal.Conflict e n = omega arith
-six-not refusal.BookFull e n = omega arith
-six-not refusal.Leftover e n = omega arith
-six-not refusal.State e n = omega arith
-six-not refusal.Form e n = omega arith
+six-not : (place : Place) (why : Refusal) → answersAt place why ≡ true → numberOf why ≡ 6 → ⊥
+six-not place refusal.Short e n = omega arith
+six-not place refusal.Preamble e n = omega arith
+six-not place refusal.FrameCrc e n = omega arith
+six-not place refusal.Length e n = omega arith
+six-not place refusal.MessageCrc e n = omega arith
+six-not Nowhere refusal.UnknownType e n = true≢false (sym e)
+six-not (At sf at) refusal.UnknownType e n = true≢false (sym e)
+six-not place refusal.MaskEmpty e n = omega arith
+six-not place refusal.Field e n = omega arith
+six-not place refusal.Room e n = omega arith
+six-not place refusal.Sealed e n = omega arith
+six-not place refusal.Tag e n = omega arith
+six-not place refusal.NotOurs e n = omega arith
+six-not place refusal.AreaOff e n = omega arith
+six-not place refusal.Conflict e n = omega arith
+six-not place refusal.BookFull e n = omega arith
+six-not place refusal.Leftover e n = omega arith
+six-not place refusal.State e n = omega arith
+six-not place refusal.Form e n = omega arith
 
 pub number-six : (handed : Handed) → numberOfSaid (frameTaken handed .answer .said) ≡ 6 → ⊥
 unfolding frameTaken
 number-six handed n = go (verdict handed) (answered handed .refusal) n
   where
     go : (v : Verdict) → verdictAnswers v ≡ true → numberOfSaid (saidBy v (length (loggedBy (leavingBy handed) (handed .live) (handed .run) (verdict handed)))) ≡ 6 → ⊥
-    go (refused why) e n = six-not why e n
+    go (refused why) e n = six-not (why .place) (why .refusal) e n
     go (defines book bytes) e n = omega arith
     go (continues book message) e n = omega arith
     go (opens tag message) e n = omega arith

@@ -8,7 +8,8 @@ use lib.Dec.{ltb}
 use lib.ListN.{length}
 use borrow.Author.Tests.{le-ltb}
 use Rattle.answer.specs.Stop.{stop}
-use Rattle.answer.specs.declared.Refusal.{Refusal}
+use Rattle.answer.specs.Place.{nowhere}
+use Rattle.answer.specs.declared.Fault as answer
 use Rattle.answer.specs.declared.Refusal.the-variants as refusal
 use Rattle.layout.specs.Layout as layout
 use Rattle.hpac.specs.Hpac.{Hpac}
@@ -35,7 +36,7 @@ abbrev with-other : Desk → Book → Last → Desk
 with-other desk book last = dated (deskWith desk book (desk .run)) last
 
 module _ (runBook : Book) (message : Hpac) where
-  pub past : (b : Bool) (why : Refusal) (rest : Verdict) → stop b (refused why) rest ≡ continues runBook message → (b ≡ false) × (rest ≡ continues runBook message)
+  pub past : (b : Bool) (why : answer.Fault) (rest : Verdict) → stop b (refused why) rest ≡ continues runBook message → (b ≡ false) × (rest ≡ continues runBook message)
   past true why rest e = let z : _≡_ {A = ℕ} 0 1 = cc in absurd (omega arith)
   past false why rest e = (refl, e)
 
@@ -61,10 +62,10 @@ module _ (runBook : Book) (message : Hpac) where
     unfolding byHeader
     on-header header payload e =
         let o : layout.Outcome Message = judging (header .«message_type») (header .subtype) payload in
-        let p = past (not (ours desk header)) refusal.NotOurs (stop (isSealed (header .seal)) (refused refusal.Sealed) (byPayload desk live header payload o)) e in
-        let q = past (isSealed (header .seal)) refusal.Sealed (byPayload desk live header payload o) (p .1) in
-        ap (λ b. stop b (refused refusal.NotOurs) (stop (isSealed (header .seal)) (refused refusal.Sealed) (byPayload (with-other desk book last) bytes header payload o))) (p .0)
-        ∙ ap (λ b. stop b (refused refusal.Sealed) (byPayload (with-other desk book last) bytes header payload o)) (q .0)
+        let p = past (not (ours desk header)) (nowhere refusal.NotOurs) (stop (isSealed (header .seal)) (refused (nowhere refusal.Sealed)) (byPayload desk live header payload o)) e in
+        let q = past (isSealed (header .seal)) (nowhere refusal.Sealed) (byPayload desk live header payload o) (p .1) in
+        ap (λ b. stop b (refused (nowhere refusal.NotOurs)) (stop (isSealed (header .seal)) (refused (nowhere refusal.Sealed)) (byPayload (with-other desk book last) bytes header payload o))) (p .0)
+        ∙ ap (λ b. stop b (refused (nowhere refusal.Sealed)) (byPayload (with-other desk book last) bytes header payload o)) (q .0)
         ∙ on-payload header payload o (q .1)
 
     pub on-frame : (frame : List ℕ) (c : Checked) → byFrame desk live c frame ≡ continues runBook message → byFrame (with-other desk book last) bytes c frame ≡ continues runBook message
@@ -91,9 +92,9 @@ module _ (runBook : Book) (message : Hpac) where
     unfolding verdict
     still-continues frame second log e =
         let rest : Verdict = byFrame (handling desk second) live (checked frame) frame in
-        let p = past (noRoom live run log) refusal.Room (stop (not (deskSound desk live run)) (refused refusal.State) rest) e in
-        let q = past (not (deskSound desk live run)) refusal.State rest (p .1) in
+        let p = past (noRoom live run log) (nowhere refusal.Room) (stop (not (deskSound desk live run)) (refused (nowhere refusal.State)) rest) e in
+        let q = past (not (deskSound desk live run)) (nowhere refusal.State) rest (p .1) in
         let rest′ : Verdict = byFrame (handling next second) bytes (checked frame) frame in
-        ap (λ b. stop b (refused refusal.Room) (stop (not (deskSound next bytes run)) (refused refusal.State) rest′)) (room-stays log (p .0))
-        ∙ ap (λ b. stop (not b) (refused refusal.State) rest′) w
+        ap (λ b. stop b (refused (nowhere refusal.Room)) (stop (not (deskSound next bytes run)) (refused (nowhere refusal.State)) rest′)) (room-stays log (p .0))
+        ∙ ap (λ b. stop (not b) (refused (nowhere refusal.State)) rest′) w
         ∙ on-frame (handling desk second) live (handling next second .book) bytes last frame (checked frame) (q .1)

@@ -8,7 +8,8 @@ use lib.Dec.{ltb, eqb}
 use lib.ListN.{length}
 use borrow.Author.Tests.{le-leb, ltb-false, not-false}
 use Rattle.answer.specs.Stop.{stop}
-use Rattle.answer.specs.declared.Refusal.{Refusal}
+use Rattle.answer.specs.Place.{nowhere}
+use Rattle.answer.specs.declared.Fault as answer
 use Rattle.answer.specs.declared.Refusal.the-variants as refusal
 use Rattle.area.specs.Laws.{both-left, both-right}
 use Rattle.layout.specs.Layout as layout
@@ -98,13 +99,13 @@ pub record Ready (desk : Desk) (live run : List ℕ) : Type 0 where
 
 -- the live book that a GAD leaves is sound; a message continues the open run, by that run's book; a run is opened with a tag in range
 pub data Fits (desk : Desk) (live run : List ℕ) : Verdict → Type 0 where
-  not-taken : {why : Refusal} → Fits desk live run (refused why)
+  not-taken : {why : answer.Fault} → Fits desk live run (refused why)
   new-areas : {book : Book} {bytes : List ℕ} → Ready desk live run → sound book bytes ≡ true → Fits desk live run (defines book bytes)
   same-run : {tag : ℕ} {book : Book} {message : Hpac} → Ready desk live run → desk .run ≡ Open tag book → Fits desk live run (continues book message)
   new-run : {tag : ℕ} {message : Hpac} → Ready desk live run → tag < tags → Fits desk live run (opens tag message)
 
 module _ (desk : Desk) (live run : List ℕ) where
-  fits-stop : (b : Bool) (why : Refusal) (rest : Verdict) → (b ≡ false → Fits desk live run rest) → Fits desk live run (stop b (refused why) rest)
+  fits-stop : (b : Bool) (why : answer.Fault) (rest : Verdict) → (b ≡ false → Fits desk live run rest) → Fits desk live run (stop b (refused why) rest)
   fits-stop true why rest h = not-taken
   fits-stop false why rest h = h refl
 
@@ -125,7 +126,7 @@ module _ (desk : Desk) (live run : List ℕ) where
     fits-book (gad.Refused why) e = not-taken
 
     fits-message : (m : Message) → Fits desk live run (byMessage desk live header payload m)
-    fits-message (hpacMessage constellation body) = fits-stop (badTag header) refusal.Tag (byRun (desk .run) (tagOf header) body) (λ e. fits-run (desk .run) body refl)
+    fits-message (hpacMessage constellation body) = fits-stop (badTag header) (nowhere refusal.Tag) (byRun (desk .run) (tagOf header) body) (λ e. fits-run (desk .run) body refl)
     fits-message (gadMessage body) = fits-book (takenOf (desk .book) live payload) refl
     fits-message (ocbMessage constellation body) = not-taken
     fits-message (bpacMessage body) = not-taken
@@ -139,8 +140,8 @@ module _ (desk : Desk) (live run : List ℕ) where
     fits-header =
         let o : layout.Outcome Message = judging (header .«message_type») (header .subtype) payload in
         let rest : Verdict = byPayload desk live header payload o in
-        fits-stop (not (ours desk header)) refusal.NotOurs (stop (isSealed (header .seal)) (refused refusal.Sealed) rest) (λ e.
-        fits-stop (isSealed (header .seal)) refusal.Sealed rest (λ f. fits-payload o))
+        fits-stop (not (ours desk header)) (nowhere refusal.NotOurs) (stop (isSealed (header .seal)) (refused (nowhere refusal.Sealed)) rest) (λ e.
+        fits-stop (isSealed (header .seal)) (nowhere refusal.Sealed) rest (λ f. fits-payload o))
 
   pub fits-frame : Ready desk live run → (frame : List ℕ) (c : Checked) → Fits desk live run (byFrame desk live c frame)
   fits-frame ready frame (check.Accepted header) = fits-header ready header (payloadIn header frame)
@@ -157,8 +158,8 @@ module _ (desk : Desk) (live run : List ℕ) where
   fits-kept book bytes =
       let rest : Verdict = defines book (copied book bytes live) in
       let both : Bool = deskSound desk live run && sound book bytes in
-      fits-stop (noBookRoom bytes live run) refusal.Room (stop (not both) (refused refusal.State) rest) (λ r.
-      fits-stop (not both) refusal.State rest (λ s.
+      fits-stop (noBookRoom bytes live run) (nowhere refusal.Room) (stop (not both) (refused (nowhere refusal.State)) rest) (λ r.
+      fits-stop (not both) (nowhere refusal.State) rest (λ s.
       fits-book-in
       (record { state = both-left (deskSound desk live run) (sound book bytes) (not-false both s); room = last-room (ltb (length bytes) bookBytes) (ltb (length live) bookBytes) r })
       book bytes (both-right (deskSound desk live run) (sound book bytes) (not-false both s))))
@@ -181,7 +182,7 @@ module _ (desk : Desk) (second : ℕ) (live run : List ℕ) where
   fits-left (continues book message) (same-run r e) = same-run (record { state = r .state; room = r .room }) e
   fits-left (opens tag message) (new-run r h) = new-run (record { state = r .state; room = r .room }) h
 
-  left-stop : (b : Bool) (why : Refusal) (rest : Verdict) → (b ≡ false → FitsLeft rest) → FitsLeft (stop b (refused why) rest)
+  left-stop : (b : Bool) (why : answer.Fault) (rest : Verdict) → (b ≡ false → FitsLeft rest) → FitsLeft (stop b (refused why) rest)
   left-stop true why rest h = not-taken
   left-stop false why rest h = h refl
 
@@ -189,8 +190,8 @@ module _ (desk : Desk) (second : ℕ) (live run : List ℕ) where
   unfolding verdict
   fits frame log =
       let rest : Verdict = byFrame (handling desk second) live (checked frame) frame in
-      left-stop (noRoom live run log) refusal.Room (stop (not (deskSound desk live run)) (refused refusal.State) rest) (λ r.
-      left-stop (not (deskSound desk live run)) refusal.State rest (λ s.
+      left-stop (noRoom live run log) (nowhere refusal.Room) (stop (not (deskSound desk live run)) (refused (nowhere refusal.State)) rest) (λ r.
+      left-stop (not (deskSound desk live run)) (nowhere refusal.State) rest (λ s.
       fits-left rest
       (fits-frame (handling desk second) live run
       (record { state = handling-sound desk second live run (not-false (deskSound desk live run) s); room = has-room live run log r .run-room })

@@ -9,7 +9,8 @@ use lib.ListN.{length}
 use borrow.Author.Tests.{ltb-false, le-ltb, ne-eqb, le-leb, lt-leb}
 use Rattle.sizes.specs.Sizes.{bookBytes}
 use Rattle.answer.specs.Stop.{stop}
-use Rattle.answer.specs.declared.Refusal.{Refusal}
+use Rattle.answer.specs.Place.{nowhere}
+use Rattle.answer.specs.declared.Fault as answer
 use Rattle.answer.specs.declared.Refusal.the-variants as refusal
 use Rattle.layout.specs.Layout as layout
 use Rattle.frame.specs.Check.{checked, payloadIn}
@@ -67,8 +68,8 @@ module _ (desk : Desk) (second : ℕ) (live run log : List ℕ) where
 
 unfoldable pub plainVerdict : Handed → Verdict
 plainVerdict handed =
-    stop (noRoom (handed .live) (handed .run) (handed .log)) (refused refusal.Room)
-    (stop (not (deskSound (handed .desk) (handed .live) (handed .run))) (refused refusal.State)
+    stop (noRoom (handed .live) (handed .run) (handed .log)) (refused (nowhere refusal.Room))
+    (stop (not (deskSound (handed .desk) (handed .live) (handed .run))) (refused (nowhere refusal.State))
     (byFrame (handed .desk) (handed .live) (checked (handed .frame)) (handed .frame)))
 
 unfoldable pub plainTaken : Handed → Result
@@ -85,8 +86,8 @@ module _ (handed : Handed) (e : isGap (handed .desk .last) (handed .second) ≡ 
   pub no-gap-verdict : verdict handed ≡ plainVerdict handed
   unfolding verdict plainVerdict
   no-gap-verdict =
-      ap (λ d. stop (noRoom (handed .live) (handed .run) (handed .log)) (refused refusal.Room)
-      (stop (not (deskSound (handed .desk) (handed .live) (handed .run))) (refused refusal.State)
+      ap (λ d. stop (noRoom (handed .live) (handed .run) (handed .log)) (refused (nowhere refusal.Room))
+      (stop (not (deskSound (handed .desk) (handed .live) (handed .run))) (refused (nowhere refusal.State))
       (byFrame d (handed .live) (checked (handed .frame)) (handed .frame)))) (handles-same (handed .desk) (handed .second) e)
 
   -- The answer, every lent byte and the desk are those of document 01; the desk keeps the second beside them if the frame is accepted.
@@ -125,13 +126,13 @@ module _ (handed : Handed) (e : isGap (handed .desk .last) (handed .second) ≡ 
 -- ---- a refusal: "if it is refused, the old book stays", and so does all that was lent, the last second too, gap or no gap
 
 module _ (handed : Handed) where
-  not-accepted : (v : Verdict) (n : ℕ) (why : Refusal) → saidBy v n ≡ said.Refused why → v ≡ refused why
+  not-accepted : (v : Verdict) (n : ℕ) (why : answer.Fault) → saidBy v n ≡ said.Refused why → v ≡ refused why
   not-accepted (refused r) n why e = let z : r ≡ why = cc in ap refused z
   not-accepted (defines book bytes) n why e = let z : _≡_ {A = ℕ} 0 1 = cc in absurd (omega arith)
   not-accepted (continues book message) n why e = let z : _≡_ {A = ℕ} 0 1 = cc in absurd (omega arith)
   not-accepted (opens tag message) n why e = let z : _≡_ {A = ℕ} 0 1 = cc in absurd (omega arith)
 
-  pub all-as-lent : (why : Refusal) → frameTaken handed .answer .said ≡ said.Refused why
+  pub all-as-lent : (why : answer.Fault) → frameTaken handed .answer .said ≡ said.Refused why
       → frameTaken handed ≡ results (record { said = said.Refused why; desk = handed .desk }) (handed .live) (handed .run) (handed .log)
   unfolding frameTaken loggedBy groupsOfAll
   all-as-lent why e =
@@ -176,7 +177,7 @@ module _ (handed : Handed) (w : deskSound (handed .desk) (handed .live) (handed 
   unfolding verdict plainVerdict
   gap-verdict =
       rw (w, empty-is-sound)
-      (ap (λ d. stop (noRoom (handed .live) (handed .run) (handed .log)) (refused refusal.Room) (byFrame d (handed .live) (checked (handed .frame)) (handed .frame)))
+      (ap (λ d. stop (noRoom (handed .live) (handed .run) (handed .log)) (refused (nowhere refusal.Room)) (byFrame d (handed .live) (checked (handed .frame)) (handed .frame)))
       handles-empty)
 
   -- .. and so is all that is answered and left, refusals included; the second is kept if the frame is accepted, and beside a refusal the desk is as lent.
@@ -253,8 +254,8 @@ module _ (handed : Handed) (w : deskSound (handed .desk) (handed .live) (handed 
     judged =
         let rest : layout.Outcome Message → Verdict = λ x. byPayload (emptied handed) (handed .live) header payload x in
         ap (λ x. byFrame (emptied handed) (handed .live) x (handed .frame)) c
-        ∙ ap (λ b. stop (not b) (refused refusal.NotOurs) (stop (isSealed (header .seal)) (refused refusal.Sealed) (rest (judging (header .«message_type») (header .subtype) payload)))) o
-        ∙ ap (λ b. stop b (refused refusal.Sealed) (rest (judging (header .«message_type») (header .subtype) payload))) p
+        ∙ ap (λ b. stop (not b) (refused (nowhere refusal.NotOurs)) (stop (isSealed (header .seal)) (refused (nowhere refusal.Sealed)) (rest (judging (header .«message_type») (header .subtype) payload)))) o
+        ∙ ap (λ b. stop b (refused (nowhere refusal.Sealed)) (rest (judging (header .«message_type») (header .subtype) payload))) p
         ∙ ap₂ (λ x y. rest (judging x y payload)) k z
 
     pub gap-gad : verdict handed ≡ byBook (answerOf fromNone (message .aiou)) (leftBy fromNone (handed .live))
@@ -263,7 +264,7 @@ module _ (handed : Handed) (w : deskSound (handed .desk) (handed .live) (handed 
         let h : bookBytes ≤ length (handed .live) = has-room (handed .live) (handed .run) (handed .log) room .live-room in
         let n : outcome noBook (handed .live) payload ≡ fromNone = from-none (handed .live) payload h message codes bits r in
         gap-verdict
-        ∙ ap₂ (λ a b. stop a (refused refusal.Room) (stop (not b) (refused refusal.State) (byFrame (emptied handed) (handed .live) (checked (handed .frame)) (handed .frame)))) room empty-is-sound
+        ∙ ap₂ (λ a b. stop a (refused (nowhere refusal.Room)) (stop (not b) (refused (nowhere refusal.State)) (byFrame (emptied handed) (handed .live) (checked (handed .frame)) (handed .frame)))) room empty-is-sound
         ∙ judged
         ∙ ap (byPayload (emptied handed) (handed .live) header payload) r
         ∙ ap₂ (λ x y. byBook (answerOf x (reading y (λ m. m .aiou) (λ why. 0))) (leftBy x (handed .live))) n r
@@ -273,8 +274,8 @@ pub still-the-run : (handed : Handed) (book : Book) (message : Hpac) → plainVe
 unfolding verdict plainVerdict
 still-the-run handed book message q =
     let rest : Verdict = byFrame (handed .desk) (handed .live) (checked (handed .frame)) (handed .frame) in
-    let a = past book message (noRoom (handed .live) (handed .run) (handed .log)) refusal.Room (stop (not (deskSound (handed .desk) (handed .live) (handed .run))) (refused refusal.State) rest) q in
-    let b = past book message (not (deskSound (handed .desk) (handed .live) (handed .run))) refusal.State rest (a .1) in
+    let a = past book message (noRoom (handed .live) (handed .run) (handed .log)) (nowhere refusal.Room) (stop (not (deskSound (handed .desk) (handed .live) (handed .run))) (refused (nowhere refusal.State)) rest) q in
+    let b = past book message (not (deskSound (handed .desk) (handed .live) (handed .run))) (nowhere refusal.State) rest (a .1) in
     rw (a .0, b .0)
     (on-frame book message (handed .desk) (handed .live) (handling (handed .desk) (handed .second) .book) (handed .live) (handed .desk .last) (handed .frame) (checked (handed .frame)) (b .1))
 

@@ -7,7 +7,8 @@ use lib.ListN.{length, take, drop}
 use Rattle.sizes.specs.Sizes.{tags, bookBytes, logRoom}
 use Rattle.answer.specs.Number.{numberOf}
 use Rattle.answer.specs.Stop.{stop}
-use Rattle.answer.specs.declared.Refusal.{Refusal}
+use Rattle.answer.specs.Place.{nowhere}
+use Rattle.answer.specs.declared.Fault as answer
 use Rattle.answer.specs.declared.Refusal.the-variants as refusal
 use Rattle.codes.specs.Tables.{rowOf}
 use Rattle.codes.specs.declared.Constellation.{Constellation}
@@ -54,8 +55,8 @@ hands desk frame second live run log = record { desk = desk; frame = frame; seco
 -- ---- what a frame is to a desk
 
 pub data Verdict : Type 0 where
-  -- not taken
-  refused : Refusal → Verdict
+  -- not taken; a fault of the payload with its place, as the reader gives it
+  refused : answer.Fault → Verdict
   -- a GAD: the live book that it leaves, and its bytes
   defines : (book : Book) (bytes : List ℕ) → Verdict
   -- an HPAC message of the open run, whose book is this one
@@ -83,12 +84,12 @@ byBook (gad.Refused why) bytes = refused why
 
 -- "then for HPAC TAG, for GAD the book's refusals (a GAD's tag does not count)"; no other payload comes as far as here
 abbrev pub byMessage : Desk → (live : List ℕ) → Frame → (payload : List ℕ) → Message → Verdict
-byMessage desk live header payload (hpacMessage constellation body) = stop (badTag header) (refused refusal.Tag) (byRun (desk .run) (tagOf header) body)
+byMessage desk live header payload (hpacMessage constellation body) = stop (badTag header) (refused (nowhere refusal.Tag)) (byRun (desk .run) (tagOf header) body)
 byMessage desk live header payload (gadMessage body) = byBook (takenOf (desk .book) live payload) (bytesAfter (desk .book) live payload)
-byMessage desk live header payload (ocbMessage constellation body) = refused refusal.NotOurs
-byMessage desk live header payload (bpacMessage body) = refused refusal.NotOurs
+byMessage desk live header payload (ocbMessage constellation body) = refused (nowhere refusal.NotOurs)
+byMessage desk live header payload (bpacMessage body) = refused (nowhere refusal.NotOurs)
 
--- "payload refusals"
+-- "payload refusals": "Every call above passes the place on as it got it." (document 02, request 2)
 abbrev pub byPayload : Desk → (live : List ℕ) → Frame → (payload : List ℕ) → layout.Outcome Message → Verdict
 byPayload desk live header payload (layout.accepted message codes bits) = byMessage desk live header payload message
 byPayload desk live header payload (layout.refused why) = refused why
@@ -111,15 +112,15 @@ isSealed (seal.Sealed sealing) = true
 -- "NOT_OURS, SEALED, payload refusals, .."
 unfoldable pub byHeader : Desk → (live : List ℕ) → Frame → (payload : List ℕ) → Verdict
 byHeader desk live header payload =
-    stop (not (ours desk header)) (refused refusal.NotOurs)
-    (stop (isSealed (header .seal)) (refused refusal.Sealed)
+    stop (not (ours desk header)) (refused (nowhere refusal.NotOurs))
+    (stop (isSealed (header .seal)) (refused (nowhere refusal.Sealed))
     (byPayload desk live header payload (judging (header .«message_type») (header .subtype) payload)))
 
 -- "the frame's own refusals, .."
 abbrev pub byFrame : Desk → (live : List ℕ) → Checked → (frame : List ℕ) → Verdict
 byFrame desk live (check.Accepted header) frame = byHeader desk live header (payloadIn header frame)
-byFrame desk live (check.Short wanted) frame = refused refusal.Short
-byFrame desk live (check.Refused why) frame = refused why
+byFrame desk live (check.Short wanted) frame = refused (nowhere refusal.Short)
+byFrame desk live (check.Refused why) frame = refused (nowhere why)
 
 -- ---- document 02, request 1: "Each frame is now handed to the desk with the second it came in."
 
@@ -152,8 +153,8 @@ noRoom live run log = ltb (length live) bookBytes || (ltb (length run) bookBytes
 -- "Order: ROOM, STATE, the frame's own refusals, NOT_OURS, SEALED, payload refusals, then for HPAC TAG, for GAD the book's refusals". ROOM and STATE are asked of the desk as lent.
 unfoldable pub verdict : Handed → Verdict
 verdict handed =
-    stop (noRoom (handed .live) (handed .run) (handed .log)) (refused refusal.Room)
-    (stop (not (deskSound (handed .desk) (handed .live) (handed .run))) (refused refusal.State)
+    stop (noRoom (handed .live) (handed .run) (handed .log)) (refused (nowhere refusal.Room))
+    (stop (not (deskSound (handed .desk) (handed .live) (handed .run))) (refused (nowhere refusal.State))
     (byFrame (handling (handed .desk) (handed .second)) (handed .live) (checked (handed .frame)) (handed .frame)))
 
 -- ---- what a verdict leaves: "A refusal returns its number and the old state, .. and alters no lent byte"
@@ -206,7 +207,7 @@ loggedBy desk live run v = groupsOfAll (entriesBy desk live run v)
 abbrev pub logBy : Desk → (live run log : List ℕ) → Verdict → List ℕ
 logBy desk live run log v = loggedBy desk live run v ++ drop (length (loggedBy desk live run v)) log
 
--- the answer: OK with the log bytes written, or the refusal
+-- the answer: OK with the log bytes written, or the refusal with its place
 abbrev pub saidBy : Verdict → (logged : ℕ) → Said
 saidBy (refused why) logged = said.Refused why
 saidBy (defines book bytes) logged = said.Accepted logged
@@ -272,7 +273,7 @@ withSecond desk second left = results (settled desk second (left .answer)) (left
 -- the answer's number in document 01
 abbrev pub numberOfSaid : Said → ℕ
 numberOfSaid (said.Accepted log) = 0
-numberOfSaid (said.Refused refusal) = numberOf refusal
+numberOfSaid (said.Refused fault) = numberOf (fault .refusal)
 
 -- ---- a book that was read from its kept form, in bytes of its own, is taken as the live book; an open run and the last second stay as they are
 
@@ -293,8 +294,8 @@ noBookRoom bytes live run =
 
 unfoldable pub bookVerdict : BookHanded → Verdict
 bookVerdict handed =
-    stop (noBookRoom (handed .bytes) (handed .live) (handed .run)) (refused refusal.Room)
-    (stop (not (deskSound (handed .desk) (handed .live) (handed .run) && sound (handed .book) (handed .bytes))) (refused refusal.State)
+    stop (noBookRoom (handed .bytes) (handed .live) (handed .run)) (refused (nowhere refusal.Room))
+    (stop (not (deskSound (handed .desk) (handed .live) (handed .run) && sound (handed .book) (handed .bytes))) (refused (nowhere refusal.State))
     (defines (handed .book) (copied (handed .book) (handed .bytes) (handed .live))))
 
 -- the answer and the live book's bytes then

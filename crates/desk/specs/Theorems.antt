@@ -19,13 +19,15 @@ use Rattle.book.specs.declared.Book.{Book}
 use Rattle.log.specs.Log.{opened, bitsFor, reasonFor, reasonOf, troposphereIn, satellitesIn, entryOf, entriesOf as logEntries, logOf}
 use Rattle.entries.specs.Entry as entry
 use Rattle.entries.specs.Entry.{joined, numbersOf}
-use Rattle.answer.specs.declared.Refusal.{Refusal}
+use Rattle.answer.specs.declared.Fault as answer
+use Rattle.answer.specs.declared.Place.{Place}
+use Rattle.answer.specs.declared.Place.the-variants.{Nowhere, At}
 use Rattle.answer.specs.declared.Refusal.the-variants.{Field, UnknownType}
 use Rattle.message.specs.Messages.{constellationFor}
 use Rattle.message.specs.declared.Subtype.{Subtype}
 use Rattle.message.specs.declared.Subtype.the-variants as subtype
 use Rattle.desk.specs.Desk.{sourceInRange, madeFor, newDesk, deskSound}
-use Rattle.desk.specs.Answers.{answers}
+use Rattle.desk.specs.Answers.{answers, answersAt}
 use Rattle.desk.specs.Take.{Handed, Verdict, refused, defines, continues, opens, counted, verdict, copied, loggedBy, leavingBy, frameTaken, numberOfSaid}
 use Rattle.desk.specs.Lookup.{inRun, nowhere, spotOf, bytesAt}
 use Rattle.desk.specs.Copied.{copied-sound, copied-found}
@@ -259,13 +261,17 @@ log-room handed = answered handed .room
 pub log-length : (handed : Handed) → length (frameTaken handed .log) ≡ length (handed .log)
 log-length handed = log-kept handed
 
--- A desk refuses a frame only by a refusal of `answers` ..
-pub refusals : (handed : Handed) (why : Refusal) → verdict handed ≡ refused why → answers why ≡ true
+-- A desk refuses a frame only by a refusal of `answers`, with a place where that says so ..
+pub refusals : (handed : Handed) (why : answer.Fault) → verdict handed ≡ refused why → answers why ≡ true
 refusals handed why e = subst (λ v. verdictAnswers v ≡ true) e (answered handed .refusal)
 
 -- .. so never by UNKNOWN_TYPE: a type that it does not know is NOT_OURS.
-pub never-unknown-type : (handed : Handed) → verdict handed ≡ refused UnknownType → ⊥
-never-unknown-type handed e = true≢false (sym (refusals handed UnknownType e))
+pub never-unknown-type : (handed : Handed) (place : Place) → verdict handed ≡ refused (record { refusal = UnknownType; place = place }) → ⊥
+never-unknown-type handed place e = go place (refusals handed (record { refusal = UnknownType; place = place }) e)
+  where
+    go : (place : Place) → answersAt place UnknownType ≡ true → ⊥
+    go Nowhere h = true≢false (sym h)
+    go (At sf at) h = true≢false (sym h)
 
 pub never-six : (handed : Handed) → numberOfSaid (frameTaken handed .answer .said) ≡ 6 → ⊥
 never-six handed n = number-six handed n

@@ -2,7 +2,7 @@
 use mathlib.Core.Path.{_≡_, refl, sym, ap, ap₂, _∙_}
 use mathlib.Core.List.{List, [], _∷_, _++_}
 use mathlib.Core.Bool.{true, false}
-use Prim.Native.Nat.{ℕ, zero, suc, _+_, _-_, _≤_, _<_}
+use Prim.Native.Nat.{ℕ, zero, suc, _+_, _-_, _*_, _≤_, _<_}
 use native.Mathlib.Nat.{le-antisymm, le-of-suc-le-suc, not-suc-le-zero}
 use native.Mathlib.Numerals.{add-one}
 use native.Mathlib.Omega.{arith}
@@ -10,7 +10,10 @@ use lib.Dec.{ltb}
 use lib.ListN.{length, take, drop, getD, set, length-set}
 use lib.Seq.{take-all}
 use borrow.Author.Tests.{lt-ltb, le-ltb}
-use Rattle.export.specs.Numbers.{Told, roomFor, laid, answered, lentAfter, atMost}
+use Rattle.answer.specs.Number.{numberOf}
+use Rattle.answer.specs.Place.{sfIn, atIn}
+use Rattle.answer.specs.declared.Fault.{Fault}
+use Rattle.export.specs.Numbers.{Told, roomFor, laid, answered, lentAfter, atMost, mostSf, mostPlace, answerOf}
 
 -- ---- numbers, or floats, laid into a slice
 
@@ -110,3 +113,18 @@ module _ (most w x : ℕ) (e : w ≡ most) where
   pub over : w ≤ x → most ≡ atMost most x
   unfolding atMost
   over h = let z : ltb x most ≡ false = le-ltb _ _ (rw e at h) in rw z
+
+module _ (most x : ℕ) where
+  pub most-under : x < most → (x ≡ atMost most x) × (x ≤ most)
+  most-under h = (under most most x refl h, omega arith)
+
+  pub most-over : most ≤ x → (most ≡ atMost most x) × (most ≤ most)
+  most-over h = (over most most x refl h, omega arith)
+
+-- ---- a refusal and its place in one number
+
+module _ (fault : Fault) (number wide sf most-sf at count most-at : ℕ) (e : number ≡ numberOf (fault .refusal)) (w : wide ≡ number) (s : sf ≡ sfIn (fault .place))
+    (p : (most-sf ≡ atMost mostSf sf) × (most-sf ≤ mostSf)) (a : at ≡ atIn (fault .place)) (c : count ≡ at) (q : (most-at ≡ atMost mostPlace count) × (most-at ≤ mostPlace)) where
+  pub answer-made : wide + (256 * most-sf + 4294967296 * most-at) ≡ answerOf fault
+  unfolding answerOf
+  answer-made = rw (w, e, p .0, s, q .0, c, a)

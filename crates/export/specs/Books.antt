@@ -14,7 +14,7 @@ use Rattle.kept.specs.declared.Written.the-variants as writing
 use Rattle.kept.specs.declared.ReadKept.{ReadKept}
 use Rattle.kept.specs.declared.ReadKept.the-variants as reading
 use Rattle.kept.specs.Kept.{written, outAfter, readKept, answerOf, leftBy}
-use Rattle.export.specs.Numbers.{Told, refused, atMost}
+use Rattle.export.specs.Numbers.{Told, refused, refusedAt, atMost}
 
 abbrev pub bookRoom : ℕ
 bookRoom = 2
@@ -39,7 +39,7 @@ takeLeaves book bytes payload = bytesAfter (bookIn book) bytes payload
 
 unfoldable pub toldTaken : Taken → Told
 toldTaken (taking.Holds book) = record { number = 0; numbers = bookOf book }
-toldTaken (taking.Refused refusal) = refused refusal
+toldTaken (taking.Refused fault) = refusedAt fault
 
 -- the kept book written
 unfoldable pub keptOf : (book bytes out : List ℕ) → Written

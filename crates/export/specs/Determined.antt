@@ -1,6 +1,7 @@
 -- Two results of a public call of this crate cannot differ: for equal inputs, answers and lent buffers that meet the contract are equal. Proved.
 -- Written by tests/determined from the contracts in src/.
 use Prim.Native.Nat.{_-_, ℕ}
+use Rattle.answer.specs.declared.Fault.{Fault}
 use Rattle.bits.specs.Bits.{Bytes, toBits}
 use Rattle.bits.specs.Laws.{toBits-injective}
 use Rattle.book.specs.declared.Book.{Book}
@@ -9,7 +10,7 @@ use Rattle.export.specs.Books.{bookIn, bookOf, bookRoom, keptLeaves, kep
 use Rattle.export.specs.Frames as export-frames
 use Rattle.export.specs.Frames.{headerOf, headerRoom, partsOf, toldChecked}
 use Rattle.export.specs.Meanings.{floatsOfOrbit, floatsOfValue, orbitRoom, toldOrbit, toldValue, unitRoom, valueRoom}
-use Rattle.export.specs.Numbers.{answered, laid, lentAfter, room, roomFor, stored}
+use Rattle.export.specs.Numbers.{answerOf, answered, laid, lentAfter, room, roomFor, stored}
 use Rattle.export.specs.Payloads as export-payloads
 use Rattle.export.specs.Payloads.{countsRoom}
 use Rattle.export.specs.Streams.{callLeaves, callOf, finishLeaves, finishOf, headerTold, rooms, toldAnswer, trayIn, trayOf, trayTold}
@@ -127,6 +128,12 @@ pub count-determined : (n : ℕ) (r₁ r₂ : ℕ)
     → r₂ ≡ n
     → r₁ ≡ r₂
 count-determined n r₁ r₂ e0₁ e0₂ = e0₁ ∙ sym e0₂
+
+pub answer-of-determined : (fault : Fault) (r₁ r₂ : ℕ)
+    → r₁ ≡ answerOf fault
+    → r₂ ≡ answerOf fault
+    → r₁ ≡ r₂
+answer-of-determined fault r₁ r₂ e0₁ e0₂ = e0₁ ∙ sym e0₂
 
 pub at-determined : (numbers : List ℕ) (place : ℕ) (r₁ r₂ : ℕ)
     → r₁ ≡ getD numbers place 0

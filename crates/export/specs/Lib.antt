@@ -1,4 +1,5 @@
 pub mod Numbers
+pub mod Answers
 pub mod Frames
 pub mod Payloads
 pub mod Streams

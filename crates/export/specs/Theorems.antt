@@ -10,6 +10,7 @@ use lib.Dec.{ltb}
 use lib.ListN.{length, take, drop}
 use borrow.Author.Tests.{le-ltb, ltb-false}
 use Rattle.answer.specs.Stop.{stop}
+use Rattle.answer.specs.Place.{nowhere}
 use Rattle.answer.specs.declared.Refusal.the-variants.{Room, State}
 use Rattle.bits.specs.Bits.{Bytes}
 use Rattle.sizes.specs.Sizes.{longestFrame, mostNoise, bookBytes}
@@ -140,7 +141,7 @@ was-sound : (old : Book) (s payload : List ℕ) (new : Book) → takenOf old s p
 unfolding taken.outcome
 was-sound old s payload new = go (ltb (length s) bookBytes) (book.sound old s) _ _
   where
-    go : (a b : Bool) (o : taken.Outcome) (aiou : ℕ) → taken.answerOf (stop a (taken.refused Room) (stop (not b) (taken.refused State) o)) aiou ≡ taking.Holds new → b ≡ true
+    go : (a b : Bool) (o : taken.Outcome) (aiou : ℕ) → taken.answerOf (stop a (taken.refused (nowhere Room)) (stop (not b) (taken.refused (nowhere State)) o)) aiou ≡ taking.Holds new → b ≡ true
     go true b o aiou e = let w : _≡_ {A = ℕ} 0 1 = cc in absurd (omega arith)
     go false false o aiou e = let w : _≡_ {A = ℕ} 0 1 = cc in absurd (omega arith)
     go false true o aiou e = refl

@@ -5,6 +5,8 @@ ghost use lib.ListN.{length};
 ghost use Rattle.export.specs.Numbers.{roomFor, laid, stored, answered, lentAfter, atMost};
 ghost use Rattle.export.specs.Books.{bookRoom, bookIn, bookOf, takeOf, takeLeaves, toldTaken, keptOf, keptLeaves, toldKept, readOf, readLeaves, toldRead};
 use crate::numbers::ROOM;
+use crate::numbers::ROOM_ANSWER;
+use crate::numbers::answer_of;
 use crate::numbers::at;
 use crate::numbers::count;
 use crate::numbers::put;
@@ -69,7 +71,7 @@ fn take(book: &[u64], bytes: &mut [u8], payload: &[u8]) -> Taken
     book::take(held, bytes, payload)
 }
 
-fn tell_taken(answer: Taken, book: &mut [u64]) -> u8
+fn tell_taken(answer: Taken, book: &mut [u64]) -> u64
     requires { ⌜ bookRoom ≤ length (now book) ⌝ }
     ensures { λ r. ⌜ r ≡ toldTaken answer .number ⌝ }
     ensures { λ _. ⌜ now (book .exit) ≡ laid (toldTaken answer .numbers) (now (book .entry)) ⌝ }
@@ -79,19 +81,19 @@ fn tell_taken(answer: Taken, book: &mut [u64]) -> u8
             put_book(held, book);
             0
         }
-        Taken::Refused(refusal) => answer::number(refusal),
+        Taken::Refused(fault) => answer_of(fault),
     }
 }
 
 // A GAD payload taken into a book.
 #[no_mangle]
-pub extern "C" fn homralgyu_book_take(book: &mut [u64], bytes: &mut [u8], payload: &[u8]) -> u8
+pub extern "C" fn homralgyu_book_take(book: &mut [u64], bytes: &mut [u8], payload: &[u8]) -> u64
     ensures { λ r. ⌜ r ≡ answered bookRoom (now (book .entry)) (toldTaken (takeOf (now (book .entry)) (now (bytes .entry)) (now (payload .entry)))) ⌝ }
     ensures { λ _. ⌜ now (book .exit) ≡ lentAfter bookRoom (now (book .entry)) (toldTaken (takeOf (now (book .entry)) (now (bytes .entry)) (now (payload .entry)))) ⌝ }
     ensures { λ _. ⌜ now (bytes .exit) ≡ roomFor bookRoom (now (book .entry)) (now (bytes .entry)) (takeLeaves (now (book .entry)) (now (bytes .entry)) (now (payload .entry))) ⌝ }
 {
     if book.len() < BOOK {
-        return ROOM;
+        return ROOM_ANSWER;
     }
     let answer = take(book, bytes, payload);
     tell_taken(answer, book)

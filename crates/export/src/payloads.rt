@@ -6,7 +6,8 @@ ghost use Rattle.bits.specs.Bits.{toBits};
 ghost use Rattle.sheet.specs.Sheet.{judged, readAnswer, sheetAfter, judgedSheet, writeAnswer, outAfter};
 ghost use Rattle.export.specs.Numbers.{roomFor, laid, answered, lentAfter};
 ghost use Rattle.export.specs.Payloads.{countsRoom, toldRead, toldWritten};
-use crate::numbers::ROOM;
+use crate::numbers::ROOM_ANSWER;
+use crate::numbers::answer_of;
 use crate::numbers::count;
 use crate::numbers::put;
 use sheet::ReadAnswer;
@@ -15,8 +16,8 @@ use sheet::WriteAnswer;
 // Two counts are told.
 const COUNTS: usize = 2;
 
-// The reader's number, and the bits read and the entries written.
-fn tell_read(answer: ReadAnswer, counts: &mut [u64]) -> u8
+// The reader's answer, and the bits read and the entries written.
+fn tell_read(answer: ReadAnswer, counts: &mut [u64]) -> u64
     requires { ⌜ countsRoom ≤ length (now counts) ⌝ }
     ensures { λ r. ⌜ r ≡ toldRead answer .number ⌝ }
     ensures { λ _. ⌜ now (counts .exit) ≡ laid (toldRead answer .numbers) (now (counts .entry)) ⌝ }
@@ -27,12 +28,12 @@ fn tell_read(answer: ReadAnswer, counts: &mut [u64]) -> u8
             put(&numbers, counts);
             0
         }
-        ReadAnswer::Refused(refusal) => answer::number(refusal),
+        ReadAnswer::Refused(fault) => answer_of(fault),
     }
 }
 
-// The writer's number, and the bits and the bytes written.
-fn tell_written(answer: WriteAnswer, counts: &mut [u64]) -> u8
+// The writer's answer, and the bits and the bytes written.
+fn tell_written(answer: WriteAnswer, counts: &mut [u64]) -> u64
     requires { ⌜ countsRoom ≤ length (now counts) ⌝ }
     ensures { λ r. ⌜ r ≡ toldWritten answer .number ⌝ }
     ensures { λ _. ⌜ now (counts .exit) ≡ laid (toldWritten answer .numbers) (now (counts .entry)) ⌝ }
@@ -43,7 +44,7 @@ fn tell_written(answer: WriteAnswer, counts: &mut [u64]) -> u8
             put(&numbers, counts);
             0
         }
-        WriteAnswer::Refused(refusal) => answer::number(refusal),
+        WriteAnswer::Refused(fault) => answer_of(fault),
     }
 }
 
@@ -54,12 +55,12 @@ pub extern "C" fn homralgyu_payload_judge(
     subtype: u8,
     payload: &[u8],
     counts: &mut [u64],
-) -> u8
+) -> u64
     ensures { λ r. ⌜ r ≡ answered countsRoom (now (counts .entry)) (toldRead (judged kind subtype (now (payload .entry)))) ⌝ }
     ensures { λ _. ⌜ now (counts .exit) ≡ lentAfter countsRoom (now (counts .entry)) (toldRead (judged kind subtype (now (payload .entry)))) ⌝ }
 {
     if counts.len() < COUNTS {
-        return ROOM;
+        return ROOM_ANSWER;
     }
     tell_read(sheet::judge(kind, subtype, payload), counts)
 }
@@ -72,13 +73,13 @@ pub extern "C" fn homralgyu_payload_read(
     payload: &[u8],
     sheet: &mut [u64],
     counts: &mut [u64],
-) -> u8
+) -> u64
     ensures { λ r. ⌜ r ≡ answered countsRoom (now (counts .entry)) (toldRead (readAnswer kind subtype (now (payload .entry)) (now (sheet .entry)))) ⌝ }
     ensures { λ _. ⌜ now (sheet .exit) ≡ roomFor countsRoom (now (counts .entry)) (now (sheet .entry)) (sheetAfter kind subtype (now (payload .entry)) (now (sheet .entry))) ⌝ }
     ensures { λ _. ⌜ now (counts .exit) ≡ lentAfter countsRoom (now (counts .entry)) (toldRead (readAnswer kind subtype (now (payload .entry)) (now (sheet .entry)))) ⌝ }
 {
     if counts.len() < COUNTS {
-        return ROOM;
+        return ROOM_ANSWER;
     }
     tell_read(sheet::read(kind, subtype, payload, sheet), counts)
 }
@@ -90,12 +91,12 @@ pub extern "C" fn homralgyu_sheet_judge(
     subtype: u8,
     sheet: &[u64],
     counts: &mut [u64],
-) -> u8
+) -> u64
     ensures { λ r. ⌜ r ≡ answered countsRoom (now (counts .entry)) (toldWritten (judgedSheet kind subtype (now (sheet .entry)))) ⌝ }
     ensures { λ _. ⌜ now (counts .exit) ≡ lentAfter countsRoom (now (counts .entry)) (toldWritten (judgedSheet kind subtype (now (sheet .entry)))) ⌝ }
 {
     if counts.len() < COUNTS {
-        return ROOM;
+        return ROOM_ANSWER;
     }
     tell_written(sheet::judge_sheet(kind, subtype, sheet), counts)
 }
@@ -108,13 +109,13 @@ pub extern "C" fn homralgyu_sheet_write(
     sheet: &[u64],
     out: &mut [u8],
     counts: &mut [u64],
-) -> u8
+) -> u64
     ensures { λ r. ⌜ r ≡ answered countsRoom (now (counts .entry)) (toldWritten (writeAnswer kind subtype (now (sheet .entry)) (now (out .entry)))) ⌝ }
     ensures { λ _. ⌜ toBits (now (out .exit)) ≡ roomFor countsRoom (now (counts .entry)) (toBits (now (out .entry))) (outAfter kind subtype (now (sheet .entry)) (now (out .entry))) ⌝ }
     ensures { λ _. ⌜ now (counts .exit) ≡ lentAfter countsRoom (now (counts .entry)) (toldWritten (writeAnswer kind subtype (now (sheet .entry)) (now (out .entry)))) ⌝ }
 {
     if counts.len() < COUNTS {
-        return ROOM;
+        return ROOM_ANSWER;
     }
     tell_written(sheet::write(kind, subtype, sheet, out), counts)
 }

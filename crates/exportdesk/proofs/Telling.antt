@@ -16,7 +16,7 @@ use Rattle.export.specs.Numbers.{laid}
 use Rattle.export.specs.Books.{bookIn}
 use Rattle.export.proofs.Laws.{short-is, enough-is}
 use Rattle.exportdesk.specs.States.{deskRoom, deskIn}
-use Rattle.exportdesk.specs.Desks.{soundOf, toldSaid, toldTaken, takeOf, takeLive, takeRun, takeLog, takeBookOf, takeBookLive}
+use Rattle.exportdesk.specs.Desks.{soundOf, toldSaid, toldTaken, toldBookSaid, toldBookTaken, takeOf, takeLive, takeRun, takeLog, takeBookOf, takeBookLive}
 
 -- ---- whether a desk is sound
 
@@ -58,6 +58,14 @@ module _ (a : Taken) (s : Said) (e : a .said ≡ s) where
   pub said-numbers : (lent now : List ℕ) → now ≡ laid (toldSaid s (a .desk) .numbers) lent → now ≡ laid (toldTaken a .numbers) lent
   unfolding toldTaken
   said-numbers lent now p = rw e p
+
+  pub book-number : (n : ℕ) → n ≡ toldBookSaid s (a .desk) .number → n ≡ toldBookTaken a .number
+  unfolding toldBookTaken
+  book-number n p = rw e p
+
+  pub book-numbers : (lent now : List ℕ) → now ≡ laid (toldBookSaid s (a .desk) .numbers) lent → now ≡ laid (toldBookTaken a .numbers) lent
+  unfolding toldBookTaken
+  book-numbers lent now p = rw e p
 
 module _ (d : Desk) (desk : List ℕ) (e : d ≡ deskIn desk) (live run : List ℕ) where
   module _ (frame : List ℕ) (second : ℕ) (log : List ℕ) (a : Taken) (live′ run′ log′ : List ℕ)

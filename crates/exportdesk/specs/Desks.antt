@@ -13,7 +13,7 @@ use Rattle.desk.specs.declared.NewDesk.the-variants as made
 use Rattle.desk.specs.declared.Said.{Said}
 use Rattle.desk.specs.declared.Said.the-variants as said
 use Rattle.desk.specs.declared.Taken.{Taken}
-use Rattle.export.specs.Numbers.{Told, refused, room, roomFor}
+use Rattle.export.specs.Numbers.{Told, refused, refusedAt, room, roomFor}
 use Rattle.export.specs.Books.{bookIn}
 use Rattle.exportdesk.specs.States.{deskRoom, deskIn, deskOf}
 
@@ -33,10 +33,18 @@ soundOf desk live run =
 -- the desk afterwards; a refusal leaves the old one
 unfoldable pub toldSaid : Said → Desk → Told
 toldSaid (said.Accepted log) desk = record { number = 0; numbers = deskOf desk }
-toldSaid (said.Refused why) desk = refused why
+toldSaid (said.Refused fault) desk = refusedAt fault
 
 unfoldable pub toldTaken : Taken → Told
 toldTaken taken = toldSaid (taken .said) (taken .desk)
+
+-- the same of a book, whose refusals have no place
+unfoldable pub toldBookSaid : Said → Desk → Told
+toldBookSaid (said.Accepted log) desk = record { number = 0; numbers = deskOf desk }
+toldBookSaid (said.Refused fault) desk = refused (fault .refusal)
+
+unfoldable pub toldBookTaken : Taken → Told
+toldBookTaken taken = toldBookSaid (taken .said) (taken .desk)
 
 -- the bytes of log written
 unfoldable pub logTold : Said → List ℕ

@@ -5,7 +5,7 @@ use Rattle.desk.specs.Desk.{newDesk}
 use Rattle.desk.specs.declared.Desk.{Desk}
 use Rattle.export.specs.Books.{bookRoom}
 use Rattle.export.specs.Numbers.{answered, laid, lentAfter, room, stored}
-use Rattle.exportdesk.specs.Desks.{logTold, soundOf, takeBookLive, takeBookOf, takeLive, takeLog, takeOf, takeRun, toldNew, toldTaken}
+use Rattle.exportdesk.specs.Desks.{logTold, soundOf, takeBookLive, takeBookOf, takeLive, takeLog, takeOf, takeRun, toldBookTaken, toldNew, toldTaken}
 use Rattle.exportdesk.specs.Finds.{areaRoom, bookFound, countOf, deskFound}
 use Rattle.exportdesk.specs.Rooms.{bothRooms}
 use Rattle.exportdesk.specs.States.{deskIn, deskOf, deskRoom}
@@ -44,10 +44,10 @@ pub desk-take-determined : (frame : List ℕ) (second : ℕ) (desk live run log 
 desk-take-determined frame second desk live run log written r₁ r₂ desk₁ desk₂ live₁ live₂ run₁ run₂ log₁ log₂ written₁ written₂ e0₁ e0₂ e1₁ e1₂ e2₁ e2₂ e3₁ e3₂ e4₁ e4₂ e5₁ e5₂ = (e0₁ ∙ sym e0₂, e1₁ ∙ sym e1₂, e2₁ ∙ sym e2₂, e3₁ ∙ sym e3₂, e4₁ ∙ sym e4₂, e5₁ ∙ sym e5₂)
 
 pub desk-take-book-determined : (desk live run book bytes : List ℕ) (r₁ r₂ : ℕ) (desk₁ desk₂ : List ℕ) (live₁ live₂ : List ℕ)
-    → r₁ ≡ bothRooms deskRoom desk bookRoom book room (toldTaken (takeBookOf desk live run book bytes) .number)
-    → r₂ ≡ bothRooms deskRoom desk bookRoom book room (toldTaken (takeBookOf desk live run book bytes) .number)
-    → desk₁ ≡ bothRooms deskRoom desk bookRoom book desk (laid (toldTaken (takeBookOf desk live run book bytes) .numbers) desk)
-    → desk₂ ≡ bothRooms deskRoom desk bookRoom book desk (laid (toldTaken (takeBookOf desk live run book bytes) .numbers) desk)
+    → r₁ ≡ bothRooms deskRoom desk bookRoom book room (toldBookTaken (takeBookOf desk live run book bytes) .number)
+    → r₂ ≡ bothRooms deskRoom desk bookRoom book room (toldBookTaken (takeBookOf desk live run book bytes) .number)
+    → desk₁ ≡ bothRooms deskRoom desk bookRoom book desk (laid (toldBookTaken (takeBookOf desk live run book bytes) .numbers) desk)
+    → desk₂ ≡ bothRooms deskRoom desk bookRoom book desk (laid (toldBookTaken (takeBookOf desk live run book bytes) .numbers) desk)
     → live₁ ≡ bothRooms deskRoom desk bookRoom book live (takeBookLive desk live run book bytes)
     → live₂ ≡ bothRooms deskRoom desk bookRoom book live (takeBookLive desk live run book bytes)
     → (r₁ ≡ r₂) × (desk₁ ≡ desk₂) × (live₁ ≡ live₂)

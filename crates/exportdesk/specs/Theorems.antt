@@ -8,7 +8,10 @@ use native.Mathlib.Omega.{arith}
 use lib.Dec.{ltb, leb, eqb}
 use lib.ListN.{getD}
 use borrow.Author.Tests.{le-ltb, ltb-true, le-leb, lt-leb, ne-eqb}
-use Rattle.answer.specs.declared.Refusal.{Refusal}
+use Rattle.answer.specs.declared.Fault.{Fault}
+use Rattle.desk.specs.declared.Said.{Said}
+use Rattle.desk.specs.declared.Said.the-variants as saying
+use Rattle.desk.specs.declared.Taken.{Taken}
 use Rattle.area.specs.Laws.{both-left, both-right}
 use Rattle.codes.specs.Tables.{rowOf}
 use Rattle.codes.specs.declared.Constellation.{Constellation}
@@ -31,7 +34,7 @@ use Rattle.export.specs.Numbers.{laid, atMost}
 use Rattle.export.specs.Books.{bookIn}
 use Rattle.export.specs.Back.{most-under, book-back}
 use Rattle.exportdesk.specs.States.{constellationIn, solutionIn, runIn, lastIn, deskIn, isOpen, tagOf, runBook, isDated, secondOf, deskOf}
-use Rattle.exportdesk.specs.Desks.{toldSaid, toldTaken, takeOf, takeBookOf}
+use Rattle.exportdesk.specs.Desks.{toldSaid, toldTaken, toldBookSaid, toldBookTaken, takeOf, takeBookOf}
 
 -- ---- a number out of its range
 
@@ -248,7 +251,7 @@ module _ (s live run : List ℕ) where
   held desk = record { desk = desk; live = live; run = run }
 
   -- by the desk that handles what is given; a refusal is by the desk that the numbers say
-  next-by : (desk : Desk) (v : Verdict) → Fits desk live run v → ((why : Refusal) → v ≡ refused why → desk ≡ deskIn s)
+  next-by : (desk : Desk) (v : Verdict) → Fits desk live run v → ((why : Fault) → v ≡ refused why → desk ≡ deskIn s)
       → deskIn (laid (toldTaken (takenBy desk live run v) .numbers) s) ≡ deskBy desk v
   unfolding toldTaken toldSaid laid
   next-by desk (refused why) f q = sym (q why refl)
@@ -268,10 +271,21 @@ next-desk frame second desk live run log =
     let start : Held = held desk live run (deskIn desk) in
     next-by desk live run (handled start given .desk) (verdictOn start given) (fits-on start given) (λ why e. ap (leaving (deskIn desk) second) e)
 
+-- the desk's numbers are told of a book as of a frame
+numbers-alike : (s : Said) (desk : Desk) → toldSaid s desk .numbers ≡ toldBookSaid s desk .numbers
+unfolding toldSaid toldBookSaid
+numbers-alike (saying.Accepted log) desk = refl
+numbers-alike (saying.Refused fault) desk = refl
+
+book-told : (t : Taken) → toldTaken t .numbers ≡ toldBookTaken t .numbers
+unfolding toldTaken toldBookTaken
+book-told t = numbers-alike (t .said) (t .desk)
+
 -- and the one that `desk::take_book` answered
-pub next-desk-book : (desk live run book bytes : List ℕ) → deskIn (laid (toldTaken (takeBookOf desk live run book bytes) .numbers) desk) ≡ takeBookOf desk live run book bytes .desk
+pub next-desk-book : (desk live run book bytes : List ℕ) → deskIn (laid (toldBookTaken (takeBookOf desk live run book bytes) .numbers) desk) ≡ takeBookOf desk live run book bytes .desk
 unfolding takeBookOf bookTaken
 next-desk-book desk live run book bytes =
     let given : Given = keptBook (bookIn book) bytes in
     let start : Held = held desk live run (deskIn desk) in
-    next-by desk live run (deskIn desk) (verdictOn start given) (fits-on start given) (λ why e. refl)
+    ap (λ l. deskIn (laid l desk)) (sym (book-told (takeBookOf desk live run book bytes)))
+    ∙ next-by desk live run (deskIn desk) (verdictOn start given) (fits-on start given) (λ why e. refl)

@@ -7,7 +7,7 @@ ghost use Rattle.export.specs.Numbers.{room, laid, answered, lentAfter};
 ghost use Rattle.export.specs.Books.{bookRoom};
 ghost use Rattle.exportdesk.specs.Rooms.{bothRooms};
 ghost use Rattle.exportdesk.specs.States.{deskRoom};
-ghost use Rattle.exportdesk.specs.Desks.{toldNew, soundOf, toldTaken, logTold, takeOf, takeLive, takeRun, takeLog, takeBookOf, takeBookLive};
+ghost use Rattle.exportdesk.specs.Desks.{toldNew, soundOf, toldTaken, toldBookTaken, logTold, takeOf, takeLive, takeRun, takeLog, takeBookOf, takeBookLive};
 use crate::states::DESK;
 use crate::states::desk_in;
 use crate::states::put_desk;
@@ -17,6 +17,8 @@ use desk::Taken;
 use export::books::BOOK;
 use export::books::book_in;
 use export::numbers::ROOM;
+use export::numbers::ROOM_ANSWER;
+use export::numbers::answer_of;
 use export::numbers::count;
 use export::numbers::put;
 
@@ -74,8 +76,8 @@ pub extern "C" fn homralgyu_desk_is_sound(desk: &[u64], live: &[u8], run: &[u8])
     STATE
 }
 
-// The number, and the desk as it is then.
-fn tell_taken(answer: Taken, desk: &mut [u64]) -> u8
+// The answer, and the desk as it is then.
+fn tell_taken(answer: Taken, desk: &mut [u64]) -> u64
     requires { ⌜ deskRoom ≤ length (now desk) ⌝ }
     ensures { λ r. ⌜ r ≡ toldTaken answer .number ⌝ }
     ensures { λ _. ⌜ now (desk .exit) ≡ laid (toldTaken answer .numbers) (now (desk .entry)) ⌝ }
@@ -86,7 +88,26 @@ fn tell_taken(answer: Taken, desk: &mut [u64]) -> u8
             put_desk(answer.desk, desk);
             0
         }
-        Said::Refused(refusal) => answer::number(refusal),
+        Said::Refused(fault) => answer_of(fault),
+    }
+}
+
+// The same of a book, whose refusals have no place: the number, and the desk as it is then.
+fn tell_book(answer: Taken, desk: &mut [u64]) -> u8
+    requires { ⌜ deskRoom ≤ length (now desk) ⌝ }
+    ensures { λ r. ⌜ r ≡ toldBookTaken answer .number ⌝ }
+    ensures { λ _. ⌜ now (desk .exit) ≡ laid (toldBookTaken answer .numbers) (now (desk .entry)) ⌝ }
+{
+    let said = answer.said;
+    match said {
+        Said::Accepted { log: _ } => {
+            put_desk(answer.desk, desk);
+            0
+        }
+        Said::Refused(fault) => {
+            let refusal = fault.refusal;
+            answer::number(refusal)
+        }
     }
 }
 
@@ -132,7 +153,7 @@ pub extern "C" fn homralgyu_desk_take(
     run: &mut [u8],
     log: &mut [u8],
     written: &mut [u64],
-) -> u8
+) -> u64
     ensures { λ r. ⌜ r ≡ bothRooms deskRoom (now (desk .entry)) 1 (now (written .entry)) room (toldTaken (takeOf (now (frame .entry)) second (now (desk .entry)) (now (live .entry)) (now (run .entry)) (now (log .entry))) .number) ⌝ }
     ensures { λ _. ⌜ now (desk .exit) ≡ bothRooms deskRoom (now (desk .entry)) 1 (now (written .entry)) (now (desk .entry)) (laid (toldTaken (takeOf (now (frame .entry)) second (now (desk .entry)) (now (live .entry)) (now (run .entry)) (now (log .entry))) .numbers) (now (desk .entry))) ⌝ }
     ensures { λ _. ⌜ now (live .exit) ≡ bothRooms deskRoom (now (desk .entry)) 1 (now (written .entry)) (now (live .entry)) (takeLive (now (frame .entry)) second (now (desk .entry)) (now (live .entry)) (now (run .entry)) (now (log .entry))) ⌝ }
@@ -141,10 +162,10 @@ pub extern "C" fn homralgyu_desk_take(
     ensures { λ _. ⌜ now (written .exit) ≡ bothRooms deskRoom (now (desk .entry)) 1 (now (written .entry)) (now (written .entry)) (laid (logTold (takeOf (now (frame .entry)) second (now (desk .entry)) (now (live .entry)) (now (run .entry)) (now (log .entry)) .said)) (now (written .entry))) ⌝ }
 {
     if desk.len() < DESK {
-        return ROOM;
+        return ROOM_ANSWER;
     }
     if written.len() < 1 {
-        return ROOM;
+        return ROOM_ANSWER;
     }
     let answer = take(frame, second, desk, live, run, log);
     let said = answer.said;
@@ -171,8 +192,8 @@ pub extern "C" fn homralgyu_desk_take_book(
     book: &[u64],
     bytes: &[u8],
 ) -> u8
-    ensures { λ r. ⌜ r ≡ bothRooms deskRoom (now (desk .entry)) bookRoom (now (book .entry)) room (toldTaken (takeBookOf (now (desk .entry)) (now (live .entry)) (now (run .entry)) (now (book .entry)) (now (bytes .entry))) .number) ⌝ }
-    ensures { λ _. ⌜ now (desk .exit) ≡ bothRooms deskRoom (now (desk .entry)) bookRoom (now (book .entry)) (now (desk .entry)) (laid (toldTaken (takeBookOf (now (desk .entry)) (now (live .entry)) (now (run .entry)) (now (book .entry)) (now (bytes .entry))) .numbers) (now (desk .entry))) ⌝ }
+    ensures { λ r. ⌜ r ≡ bothRooms deskRoom (now (desk .entry)) bookRoom (now (book .entry)) room (toldBookTaken (takeBookOf (now (desk .entry)) (now (live .entry)) (now (run .entry)) (now (book .entry)) (now (bytes .entry))) .number) ⌝ }
+    ensures { λ _. ⌜ now (desk .exit) ≡ bothRooms deskRoom (now (desk .entry)) bookRoom (now (book .entry)) (now (desk .entry)) (laid (toldBookTaken (takeBookOf (now (desk .entry)) (now (live .entry)) (now (run .entry)) (now (book .entry)) (now (bytes .entry))) .numbers) (now (desk .entry))) ⌝ }
     ensures { λ _. ⌜ now (live .exit) ≡ bothRooms deskRoom (now (desk .entry)) bookRoom (now (book .entry)) (now (live .entry)) (takeBookLive (now (desk .entry)) (now (live .entry)) (now (run .entry)) (now (book .entry)) (now (bytes .entry))) ⌝ }
 {
     if desk.len() < DESK {
@@ -182,5 +203,5 @@ pub extern "C" fn homralgyu_desk_take_book(
         return ROOM;
     }
     let answer = take_book(desk, live, run, book, bytes);
-    tell_taken(answer, desk)
+    tell_book(answer, desk)
 }

@@ -1,7 +1,7 @@
 -- Laws: what the calls of `prepare` tell and leave, worded as the code makes it.
 use mathlib.Core.Path.{_≡_, sym, ap₂, _∙_}
 use mathlib.Core.Bool.{Bool, true, false}
-use mathlib.Core.List.{List}
+use mathlib.Core.List.{List, [], _∷_}
 use Prim.Native.Nat.{ℕ, _≤_, _<_}
 use lib.Dec.{ltb}
 use lib.ListN.{length}
@@ -12,6 +12,8 @@ use Rattle.prepare.specs.declared.Said.{Said}
 use Rattle.prepare.specs.declared.Said.the-variants as said
 use Rattle.prepare.specs.declared.Answer.{Answer}
 use Rattle.prepare.specs.Prepare.{hands, results, Result, byCall, byFinish}
+use Rattle.answer.specs.Place.{sfIn, atIn}
+use Rattle.answer.specs.declared.Place.{Place}
 use Rattle.export.specs.Numbers.{laid}
 use Rattle.export.specs.Frames.{headerRoom}
 use Rattle.export.specs.Streams.{trayRoom, trayIn, trayOf}
@@ -49,10 +51,15 @@ unfolding toldAnswer
 puts a s tray desk told header tray′ desk′ told′ header′ n e p t d q h =
     record { number-is = rw e p; tray-is = rw e t; desk-is = rw e d; told-is = rw e q; header-is = rw e h }
 
+-- the seven numbers of an event, as the code makes them
+pub told-made : (event used noise number log u w l s a b : ℕ) (place : Place) → u ≡ used → w ≡ number → l ≡ log → s ≡ sfIn place → a ≡ atIn place → b ≡ a
+    → event ∷ u ∷ noise ∷ w ∷ l ∷ s ∷ b ∷ [] ≡ event ∷ used ∷ noise ∷ number ∷ log ∷ sfIn place ∷ atIn place ∷ []
+told-made event used noise number log u w l s a b place p q r t x y = rw (p, q, r, t, y, x)
+
 -- an event whose noise was counted, and one whose frame the desk refused with a number
-pub event-as : (event used noise number log m n : ℕ) (lent now : List ℕ) → now ≡ laid (eventOf event used m n log) lent → m ≡ noise → n ≡ number
-    → now ≡ laid (eventOf event used noise number log) lent
-event-as event used noise number log m n lent now p e f = p ∙ ap₂ (λ m n. laid (eventOf event used m n log) lent) e f
+pub event-as : (event used noise number log sf bit m n : ℕ) (lent now : List ℕ) → now ≡ laid (eventOf event used m n log sf bit) lent → m ≡ noise → n ≡ number
+    → now ≡ laid (eventOf event used noise number log sf bit) lent
+event-as event used noise number log sf bit m n lent now p e f = p ∙ ap₂ (λ m n. laid (eventOf event used m n log sf bit) lent) e f
 
 -- ---- call and finish: the tray and the desk are those that the numbers say
 

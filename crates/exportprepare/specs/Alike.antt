@@ -14,7 +14,7 @@ use Rattle.exportprepare.specs.Lender.{Point, Lender, sameAgain, FeedsBy
 -- ---- how many frames were heard
 
 counting-plus : (h : Heard) (n m : ℕ) → counting h (n + m) ≡ counting h n + m
-counting-plus (frame header bytes number entries) n m = omega arith
+counting-plus (frame header bytes number sf bit entries) n m = omega arith
 counting-plus (noise count) n m = omega arith
 
 pub frames-append : (hs is : List Heard) → framesIn (hs ++ is) ≡ framesIn hs + framesIn is
@@ -27,7 +27,7 @@ unfolding framesIn
 one-more hs h = frames-append hs (h ∷ []) ∙ go h
   where
     go : (h : Heard) → framesIn hs + framesIn (h ∷ []) ≡ counting h (framesIn hs)
-    go (frame header bytes number entries) = omega arith
+    go (frame header bytes number sf bit entries) = omega arith
     go (noise count) = omega arith
 
 -- as many as were told
@@ -44,11 +44,11 @@ frames-told (t ∷ ts) = ap (counting (heardOf t)) (frames-told ts) ∙ counting
 -- ---- seconds that are alike for the frames heard
 
 alike-time : (h : Heard) (second n : ℕ) (seconds seconds′ : Seconds) → Alike (counting h n) seconds seconds′ → InTime h second seconds → InTime h second seconds′
-alike-time (frame header bytes number entries) second n seconds seconds′ a i = i ∙ a 0 (omega arith)
+alike-time (frame header bytes number sf bit entries) second n seconds seconds′ a i = i ∙ a 0 (omega arith)
 alike-time (noise count) second n seconds seconds′ a i = tt
 
 alike-later : (h : Heard) (n : ℕ) (seconds seconds′ : Seconds) → Alike (counting h n) seconds seconds′ → Alike n (laterBy h seconds) (laterBy h seconds′)
-alike-later (frame header bytes number entries) n seconds seconds′ a = λ i w. a (suc i) (omega (arith, w))
+alike-later (frame header bytes number sf bit entries) n seconds seconds′ a = λ i w. a (suc i) (omega (arith, w))
 alike-later (noise count) n seconds seconds′ a = a
 
 pub alike-behind : (hs : List Heard) (n : ℕ) (seconds seconds′ : Seconds) → Alike (framesIn hs + n) seconds seconds′ → Alike n (laterAll hs seconds) (laterAll hs seconds′)
@@ -100,8 +100,8 @@ module _ (seconds : Seconds) where
   from n = λ i. seconds (n + i)
 
   then-alike : (h : Heard) (n m : ℕ) (behind : Seconds) → Alike m behind (from (counting h n)) → (i : ℕ) → i < counting h m → heardThen h (seconds n) behind i ≡ seconds (n + i)
-  then-alike (frame header bytes number entries) n m behind a zero w = let e : n ≡ n + 0 = omega arith in ap seconds e
-  then-alike (frame header bytes number entries) n m behind a (suc i) w = let e : suc n + i ≡ n + suc i = omega arith in a i (omega (arith, w)) ∙ ap seconds e
+  then-alike (frame header bytes number sf bit entries) n m behind a zero w = let e : n ≡ n + 0 = omega arith in ap seconds e
+  then-alike (frame header bytes number sf bit entries) n m behind a (suc i) w = let e : suc n + i ≡ n + suc i = omega arith in a i (omega (arith, w)) ∙ ap seconds e
   then-alike (noise count) n m behind a i w = a i w
 
   fed-alike : {c : Caller} {x x₁ : Point} {ps : List (List ℕ)} {hs : List Heard} (d : FeedsBy c clocked x ps hs x₁) (m : ℕ) (behind : Seconds)

@@ -5,6 +5,7 @@ use mathlib.Core.List.{List, [], _∷_, _++_}
 use Prim.Native.Nat.{ℕ, suc, _≤_}
 use lib.ListN.{length, getD, take, drop}
 use Rattle.answer.specs.Number.{numberOf}
+use Rattle.answer.specs.Place.{sfIn, atIn}
 use Rattle.sizes.specs.Sizes.{logRoom}
 use Rattle.stream.specs.Driver.{Clear, Caller, GoesOn}
 use Rattle.desk.specs.History.{Held}
@@ -17,10 +18,10 @@ use Rattle.exportdesk.specs.States.{deskOf}
 use Rattle.exportdesk.specs.Desks.{soundOf}
 use Rattle.exportprepare.specs.Prepares.{Lent, lends, toldRoom, handedIn, callNumber, callLeaves, finishNumber, finishLeaves}
 
--- ---- what is heard of an event: of a frame the numbers of its header, its bytes, the number that the desk gave it (0: taken), and the bytes of its entries
+-- ---- what is heard of an event: of a frame the numbers of its header, its bytes, the number that the desk gave it (0: taken) and its place (0 and 0: none), and the bytes of its entries
 
 pub data Heard : Type 0 where
-  frame : (header bytes : List ℕ) (number : ℕ) (entries : List ℕ) → Heard
+  frame : (header bytes : List ℕ) (number sf bit : ℕ) (entries : List ℕ) → Heard
   noise : (count : ℕ) → Heard
 
 module _ (lent : Lent) where
@@ -38,7 +39,7 @@ module _ (lent : Lent) where
   abbrev pub frameIn : Heard
   frameIn =
       frame (take headerRoom (lent .header)) (take (getD (lent .header) 0 0) (lent .bytes))
-      (getD (lent .told) 3 0) (take (getD (lent .told) 4 0) (lent .log))
+      (getD (lent .told) 3 0) (getD (lent .told) 5 0) (getD (lent .told) 6 0) (take (getD (lent .told) 4 0) (lent .log))
 
 pub data Hears (lent : Lent) : Heard → Type 0 where
   a-frame : eventIn lent ≡ 1 → Hears lent (frameIn lent)
@@ -47,11 +48,11 @@ pub data Hears (lent : Lent) : Heard → Type 0 where
 -- the call by which a frame is heard is handed the first of the seconds, and those behind it are of the frames behind it; noise is heard at any (as in crate prepare)
 
 abbrev pub InTime : Heard → (second : ℕ) → Seconds → Type 0
-InTime (frame header bytes number entries) second seconds = second ≡ seconds 0
+InTime (frame header bytes number sf bit entries) second seconds = second ≡ seconds 0
 InTime (noise count) second seconds = Unit {0}
 
 abbrev pub laterBy : Heard → Seconds → Seconds
-laterBy (frame header bytes number entries) seconds = λ i. seconds (suc i)
+laterBy (frame header bytes number sf bit entries) seconds = λ i. seconds (suc i)
 laterBy (noise count) seconds = seconds
 
 unfoldable pub laterAll : List Heard → Seconds → Seconds
@@ -60,7 +61,7 @@ laterAll (heard ∷ rest) seconds = laterAll rest (laterBy heard seconds)
 
 -- one more for a frame
 abbrev pub counting : Heard → ℕ → ℕ
-counting (frame header bytes number entries) more = suc more
+counting (frame header bytes number sf bit entries) more = suc more
 counting (noise count) more = more
 
 -- how many frames were heard
@@ -161,8 +162,8 @@ pub record Ends (lent : Lent) (books : Held) (end : Lent) : Type 0 where
 -- ---- what document 01 lays down (`Told` of crate prepare), as it is heard
 
 abbrev pub heardOf : uncut.Told → Heard
-heardOf (uncut.accepted header bytes entries) = frame (headerOf header) bytes 0 entries
-heardOf (uncut.refused header bytes why) = frame (headerOf header) bytes (numberOf why) []
+heardOf (uncut.accepted header bytes entries) = frame (headerOf header) bytes 0 0 0 entries
+heardOf (uncut.refused header bytes why) = frame (headerOf header) bytes (numberOf (why .refusal)) (sfIn (why .place)) (atIn (why .place)) []
 heardOf (uncut.noise count) = noise count
 
 unfoldable pub heardAll : List uncut.Told → List Heard
@@ -171,7 +172,7 @@ heardAll (told ∷ rest) = heardOf told ∷ heardAll rest
 
 -- the entries heard, joined: the run log
 abbrev pub entriesOf : Heard → List ℕ
-entriesOf (frame header bytes number entries) = entries
+entriesOf (frame header bytes number sf bit entries) = entries
 entriesOf (noise count) = []
 
 unfoldable pub logHeard : List Heard → List ℕ

@@ -301,11 +301,11 @@ module _ (lends : Lender) (rooms : LendsRoom lends) where
 -- ---- such calls are calls of Driver.antt, at the seconds that they were handed: before each of them the slices are lent anew
 
 then-time : (h : Heard) (second : ℕ) (behind : Seconds) → InTime h second (heardThen h second behind)
-then-time (frame header bytes number entries) second behind = refl
+then-time (frame header bytes number sf bit entries) second behind = refl
 then-time (noise count) second behind = tt
 
 then-later : (h : Heard) (second : ℕ) (behind : Seconds) → laterBy h (heardThen h second behind) ≡ behind
-then-later (frame header bytes number entries) second behind = refl
+then-later (frame header bytes number sf bit entries) second behind = refl
 then-later (noise count) second behind = refl
 
 module _ (lends : Lender) (rooms : LendsRoom lends) where

@@ -1,10 +1,20 @@
 -- Theorems: what is heard says what was told: no two things told are heard alike, and no two rows of them. Proved; assumes nothing.
 use mathlib.Core.Path.{_≡_, refl, sym, ap, ap₂, _∙_}
+use mathlib.Core.Bool.{true, _&&_}
 use mathlib.Core.List.{List, [], _∷_}
-use Prim.Native.Nat.{ℕ, _-_}
+use Prim.Native.Nat.{ℕ, _-_, _*_, _^_, _<_}
 use native.Mathlib.Omega.{arith}
+use borrow.Author.Tests.{ltb-true}
+use lib.Dec.{ltb, leb}
 use lib.ListN.{getD}
+use Rattle.sizes.specs.Sizes.{longestPayload}
+use Rattle.area.specs.Laws.{both-left, both-right}
 use Rattle.answer.specs.Number.{numberOf}
+use Rattle.answer.specs.Place.{hasPlace, sfIn, atIn}
+use Rattle.desk.specs.Answers.{answersAt, answers}
+use Rattle.answer.specs.declared.Place.{Place}
+use Rattle.answer.specs.declared.Place.the-variants.{Nowhere, At}
+use Rattle.answer.specs.declared.Fault.{Fault}
 use Rattle.answer.specs.declared.Refusal.{Refusal}
 use Rattle.answer.specs.declared.Refusal.the-variants as refusal
 use Rattle.frame.specs.declared.Frame.{Frame}
@@ -62,6 +72,28 @@ refusal-at refusal.Form = refl
 pub number-injective : (why other : Refusal) → numberOf why ≡ numberOf other → why ≡ other
 number-injective why other e = sym (refusal-at why) ∙ ap (λ n. getD refusals (n - 1) refusal.Short) e ∙ refusal-at other
 
+-- ---- a place by its two numbers, where a field's number is not 0
+
+abbrev pub Named : Place → Type 0
+Named Nowhere = Unit {0}
+Named (At sf at) = 0 < sf
+
+-- it is not 0 in what a desk refuses (`refusals` of crate desk)
+pub named-by : (why : Fault) → answers why ≡ true → Named (why .place)
+named-by why e = go (why .place) e
+  where
+    go : (p : Place) → answersAt p (why .refusal) ≡ true → Named p
+    go Nowhere e = tt
+    go (At sf at) e =
+        let rest : (ltb 0 sf && (ltb sf (2 ^ 24) && leb at (8 * longestPayload))) ≡ true = both-right (hasPlace (why .refusal)) _ e in
+        ltb-true 0 sf (both-left (ltb 0 sf) _ rest)
+
+place-injective : (p q : Place) → Named p → Named q → sfIn p ≡ sfIn q → atIn p ≡ atIn q → p ≡ q
+place-injective Nowhere Nowhere n m e f = refl
+place-injective Nowhere (At sf at) n m e f = absurd (omega arith)
+place-injective (At sf at) Nowhere n m e f = absurd (omega arith)
+place-injective (At sf at) (At sf′ at′) n m e f = ap₂ (λ (s a : ℕ). At s a) e f
+
 -- ---- a header by its numbers
 
 seal-injective : (s u : Seal) → isSealed s ≡ isSealed u → sealingOf s ≡ sealingOf u → s ≡ u
@@ -100,30 +132,45 @@ module _ (f g : Frame) (b b′ : List ℕ) where
       let q : n ≡ n′ = cc in
       λ i. uncut.accepted (header-injective f g h i) (p i) (q i)
 
-  refused-injective : (why why′ : Refusal) → heardOf (uncut.refused f b why) ≡ heardOf (uncut.refused g b′ why′) → uncut.refused f b why ≡ uncut.refused g b′ why′
-  refused-injective why why′ e =
+  refused-injective : (why why′ : Fault) → Named (why .place) → Named (why′ .place) → heardOf (uncut.refused f b why) ≡ heardOf (uncut.refused g b′ why′)
+      → uncut.refused f b why ≡ uncut.refused g b′ why′
+  refused-injective why why′ n n′ e =
       let h : headerOf f ≡ headerOf g = cc in
       let p : b ≡ b′ = cc in
-      let q : numberOf why ≡ numberOf why′ = cc in
-      λ i. uncut.refused (header-injective f g h i) (p i) (number-injective why why′ q i)
+      let q : numberOf (why .refusal) ≡ numberOf (why′ .refusal) = cc in
+      let s : sfIn (why .place) ≡ sfIn (why′ .place) = cc in
+      let a : atIn (why .place) ≡ atIn (why′ .place) = cc in
+      let r = number-injective (why .refusal) (why′ .refusal) q in
+      let l = place-injective (why .place) (why′ .place) n n′ s a in
+      λ i. uncut.refused (header-injective f g h i) (p i) (record { refusal = r i; place = l i })
 
-pub heard-injective : (t u : uncut.Told) → heardOf t ≡ heardOf u → t ≡ u
-heard-injective (uncut.accepted f b n) (uncut.accepted g b′ n′) e = accepted-injective f g b b′ n n′ e
-heard-injective (uncut.accepted f b n) (uncut.refused g b′ why) e = let z : 0 ≡ numberOf why = cc in absurd (omega (arith, counts why))
-heard-injective (uncut.accepted f b n) (uncut.noise k) e = let z : _≡_ {A = ℕ} 0 1 = cc in absurd (omega arith)
-heard-injective (uncut.refused f b why) (uncut.accepted g b′ n) e = let z : numberOf why ≡ 0 = cc in absurd (omega (arith, counts why))
-heard-injective (uncut.refused f b why) (uncut.refused g b′ why′) e = refused-injective f g b b′ why why′ e
-heard-injective (uncut.refused f b why) (uncut.noise k) e = let z : _≡_ {A = ℕ} 0 1 = cc in absurd (omega arith)
-heard-injective (uncut.noise n) (uncut.accepted g b′ n′) e = let z : _≡_ {A = ℕ} 0 1 = cc in absurd (omega arith)
-heard-injective (uncut.noise n) (uncut.refused g b′ why) e = let z : _≡_ {A = ℕ} 0 1 = cc in absurd (omega arith)
-heard-injective (uncut.noise n) (uncut.noise k) e = let z : n ≡ k = cc in ap uncut.noise z
+-- a place that is told of a frame has a field's number (`named-by`)
+abbrev pub NamedTold : uncut.Told → Type 0
+NamedTold (uncut.accepted f b n) = Unit {0}
+NamedTold (uncut.refused f b why) = Named (why .place)
+NamedTold (uncut.noise n) = Unit {0}
 
-pub heard-all-injective : (ts us : List uncut.Told) → heardAll ts ≡ heardAll us → ts ≡ us
+pub heard-injective : (t u : uncut.Told) → NamedTold t → NamedTold u → heardOf t ≡ heardOf u → t ≡ u
+heard-injective (uncut.accepted f b n) (uncut.accepted g b′ n′) x y e = accepted-injective f g b b′ n n′ e
+heard-injective (uncut.accepted f b n) (uncut.refused g b′ why) x y e = let z : 0 ≡ numberOf (why .refusal) = cc in absurd (omega (arith, counts (why .refusal)))
+heard-injective (uncut.accepted f b n) (uncut.noise k) x y e = let z : _≡_ {A = ℕ} 0 1 = cc in absurd (omega arith)
+heard-injective (uncut.refused f b why) (uncut.accepted g b′ n) x y e = let z : numberOf (why .refusal) ≡ 0 = cc in absurd (omega (arith, counts (why .refusal)))
+heard-injective (uncut.refused f b why) (uncut.refused g b′ why′) x y e = refused-injective f g b b′ why why′ x y e
+heard-injective (uncut.refused f b why) (uncut.noise k) x y e = let z : _≡_ {A = ℕ} 0 1 = cc in absurd (omega arith)
+heard-injective (uncut.noise n) (uncut.accepted g b′ n′) x y e = let z : _≡_ {A = ℕ} 0 1 = cc in absurd (omega arith)
+heard-injective (uncut.noise n) (uncut.refused g b′ why) x y e = let z : _≡_ {A = ℕ} 0 1 = cc in absurd (omega arith)
+heard-injective (uncut.noise n) (uncut.noise k) x y e = let z : n ≡ k = cc in ap uncut.noise z
+
+pub data AllNamed : List uncut.Told → Type 0 where
+  none : AllNamed []
+  more : {t : uncut.Told} {ts : List uncut.Told} → NamedTold t → AllNamed ts → AllNamed (t ∷ ts)
+
+pub heard-all-injective : (ts us : List uncut.Told) → AllNamed ts → AllNamed us → heardAll ts ≡ heardAll us → ts ≡ us
 unfolding heardAll
-heard-all-injective [] [] e = refl
-heard-all-injective [] (u ∷ us) e = let z : _≡_ {A = ℕ} 0 1 = cc in absurd (omega arith)
-heard-all-injective (t ∷ ts) [] e = let z : _≡_ {A = ℕ} 0 1 = cc in absurd (omega arith)
-heard-all-injective (t ∷ ts) (u ∷ us) e =
+heard-all-injective [] [] x y e = refl
+heard-all-injective [] (u ∷ us) x y e = let z : _≡_ {A = ℕ} 0 1 = cc in absurd (omega arith)
+heard-all-injective (t ∷ ts) [] x y e = let z : _≡_ {A = ℕ} 0 1 = cc in absurd (omega arith)
+heard-all-injective (t ∷ ts) (u ∷ us) (more a xs) (more b ys) e =
     let h : heardOf t ≡ heardOf u = cc in
     let r : heardAll ts ≡ heardAll us = cc in
-    ap₂ (λ t ts. t ∷ ts) (heard-injective t u h) (heard-all-injective ts us r)
+    ap₂ (λ t ts. t ∷ ts) (heard-injective t u a b h) (heard-all-injective ts us xs ys r)

@@ -134,7 +134,7 @@ pub record WholeStreamBy (c : Caller) (lends : Lender) (cuts : Cutter) (lent : L
 -- ---- the seconds of the frames heard: each that of the call by which it was heard (as `secondsBy` of crate prepare)
 
 abbrev pub heardThen : Heard → (second : ℕ) → Seconds → Seconds
-heardThen (frame header bytes number entries) second behind = secondThen second behind
+heardThen (frame header bytes number sf bit entries) second behind = secondThen second behind
 heardThen (noise count) second behind = behind
 
 unfoldable pub secondsFed : {c : Caller} {lends : Lender} {x x₁ : Point} {ps : List (List ℕ)} {hs : List Heard} → FeedsBy c lends x ps hs x₁ → (behind : Seconds) → Seconds

@@ -5,6 +5,7 @@ use Prim.Native.Nat.{ℕ}
 use lib.Dec.{ltb}
 use lib.ListN.{length}
 use Rattle.answer.specs.Number.{numberOf}
+use Rattle.answer.specs.Place.{sfIn, atIn}
 use Rattle.export.specs.Numbers.{Told, refused, room, laid}
 use Rattle.export.specs.Frames.{headerRoom, headerOf}
 use Rattle.export.specs.Streams.{trayRoom, trayIn, trayOf}
@@ -32,7 +33,7 @@ lends bytes tray desk live run log told header second =
 
 -- the places of what is told
 abbrev pub toldRoom : ℕ
-toldRoom = 5
+toldRoom = 7
 
 -- ROOM of the slices of numbers; that of the slices of bytes is for the call below to say
 unfoldable pub noRoom : (tray desk told header : List ℕ) → Bool
@@ -52,17 +53,18 @@ finishResult lent = byFinish (handedIn lent)
 
 -- ---- its answer in numbers
 
--- the event (0 hungry, 1 frame, 2 noise, 3 done), the bytes of the input used, the noise told, what the desk said of the frame, the bytes of the log written
-unfoldable pub eventOf : (event used noise number log : ℕ) → List ℕ
-eventOf event used noise number log = event ∷ used ∷ noise ∷ number ∷ log ∷ []
+-- the event (0 hungry, 1 frame, 2 noise, 3 done), the bytes of the input used, the noise told, what the desk said of the frame, the bytes of the log written; of a frame that the desk
+-- refused the place: the field's number and the bit of the payload, 0 and 0 where there is none
+unfoldable pub eventOf : (event used noise number log sf bit : ℕ) → List ℕ
+eventOf event used noise number log sf bit = event ∷ used ∷ noise ∷ number ∷ log ∷ sf ∷ bit ∷ []
 
 -- "What the desk says of a frame .. is then an event of the call with its number, not a refusal of the call."
 unfoldable pub toldSaid : Said → (used log : ℕ) → Told
-toldSaid said.Hungry used log = record { number = 0; numbers = eventOf 0 used 0 0 log }
-toldSaid (said.Accepted header) used log = record { number = 0; numbers = eventOf 1 used 0 0 log }
-toldSaid (said.FrameRefused header why) used log = record { number = 0; numbers = eventOf 1 used 0 (numberOf why) log }
-toldSaid (said.Noise count) used log = record { number = 0; numbers = eventOf 2 used count 0 log }
-toldSaid said.Done used log = record { number = 0; numbers = eventOf 3 used 0 0 log }
+toldSaid said.Hungry used log = record { number = 0; numbers = eventOf 0 used 0 0 log 0 0 }
+toldSaid (said.Accepted header) used log = record { number = 0; numbers = eventOf 1 used 0 0 log 0 0 }
+toldSaid (said.FrameRefused header why) used log = record { number = 0; numbers = eventOf 1 used 0 (numberOf (why .refusal)) log (sfIn (why .place)) (atIn (why .place)) }
+toldSaid (said.Noise count) used log = record { number = 0; numbers = eventOf 2 used count 0 log 0 0 }
+toldSaid said.Done used log = record { number = 0; numbers = eventOf 3 used 0 0 log 0 0 }
 toldSaid (said.Refused why) used log = refused why
 
 unfoldable pub toldAnswer : Answer → Told

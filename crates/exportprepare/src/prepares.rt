@@ -2,12 +2,14 @@
 ghost use mathlib.Core.Path.{_≡_};
 ghost use Prim.Native.Nat.{_≤_};
 ghost use lib.ListN.{length};
+ghost use Rattle.answer.specs.Place.{sfIn, atIn};
 ghost use Rattle.prepare.specs.Prepare.{hands, results, byCall, byFinish};
 ghost use Rattle.export.specs.Numbers.{laid};
 ghost use Rattle.export.specs.Streams.{trayRoom, trayIn, trayOf};
 ghost use Rattle.exportdesk.specs.States.{deskRoom, deskIn, deskOf};
 ghost use Rattle.exportprepare.specs.Prepares.{lends, toldRoom, eventOf, callNumber, callLeaves, finishNumber, finishLeaves};
 ghost use Rattle.exportprepare.specs.Puts.{Judged, StatesThere, AllThere, Puts};
+use answer::Place;
 use export::frames::HEADER;
 use export::frames::put_header;
 use export::numbers::ROOM;
@@ -25,7 +27,7 @@ use prepare::Answer;
 use prepare::Said;
 
 // The numbers of what is told.
-const TOLD: usize = 5;
+const TOLD: usize = 7;
 
 // A slice of numbers is under its stated size.
 fn lacks_room(tray: &[u64], desk: &[u64], told: &[u64], header: &[u64]) -> bool
@@ -43,10 +45,10 @@ fn lacks_room(tray: &[u64], desk: &[u64], told: &[u64], header: &[u64]) -> bool
     header.len() < HEADER
 }
 
-// What was said, the bytes used, the noise told, the desk's number for a frame, the bytes of log.
-fn put_told(answer: Answer, event: u64, noise: u64, number: u8, told: &mut [u64])
+// What was said, the bytes used, the noise told, the desk's number for a frame, the bytes of log, the place of a refusal.
+fn put_told(answer: Answer, event: u64, noise: u64, number: u8, place: Place, told: &mut [u64])
     requires { ⌜ toldRoom ≤ length (now told) ⌝ }
-    ensures { λ _. ⌜ now (told .exit) ≡ laid (eventOf event (answer .used) noise number (answer .log)) (now (told .entry)) ⌝ }
+    ensures { λ _. ⌜ now (told .exit) ≡ laid (eventOf event (answer .used) noise number (answer .log) (sfIn place) (atIn place)) (now (told .entry)) ⌝ }
 {
     let numbers = [
         event,
@@ -54,6 +56,8 @@ fn put_told(answer: Answer, event: u64, noise: u64, number: u8, told: &mut [u64]
         noise,
         wide(number),
         count(answer.log),
+        answer::sf_in(place),
+        count(answer::at_in(place)),
     ];
     put(&numbers, told);
 }
@@ -64,6 +68,7 @@ fn put_event(
     event: u64,
     noise: u64,
     number: u8,
+    place: Place,
     tray: &mut [u64],
     desk: &mut [u64],
     told: &mut [u64],
@@ -71,11 +76,11 @@ fn put_event(
     requires { ⌜ (trayRoom ≤ length (now tray)) × (deskRoom ≤ length (now desk)) × (toldRoom ≤ length (now told)) ⌝ }
     ensures { λ _. ⌜ now (tray .exit) ≡ laid (trayOf (answer .tray)) (now (tray .entry)) ⌝ }
     ensures { λ _. ⌜ now (desk .exit) ≡ laid (deskOf (answer .desk)) (now (desk .entry)) ⌝ }
-    ensures { λ _. ⌜ now (told .exit) ≡ laid (eventOf event (answer .used) noise number (answer .log)) (now (told .entry)) ⌝ }
+    ensures { λ _. ⌜ now (told .exit) ≡ laid (eventOf event (answer .used) noise number (answer .log) (sfIn place) (atIn place)) (now (told .entry)) ⌝ }
 {
     put_tray(answer.tray, tray);
     put_desk(answer.desk, desk);
-    put_told(answer, event, noise, number, told);
+    put_told(answer, event, noise, number, place, told);
 }
 
 fn tell(
@@ -91,25 +96,45 @@ fn tell(
     let said = answer.said;
     match said {
         Said::Hungry => {
-            put_event(answer, 0, 0, 0, tray, desk, told);
+            put_event(answer, 0, 0, 0, Place::Nowhere, tray, desk, told);
             0
         }
         Said::Accepted(frame) => {
-            put_event(answer, 1, 0, 0, tray, desk, told);
+            put_event(answer, 1, 0, 0, Place::Nowhere, tray, desk, told);
             put_header(frame, header);
             0
         }
         Said::FrameRefused { header: frame, why } => {
-            put_event(answer, 1, 0, answer::number(why), tray, desk, told);
+            let refusal = why.refusal;
+            let place = why.place;
+            put_event(
+                answer,
+                1,
+                0,
+                answer::number(refusal),
+                place,
+                tray,
+                desk,
+                told,
+            );
             put_header(frame, header);
             0
         }
         Said::Noise(noise) => {
-            put_event(answer, 2, noise_count(noise), 0, tray, desk, told);
+            put_event(
+                answer,
+                2,
+                noise_count(noise),
+                0,
+                Place::Nowhere,
+                tray,
+                desk,
+                told,
+            );
             0
         }
         Said::Done => {
-            put_event(answer, 3, 0, 0, tray, desk, told);
+            put_event(answer, 3, 0, 0, Place::Nowhere, tray, desk, told);
             0
         }
         Said::Refused(why) => answer::number(why),

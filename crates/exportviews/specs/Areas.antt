@@ -12,7 +12,7 @@ use Rattle.views.specs.declared.bpacarea.BpacArea.{BpacArea}
 use Rattle.views.specs.declared.bpacarea.BpacAnswer.{BpacAnswer}
 use Rattle.views.specs.declared.bpacarea.BpacAnswer.the-variants as bpacAnswer
 use Rattle.export.specs.Numbers as export
-use Rattle.exportviews.specs.Views.{Told, refused, absent}
+use Rattle.exportviews.specs.Views.{Told, refusedAt, absent}
 
 -- ---- GAD: three numbers and four floats
 
@@ -33,7 +33,7 @@ gadFloatsOf a = a .latitude ∷ a .longitude ∷ a .«latitude_spacing» ∷ a .
 unfoldable pub toldGad : GadAnswer → Told
 toldGad (gadAnswer.Is area) = record { number = 0; numbers = gadNumbersOf area; floats = gadFloatsOf area }
 toldGad gadAnswer.Absent = absent
-toldGad (gadAnswer.Refused refusal) = refused refusal
+toldGad (gadAnswer.Refused fault) = refusedAt fault
 
 -- ---- HPAC: five numbers
 
@@ -47,7 +47,7 @@ hpacNumbersOf a = 1 ∷ a .start ∷ a .points ∷ a .«troposphere_blocks» ∷
 unfoldable pub toldHpac : HpacAnswer → export.Told
 toldHpac (hpacAnswer.Is area) = record { number = 0; numbers = hpacNumbersOf area }
 toldHpac hpacAnswer.Absent = record { number = 0; numbers = 0 ∷ [] }
-toldHpac (hpacAnswer.Refused refusal) = export.refused refusal
+toldHpac (hpacAnswer.Refused fault) = export.refusedAt fault
 
 -- ---- BPAC: four numbers and five floats
 
@@ -68,4 +68,4 @@ bpacFloatsOf a = a .latitude ∷ a .longitude ∷ a .«latitude_spacing» ∷ a 
 unfoldable pub toldBpac : BpacAnswer → Told
 toldBpac (bpacAnswer.Is area) = record { number = 0; numbers = bpacNumbersOf area; floats = bpacFloatsOf area }
 toldBpac bpacAnswer.Absent = absent
-toldBpac (bpacAnswer.Refused refusal) = refused refusal
+toldBpac (bpacAnswer.Refused fault) = refusedAt fault

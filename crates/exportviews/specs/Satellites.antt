@@ -17,7 +17,7 @@ use Rattle.views.specs.declared.satellites.Satellite.{Satellite}
 use Rattle.views.specs.declared.satellites.Satellite.the-variants.{OutOfUse, InUse}
 use Rattle.views.specs.declared.satellites.SatelliteAnswer.{SatelliteAnswer}
 use Rattle.views.specs.declared.satellites.SatelliteAnswer.the-variants as answer
-use Rattle.exportviews.specs.Views.{Told, refused, none}
+use Rattle.exportviews.specs.Views.{Told, refusedAt, none}
 
 -- fourteen numbers and five floats
 abbrev pub satelliteRoom : ℕ
@@ -120,4 +120,4 @@ useFloats (InUse blocks) = blocksFloats blocks
 
 unfoldable pub toldSatellite : SatelliteAnswer → Told
 toldSatellite (answer.Is number satellite) = record { number = 0; numbers = useNumbers number satellite; floats = useFloats satellite }
-toldSatellite (answer.Refused refusal) = refused refusal
+toldSatellite (answer.Refused fault) = refusedAt fault

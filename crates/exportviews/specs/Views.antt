@@ -5,7 +5,8 @@ use lib.IntN.{pos}
 use lib.Ieee.{Float, binary64, ofInt}
 use Rattle.answer.specs.Number.{numberOf}
 use Rattle.answer.specs.declared.Refusal.{Refusal}
-use Rattle.export.specs.Numbers.{room, roomFor, laid}
+use Rattle.answer.specs.declared.Fault.{Fault}
+use Rattle.export.specs.Numbers.{answerOf, room, roomFor, laid}
 
 -- what a caller is told: document 01's number, further numbers, and floats
 pub record Told : Type 0 where
@@ -16,6 +17,10 @@ pub record Told : Type 0 where
 -- "A refusal returns its number .. and alters no lent byte or entry": nothing more is told
 abbrev pub refused : Refusal → Told
 refused refusal = record { number = numberOf refusal; numbers = []; floats = [] }
+
+-- the same of a refusal that can have a place
+abbrev pub refusedAt : Fault → Told
+refusedAt fault = record { number = answerOf fault; numbers = []; floats = [] }
 
 -- that no block has the ID is no refusal: a 0 is told, and nothing more
 abbrev pub absent : Told

@@ -12,7 +12,8 @@ ghost use Rattle.exportviews.specs.Areas.{gadRoom, gadFloats, gadNumbers
 use crate::floats::put_floats;
 use area::AreaId;
 use bpac::BpacAreaId;
-use export::numbers::ROOM;
+use export::numbers::ROOM_ANSWER;
+use export::numbers::answer_of;
 use export::numbers::count;
 use export::numbers::put;
 use views::bpacarea::BpacAnswer;
@@ -58,7 +59,7 @@ fn put_gad(area: GadArea, view: &mut [u64], floats: &mut [f64])
     put_floats(&degrees, floats);
 }
 
-fn tell_gad(answer: GadAnswer, view: &mut [u64], floats: &mut [f64]) -> u8
+fn tell_gad(answer: GadAnswer, view: &mut [u64], floats: &mut [f64]) -> u64
     requires { ⌜ (gadRoom ≤ length (now view)) × (gadFloats ≤ length (now floats)) ⌝ }
     ensures { λ r. ⌜ r ≡ toldGad answer .number ⌝ }
     ensures { λ _. ⌜ now (view .exit) ≡ laid (toldGad answer .numbers) (now (view .entry)) ⌝ }
@@ -73,7 +74,7 @@ fn tell_gad(answer: GadAnswer, view: &mut [u64], floats: &mut [f64]) -> u8
             put_none(view);
             0
         }
-        GadAnswer::Refused(refusal) => answer::number(refusal),
+        GadAnswer::Refused(fault) => answer_of(fault),
     }
 }
 
@@ -84,16 +85,16 @@ pub extern "C" fn homralgyu_gad_area(
     sheet: &[u64],
     view: &mut [u64],
     floats: &mut [f64],
-) -> u8
+) -> u64
     ensures { λ r. ⌜ r ≡ numberTold gadRoom (now (view .entry)) gadFloats (now (floats .entry)) (toldGad (gadAnswerOf id (now (sheet .entry)))) ⌝ }
     ensures { λ _. ⌜ now (view .exit) ≡ viewAfter gadRoom (now (view .entry)) gadFloats (now (floats .entry)) (toldGad (gadAnswerOf id (now (sheet .entry)))) ⌝ }
     ensures { λ _. ⌜ now (floats .exit) ≡ floatsAfter gadRoom (now (view .entry)) gadFloats (now (floats .entry)) (toldGad (gadAnswerOf id (now (sheet .entry)))) ⌝ }
 {
     if view.len() < GAD {
-        return ROOM;
+        return ROOM_ANSWER;
     }
     if floats.len() < GAD_FLOATS {
-        return ROOM;
+        return ROOM_ANSWER;
     }
     tell_gad(views::gadarea::gad_area(AreaId(id), sheet), view, floats)
 }
@@ -112,7 +113,7 @@ fn put_hpac(area: HpacArea, view: &mut [u64])
     put(&numbers, view);
 }
 
-fn tell_hpac(answer: HpacAnswer, view: &mut [u64]) -> u8
+fn tell_hpac(answer: HpacAnswer, view: &mut [u64]) -> u64
     requires { ⌜ hpacRoom ≤ length (now view) ⌝ }
     ensures { λ r. ⌜ r ≡ toldHpac answer .number ⌝ }
     ensures { λ _. ⌜ now (view .exit) ≡ laid (toldHpac answer .numbers) (now (view .entry)) ⌝ }
@@ -126,18 +127,18 @@ fn tell_hpac(answer: HpacAnswer, view: &mut [u64]) -> u8
             put_none(view);
             0
         }
-        HpacAnswer::Refused(refusal) => answer::number(refusal),
+        HpacAnswer::Refused(fault) => answer_of(fault),
     }
 }
 
 // The first block of an area in an HPAC sheet of a subtype.
 #[no_mangle]
-pub extern "C" fn homralgyu_hpac_area(subtype: u8, id: u8, sheet: &[u64], view: &mut [u64]) -> u8
+pub extern "C" fn homralgyu_hpac_area(subtype: u8, id: u8, sheet: &[u64], view: &mut [u64]) -> u64
     ensures { λ r. ⌜ r ≡ answered hpacRoom (now (view .entry)) (toldHpac (hpacAnswerOf subtype id (now (sheet .entry)))) ⌝ }
     ensures { λ _. ⌜ now (view .exit) ≡ lentAfter hpacRoom (now (view .entry)) (toldHpac (hpacAnswerOf subtype id (now (sheet .entry)))) ⌝ }
 {
     if view.len() < HPAC {
-        return ROOM;
+        return ROOM_ANSWER;
     }
     tell_hpac(views::hpacarea::hpac_area(subtype, AreaId(id), sheet), view)
 }
@@ -159,7 +160,7 @@ fn put_bpac(area: BpacArea, view: &mut [u64], floats: &mut [f64])
     put_floats(&values, floats);
 }
 
-fn tell_bpac(answer: BpacAnswer, view: &mut [u64], floats: &mut [f64]) -> u8
+fn tell_bpac(answer: BpacAnswer, view: &mut [u64], floats: &mut [f64]) -> u64
     requires { ⌜ (bpacRoom ≤ length (now view)) × (bpacFloats ≤ length (now floats)) ⌝ }
     ensures { λ r. ⌜ r ≡ toldBpac answer .number ⌝ }
     ensures { λ _. ⌜ now (view .exit) ≡ laid (toldBpac answer .numbers) (now (view .entry)) ⌝ }
@@ -174,7 +175,7 @@ fn tell_bpac(answer: BpacAnswer, view: &mut [u64], floats: &mut [f64]) -> u8
             put_none(view);
             0
         }
-        BpacAnswer::Refused(refusal) => answer::number(refusal),
+        BpacAnswer::Refused(fault) => answer_of(fault),
     }
 }
 
@@ -185,16 +186,16 @@ pub extern "C" fn homralgyu_bpac_area(
     sheet: &[u64],
     view: &mut [u64],
     floats: &mut [f64],
-) -> u8
+) -> u64
     ensures { λ r. ⌜ r ≡ numberTold bpacRoom (now (view .entry)) bpacFloats (now (floats .entry)) (toldBpac (bpacAnswerOf id (now (sheet .entry)))) ⌝ }
     ensures { λ _. ⌜ now (view .exit) ≡ viewAfter bpacRoom (now (view .entry)) bpacFloats (now (floats .entry)) (toldBpac (bpacAnswerOf id (now (sheet .entry)))) ⌝ }
     ensures { λ _. ⌜ now (floats .exit) ≡ floatsAfter bpacRoom (now (view .entry)) bpacFloats (now (floats .entry)) (toldBpac (bpacAnswerOf id (now (sheet .entry)))) ⌝ }
 {
     if view.len() < BPAC {
-        return ROOM;
+        return ROOM_ANSWER;
     }
     if floats.len() < BPAC_FLOATS {
-        return ROOM;
+        return ROOM_ANSWER;
     }
     tell_bpac(
         views::bpacarea::bpac_area(BpacAreaId(id), sheet),

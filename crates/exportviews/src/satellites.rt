@@ -8,7 +8,8 @@ ghost use Rattle.export.specs.Numbers.{laid};
 ghost use Rattle.exportviews.specs.Views.{none, numberTold, viewAfter, floatsAfter};
 ghost use Rattle.exportviews.specs.Satellites.{satelliteRoom, satelliteFloats, hasOrbit, iodeOf, orbitOf, yawIs, yawOf, hasClock, clockContinuity, clockOf, clockError, hasBiases, biasesOf, blocksNumbers, blocksFloats, useNumbers, useFloats, toldSatellite};
 use crate::floats::put_floats;
-use export::numbers::ROOM;
+use export::numbers::ROOM_ANSWER;
+use export::numbers::answer_of;
 use export::numbers::count;
 use export::numbers::put;
 use values::Orbit;
@@ -215,7 +216,7 @@ fn tell_use(number: u64, satellite: Satellite, view: &mut [u64], floats: &mut [f
     }
 }
 
-fn tell_satellite(answer: SatelliteAnswer, view: &mut [u64], floats: &mut [f64]) -> u8
+fn tell_satellite(answer: SatelliteAnswer, view: &mut [u64], floats: &mut [f64]) -> u64
     requires { ⌜ (satelliteRoom ≤ length (now view)) × (satelliteFloats ≤ length (now floats)) ⌝ }
     ensures { λ r. ⌜ r ≡ toldSatellite answer .number ⌝ }
     ensures { λ _. ⌜ now (view .exit) ≡ laid (toldSatellite answer .numbers) (now (view .entry)) ⌝ }
@@ -226,7 +227,7 @@ fn tell_satellite(answer: SatelliteAnswer, view: &mut [u64], floats: &mut [f64])
             tell_use(number, satellite, view, floats);
             0
         }
-        SatelliteAnswer::Refused(refusal) => answer::number(refusal),
+        SatelliteAnswer::Refused(fault) => answer_of(fault),
     }
 }
 
@@ -238,16 +239,16 @@ pub extern "C" fn homralgyu_satellite_at(
     place: u64,
     view: &mut [u64],
     floats: &mut [f64],
-) -> u8
+) -> u64
     ensures { λ r. ⌜ r ≡ numberTold satelliteRoom (now (view .entry)) satelliteFloats (now (floats .entry)) (toldSatellite (satelliteAnswerOf subtype (now (sheet .entry)) place)) ⌝ }
     ensures { λ _. ⌜ now (view .exit) ≡ viewAfter satelliteRoom (now (view .entry)) satelliteFloats (now (floats .entry)) (toldSatellite (satelliteAnswerOf subtype (now (sheet .entry)) place)) ⌝ }
     ensures { λ _. ⌜ now (floats .exit) ≡ floatsAfter satelliteRoom (now (view .entry)) satelliteFloats (now (floats .entry)) (toldSatellite (satelliteAnswerOf subtype (now (sheet .entry)) place)) ⌝ }
 {
     if view.len() < SATELLITE {
-        return ROOM;
+        return ROOM_ANSWER;
     }
     if floats.len() < SATELLITE_FLOATS {
-        return ROOM;
+        return ROOM_ANSWER;
     }
     tell_satellite(
         views::satellites::satellite_at(subtype, sheet, place),

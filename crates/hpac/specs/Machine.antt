@@ -277,7 +277,7 @@ module _ {A : Type 0} where
   unfolding sf lineOf find table
   leads-ionosphere area k rest =
       let c : Constellation = area .constellation in
-      goes refl (fine tt) (λ equation _. goes refl (fine-mask-size c) (λ size _. goes refl (fine-mask (maskSf c) c size) (λ mask _.
+      goes refl (fine tt) (λ equation _. goes refl (fine-mask-size c) (λ size _. goes refl (fine-mask c size) (λ mask _.
       leads-each hpacField hpacStep (slantsFrom area equation size mask)
       (λ n. leads-slant area (record { equation = equation; size = size; mask = mask; more = n })) (satellitesOf c size mask) _ (λ satellites.
       rest (record { equation = equation; satellites = satellites })))))

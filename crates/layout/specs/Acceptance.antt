@@ -37,8 +37,8 @@ module _ {S A : Type 0} {fieldOf : S → Field} {stepOf : S → ℕ → S} where
       let fits : c < 2 ^ f .width = taken-fits fine (h .1) in
       let rest = writes-from (walks c fits) sheet (suc at) (h .2) in
       let step : writeL (field f next) (c ∷ drop (suc at) sheet) ≡ written (bitsOf (f .width) c ++ rest .bits)
-      = ap (λ v. judgedW v (fitting (ltb c (2 ^ f .width)) (behind (bitsOf (f .width) c) (writeL (next c) (drop (suc at) sheet))))) (h .1)
-      ∙ ap₂ (λ b o. fitting b (behind (bitsOf (f .width) c) o)) (lt-ltb c (2 ^ f .width) fits) (rest .writes) in
+      = ap (λ v. judgedW (f .sf) v (fitting (f .sf) (ltb c (2 ^ f .width)) (behind (bitsOf (f .width) c) (writeL (next c) (drop (suc at) sheet))))) (h .1)
+      ∙ ap₂ (λ b o. fitting (f .sf) b (behind (bitsOf (f .width) c) o)) (lt-ltb c (2 ^ f .width) fits) (rest .writes) in
       record {
         bits = bitsOf (f .width) c ++ rest .bits;
         writes = ap (writeL (field f next)) (drop-cons sheet at 0 (h .0)) ∙ step;
@@ -59,8 +59,8 @@ module _ {S A : Type 0} {fieldOf : S → Field} {stepOf : S → ℕ → S} where
       let w : ℕ = f .width in
       let c : ℕ = number (take w bits) in
       let o : Outcome A = readL (next c) (drop w bits) in
-      let h1 = enough-acc (leb w (length bits)) _ r in
-      let h2 = judged-acc (judge f c) _ (h1 .1) in
+      let h1 = enough-acc (f .sf) (leb w (length bits)) _ r in
+      let h2 = judged-acc (f .sf) (judge f c) _ (h1 .1) in
       let h3 = before-acc c w o (h2 .1) in
       let fits : c < 2 ^ w = taken-fits fine (h2 .0) in
       let few : length (h3 .0) ≤ h3 .1 = codes-few (walks c fits) (drop w bits) (h3 .0) (h3 .1) (h3 .2) in

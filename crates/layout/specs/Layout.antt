@@ -6,8 +6,9 @@ use Prim.Native.Nat.{ℕ, _+_, _-_, _^_}
 use lib.Dec.{eqb, ltb, leb}
 use lib.ListN.{length, take, drop}
 use Rattle.bits.specs.Bits.{bitsOf, number}
-use Rattle.answer.specs.declared.Refusal.{Refusal}
 use Rattle.answer.specs.declared.Refusal.the-variants as refusal
+use Rattle.answer.specs.declared.Fault as answer
+use Rattle.answer.specs.Place.{nowhere, faultAt, further}
 use Rattle.layout.specs.declared.Field.{Field}
 use Rattle.layout.specs.declared.Verdict.{Verdict}
 use Rattle.layout.specs.declared.Verdict.the-variants.{Taken, Fault}
@@ -34,62 +35,63 @@ judge f c =
 
 -- ---- reading
 
--- what was read, the codes in reading order, and the count of bits read; or the refusal
+-- what was read, the codes in reading order, and the count of bits read; or the refusal with its place, a field's number and the bit where its entry begins
 pub data Outcome (A : Type 0) : Type 0 where
   accepted : (value : A) (codes : List ℕ) (used : ℕ) → Outcome A
-  refused : (why : Refusal) → Outcome A
+  refused : (why : answer.Fault) → Outcome A
 
--- refuse if there are too few bits for the field
-abbrev pub enough : {A : Type 0} → Bool → Outcome A → Outcome A
-enough true o = o
-enough false o = refused refusal.Short
+-- refuse here if there are too few bits for the field with this number
+abbrev pub enough : {A : Type 0} → (sf : ℕ) → Bool → Outcome A → Outcome A
+enough sf true o = o
+enough sf false o = refused (faultAt refusal.Short sf 0)
 
--- refuse by the field's verdict on the code
-abbrev pub judged : {A : Type 0} → Verdict → Outcome A → Outcome A
-judged Taken o = o
-judged (Fault why) o = refused why
+-- refuse here by the field's verdict on the code
+abbrev pub judged : {A : Type 0} → (sf : ℕ) → Verdict → Outcome A → Outcome A
+judged sf Taken o = o
+judged sf (Fault why) o = refused (faultAt why sf 0)
 
 -- a code of w bits was read before
 abbrev pub before : {A : Type 0} → ℕ → ℕ → Outcome A → Outcome A
 before c w (accepted v cs n) = accepted v (c ∷ cs) (w + n)
-before c w (refused why) = refused why
+before c w (refused why) = refused (further w why)
 
--- at each field SHORT, then its verdict; after the last field no bit is looked at
+-- at each field SHORT, then its verdict, both with the field's number and where its bits begin; after the last field no bit is looked at
 unfoldable pub readL : {A : Type 0} → Layout A → List ℕ → Outcome A
 readL (done v) bits = accepted v [] 0
 readL (field f next) bits =
     let c : ℕ = number (take (f .width) bits) in
-    enough (leb (f .width) (length bits)) (
-    judged (judge f c) (
+    enough (f .sf) (leb (f .width) (length bits)) (
+    judged (f .sf) (judge f c) (
     before c (f .width) (readL (next c) (drop (f .width) bits))))
 
 -- ---- writing
 
--- the bits of the message, or the refusal
+-- the bits of the message; or the refusal with its place, a field's number and its entry of the sheet
 pub data Written : Type 0 where
   written : (bits : List ℕ) → Written
-  unwritten : (why : Refusal) → Written
+  unwritten : (why : answer.Fault) → Written
 
--- refuse if the code is too wide for the field
-abbrev pub fitting : Bool → Written → Written
-fitting true o = o
-fitting false o = unwritten refusal.Field
+-- refuse here if the code is too wide for the field with this number
+abbrev pub fitting : (sf : ℕ) → Bool → Written → Written
+fitting sf true o = o
+fitting sf false o = unwritten (faultAt refusal.Field sf 0)
 
-abbrev pub judgedW : Verdict → Written → Written
-judgedW Taken o = o
-judgedW (Fault why) o = unwritten why
+abbrev pub judgedW : (sf : ℕ) → Verdict → Written → Written
+judgedW sf Taken o = o
+judgedW sf (Fault why) o = unwritten (faultAt why sf 0)
 
--- the bits of a code come before
+-- the bits of an entry come before
 abbrev pub behind : List ℕ → Written → Written
 behind bs (written cs) = written (bs ++ cs)
-behind bs (unwritten why) = unwritten why
+behind bs (unwritten why) = unwritten (further 1 why)
 
--- at each field SHORT if the sheet has ended, then its verdict, then FIELD for a code too wide; at the end LEFTOVER for a sheet that goes on
+-- at each field SHORT if the sheet has ended, then its verdict, then FIELD for a code too wide, all with the field's number and its entry; at the end LEFTOVER, which has no
+-- place, for a sheet that goes on
 unfoldable pub writeL : {A : Type 0} → Layout A → List ℕ → Written
 writeL (done v) [] = written []
-writeL (done v) (c ∷ cs) = unwritten refusal.Leftover
-writeL (field f next) [] = unwritten refusal.Short
+writeL (done v) (c ∷ cs) = unwritten (nowhere refusal.Leftover)
+writeL (field f next) [] = unwritten (faultAt refusal.Short (f .sf) 0)
 writeL (field f next) (c ∷ cs) =
-    judgedW (judge f c) (
-    fitting (ltb c (2 ^ f .width)) (
+    judgedW (f .sf) (judge f c) (
+    fitting (f .sf) (ltb c (2 ^ f .width)) (
     behind (bitsOf (f .width) c) (writeL (next c) cs)))

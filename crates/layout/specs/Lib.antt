@@ -10,3 +10,5 @@ pub mod Reaches
 pub mod Acceptance
 pub mod Tests
 pub mod Determined
+pub mod Places
+pub mod Placed

@@ -66,10 +66,10 @@ module _ {A : Type 0} where
           let inside : at < length sheet = ltb-true at (length sheet) p in
           let c : ℕ = getD sheet at 0 in
           let o : Written = writeL (next c) (drop (suc at) sheet) in
-          let e' : judgedW (judge f c) (fitting (ltb c (2 ^ f .width)) (behind (bitsOf (f .width) c) o)) ≡ written bits
+          let e' : judgedW (f .sf) (judge f c) (fitting (f .sf) (ltb c (2 ^ f .width)) (behind (bitsOf (f .width) c) o)) ≡ written bits
           = ap (writeL (field f next)) (sym (drop-cons sheet at 0 inside)) ∙ e in
-          let h1 = judgedW-acc (judge f c) _ e' in
-          let h2 = fitting-acc (ltb c (2 ^ f .width)) _ (h1 .1) in
+          let h1 = judgedW-acc (f .sf) (judge f c) _ e' in
+          let h2 = fitting-acc (f .sf) (ltb c (2 ^ f .width)) _ (h1 .1) in
           let h3 = behind-acc (bitsOf (f .width) c) o (h2 .1) in
           (inside, h1 .0, ih c (h3 .0) (omega arith) (h3 .1))
       go false p ih =
@@ -89,8 +89,8 @@ module _ {A : Type 0} where
       let w : ℕ = f .width in
       let c : ℕ = number (take w bits) in
       let o : Outcome A = readL (next c) (drop w bits) in
-      let h1 = enough-acc (leb w (length bits)) _ e in
-      let h2 = judged-acc (judge f c) _ (h1 .1) in
+      let h1 = enough-acc (f .sf) (leb w (length bits)) _ e in
+      let h2 = judged-acc (f .sf) (judge f c) _ (h1 .1) in
       let h3 = before-acc c w o (h2 .1) in
       let both : c ∷ h3 .0 ≡ getD sheet at 0 ∷ drop (suc at) sheet = sym (h3 .3) ∙ q ∙ drop-cons sheet at 0 (h .0) in
       let same : c ≡ getD sheet at 0 = cc in

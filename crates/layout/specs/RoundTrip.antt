@@ -23,39 +23,39 @@ bits-take zero h = none
 bits-take (suc n) none = none
 bits-take (suc n) (more h r) = more h (bits-take n r)
 
-bits-drop : (n : ℕ) {l : List ℕ} → Bits l → Bits (drop n l)
+pub bits-drop : (n : ℕ) {l : List ℕ} → Bits l → Bits (drop n l)
 bits-drop zero h = h
 bits-drop (suc n) none = none
 bits-drop (suc n) (more h r) = bits-drop n r
 
-front-lt : (w : ℕ) (l : List ℕ) → Bits l → w ≤ length l → number (take w l) < 2 ^ w
+pub front-lt : (w : ℕ) (l : List ℕ) → Bits l → w ≤ length l → number (take w l) < 2 ^ w
 front-lt w l b h = subst (λ (x : ℕ). number (take w l) < 2 ^ x) (length-take-le w l h) (number-lt (bits-take w b))
 
-front-bits : (w : ℕ) (l : List ℕ) → Bits l → w ≤ length l → bitsOf w (number (take w l)) ≡ take w l
+pub front-bits : (w : ℕ) (l : List ℕ) → Bits l → w ≤ length l → bitsOf w (number (take w l)) ≡ take w l
 front-bits w l b h = ap (λ (x : ℕ). bitsOf x (number (take w l))) (sym (length-take-le w l h)) ∙ bits-of-number (bits-take w b)
 
 -- ---- what an accepted outcome says of each step
 
-pub fitting-acc : (b : Bool) (o : Written) {bs : List ℕ} → fitting b o ≡ written bs → (b ≡ true) × (o ≡ written bs)
-fitting-acc true o e = (refl, e)
-fitting-acc false o e = let z : _≡_ {A = ℕ} 0 1 = cc in absurd (omega arith)
+pub fitting-acc : (sf : ℕ) (b : Bool) (o : Written) {bs : List ℕ} → fitting sf b o ≡ written bs → (b ≡ true) × (o ≡ written bs)
+fitting-acc sf true o e = (refl, e)
+fitting-acc sf false o e = let z : _≡_ {A = ℕ} 0 1 = cc in absurd (omega arith)
 
-pub judgedW-acc : (v : Verdict) (o : Written) {bs : List ℕ} → judgedW v o ≡ written bs → (v ≡ Taken) × (o ≡ written bs)
-judgedW-acc Taken o e = (refl, e)
-judgedW-acc (Fault why) o e = let z : _≡_ {A = ℕ} 0 1 = cc in absurd (omega arith)
+pub judgedW-acc : (sf : ℕ) (v : Verdict) (o : Written) {bs : List ℕ} → judgedW sf v o ≡ written bs → (v ≡ Taken) × (o ≡ written bs)
+judgedW-acc sf Taken o e = (refl, e)
+judgedW-acc sf (Fault why) o e = let z : _≡_ {A = ℕ} 0 1 = cc in absurd (omega arith)
 
 pub behind-acc : (p : List ℕ) (o : Written) {bs : List ℕ} → behind p o ≡ written bs → (q : List ℕ) × (o ≡ written q) × (bs ≡ p ++ q)
 behind-acc p (written q) e = (q, refl, cc)
 behind-acc p (unwritten why) e = let z : _≡_ {A = ℕ} 0 1 = cc in absurd (omega arith)
 
 module _ {A : Type 0} where
-  pub enough-acc : (b : Bool) (o : Outcome A) {v : A} {cs : List ℕ} {n : ℕ} → enough b o ≡ accepted v cs n → (b ≡ true) × (o ≡ accepted v cs n)
-  enough-acc true o e = (refl, e)
-  enough-acc false o e = let z : _≡_ {A = ℕ} 0 1 = cc in absurd (omega arith)
+  pub enough-acc : (sf : ℕ) (b : Bool) (o : Outcome A) {v : A} {cs : List ℕ} {n : ℕ} → enough sf b o ≡ accepted v cs n → (b ≡ true) × (o ≡ accepted v cs n)
+  enough-acc sf true o e = (refl, e)
+  enough-acc sf false o e = let z : _≡_ {A = ℕ} 0 1 = cc in absurd (omega arith)
 
-  pub judged-acc : (k : Verdict) (o : Outcome A) {v : A} {cs : List ℕ} {n : ℕ} → judged k o ≡ accepted v cs n → (k ≡ Taken) × (o ≡ accepted v cs n)
-  judged-acc Taken o e = (refl, e)
-  judged-acc (Fault why) o e = let z : _≡_ {A = ℕ} 0 1 = cc in absurd (omega arith)
+  pub judged-acc : (sf : ℕ) (k : Verdict) (o : Outcome A) {v : A} {cs : List ℕ} {n : ℕ} → judged sf k o ≡ accepted v cs n → (k ≡ Taken) × (o ≡ accepted v cs n)
+  judged-acc sf Taken o e = (refl, e)
+  judged-acc sf (Fault why) o e = let z : _≡_ {A = ℕ} 0 1 = cc in absurd (omega arith)
 
   pub before-acc : (c w : ℕ) (o : Outcome A) {v : A} {cs : List ℕ} {n : ℕ} → before c w o ≡ accepted v cs n
       → (ds : List ℕ) × (m : ℕ) × (o ≡ accepted v ds m) × (cs ≡ c ∷ ds) × (n ≡ w + m)
@@ -100,8 +100,8 @@ module _ {A : Type 0} where
       let w : ℕ = f .width in
       let c : ℕ = number (take w bits) in
       let o : Outcome A = readL (next c) (drop w bits) in
-      let h1 : (leb w (length bits) ≡ true) × (judged (judge f c) (before c w o) ≡ accepted v cs n) = enough-acc _ _ e in
-      let h2 : (judge f c ≡ Taken) × (before c w o ≡ accepted v cs n) = judged-acc _ _ (h1 .1) in
+      let h1 : (leb w (length bits) ≡ true) × (judged (f .sf) (judge f c) (before c w o) ≡ accepted v cs n) = enough-acc (f .sf) _ _ e in
+      let h2 : (judge f c ≡ Taken) × (before c w o ≡ accepted v cs n) = judged-acc (f .sf) _ _ (h1 .1) in
       let h3 : (ds : List ℕ) × (m : ℕ) × (o ≡ accepted v ds m) × (cs ≡ c ∷ ds) × (n ≡ w + m) = before-acc c w o (h2 .1) in
       let le : w ≤ length bits = leb-true _ _ (h1 .0) in
       let ih : (writeL (next c) (h3 .0) ≡ written (take (h3 .1) (drop w bits))) × (h3 .1 ≤ length (drop w bits))
@@ -121,8 +121,8 @@ module _ {A : Type 0} where
   read-write (field f next) (c ∷ cs) bs e =
       let w : ℕ = f .width in
       let o : Written = writeL (next c) cs in
-      let h1 : (judge f c ≡ Taken) × (fitting (ltb c (2 ^ w)) (behind (bitsOf w c) o) ≡ written bs) = judgedW-acc _ _ e in
-      let h2 : (ltb c (2 ^ w) ≡ true) × (behind (bitsOf w c) o ≡ written bs) = fitting-acc _ _ (h1 .1) in
+      let h1 : (judge f c ≡ Taken) × (fitting (f .sf) (ltb c (2 ^ w)) (behind (bitsOf w c) o) ≡ written bs) = judgedW-acc (f .sf) _ _ e in
+      let h2 : (ltb c (2 ^ w) ≡ true) × (behind (bitsOf w c) o ≡ written bs) = fitting-acc (f .sf) _ _ (h1 .1) in
       let h3 : (q : List ℕ) × (o ≡ written q) × (bs ≡ bitsOf w c ++ q) = behind-acc (bitsOf w c) o (h2 .1) in
       let fits : c < 2 ^ w = ltb-true _ _ (h2 .0) in
       let r = read-write (next c) cs (h3 .0) (h3 .1) in (

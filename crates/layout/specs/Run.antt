@@ -13,6 +13,9 @@ use lib.ListN.{length, take, drop, set, length-drop}
 use lib.Seq.{sets, drop-drop}
 use Rattle.answer.specs.declared.Refusal.{Refusal}
 use Rattle.answer.specs.declared.Refusal.the-variants as refusal
+use Rattle.answer.specs.declared.Fault as answer
+use Rattle.answer.specs.Place.{faultAt, further}
+use Rattle.answer.specs.Further.{further-twice, further-here}
 use Rattle.bits.specs.Bits.{number}
 use Rattle.layout.specs.declared.Field.{Field}
 use Rattle.layout.specs.declared.Verdict.{Verdict}
@@ -20,28 +23,28 @@ use Rattle.layout.specs.declared.Verdict.the-variants.{Taken, Fault}
 use Rattle.layout.specs.Layout.{Layout, done, field, pick, judge, Outcome, accepted, refused, enough, judged, before, readL}
 use Rattle.layout.specs.Walks.{Fine, Walks, ends, goes}
 
--- entries, bits, and the list that was filled; or the refusal
+-- entries, bits, and the list that was filled; or the refusal with its place
 pub data Ended : Type 0 where
   finished : (count used : ℕ) (filled : List ℕ) → Ended
-  stopped : (why : Refusal) → Ended
+  stopped : (why : answer.Fault) → Ended
 
-abbrev pub judgedE : Verdict → Ended → Ended
-judgedE Taken e = e
-judgedE (Fault why) e = stopped why
+abbrev pub judgedE : (sf place : ℕ) → Verdict → Ended → Ended
+judgedE sf place Taken e = e
+judgedE sf place (Fault why) e = stopped (faultAt why sf place)
 
 unfoldable pub runL : {A : Type 0} → Layout A → (bits : List ℕ) (pos at : ℕ) (sheet : List ℕ) → Ended
 runL (done v) bits pos at sheet = finished at pos sheet
 runL (field f next) bits pos at sheet =
     let c : ℕ = number (take (f .width) bits) in
     pick (leb (f .width) (length bits))
-    (judgedE (judge f c) (runL (next c) (drop (f .width) bits) (pos + f .width) (at + 1) (set sheet at c)))
-    (stopped refusal.Short)
+    (judgedE (f .sf) pos (judge f c) (runL (next c) (drop (f .width) bits) (pos + f .width) (at + 1) (set sheet at c)))
+    (stopped (faultAt refusal.Short (f .sf) pos))
 
 -- ---- a run comes to what the reading finds
 
 abbrev pub endedOf : {A : Type 0} → Outcome A → (pos at : ℕ) (sheet : List ℕ) → Ended
 endedOf (accepted v cs n) pos at sheet = finished (at + length cs) (pos + n) (sets sheet at cs)
-endedOf (refused why) pos at sheet = stopped why
+endedOf (refused why) pos at sheet = stopped (further pos why)
 
 module _ {A : Type 0} where
   ended-before : (c w : ℕ) (o : Outcome A) (pos at : ℕ) (sheet : List ℕ) → endedOf o (pos + w) (at + 1) (set sheet at c) ≡ endedOf (before c w o) pos at sheet
@@ -49,16 +52,17 @@ module _ {A : Type 0} where
       let p : at + 1 + length cs ≡ at + suc (length cs) = omega arith in
       let q : pos + w + n ≡ pos + (w + n) = omega arith in
       rw (p, q, add-one at)
-  ended-before c w (refused why) pos at sheet = refl
+  ended-before c w (refused why) pos at sheet = ap stopped (further-twice pos w why)
 
-  ended-judged : (v : Verdict) (o : Outcome A) (pos at : ℕ) (sheet : List ℕ) → judgedE v (endedOf o pos at sheet) ≡ endedOf (judged v o) pos at sheet
-  ended-judged Taken o pos at sheet = refl
-  ended-judged (Fault why) o pos at sheet = refl
+  ended-judged : (sf : ℕ) (v : Verdict) (o : Outcome A) (pos at : ℕ) (sheet : List ℕ)
+      → judgedE sf pos v (endedOf o pos at sheet) ≡ endedOf (judged sf v o) pos at sheet
+  ended-judged sf Taken o pos at sheet = refl
+  ended-judged sf (Fault why) o pos at sheet = ap stopped (sym (further-here pos why sf))
 
-  ended-enough : (b : Bool) (o : Outcome A) (pos at : ℕ) (sheet : List ℕ)
-      → pick b (endedOf o pos at sheet) (stopped refusal.Short) ≡ endedOf (enough b o) pos at sheet
-  ended-enough true o pos at sheet = refl
-  ended-enough false o pos at sheet = refl
+  ended-enough : (sf : ℕ) (b : Bool) (o : Outcome A) (pos at : ℕ) (sheet : List ℕ)
+      → pick b (endedOf o pos at sheet) (stopped (faultAt refusal.Short sf pos)) ≡ endedOf (enough sf b o) pos at sheet
+  ended-enough sf true o pos at sheet = refl
+  ended-enough sf false o pos at sheet = ap stopped (sym (further-here pos refusal.Short sf))
 
   pub run-reads : (l : Layout A) (bits : List ℕ) (pos at : ℕ) (sheet : List ℕ) → runL l bits pos at sheet ≡ endedOf (readL l bits) pos at sheet
   unfolding runL readL
@@ -67,10 +71,10 @@ module _ {A : Type 0} where
       let w : ℕ = f .width in
       let c : ℕ = number (take w bits) in
       let o : Outcome A = readL (next c) (drop w bits) in
-      ap (λ e. pick (leb w (length bits)) (judgedE (judge f c) e) (stopped refusal.Short))
+      ap (λ e. pick (leb w (length bits)) (judgedE (f .sf) pos (judge f c) e) (stopped (faultAt refusal.Short (f .sf) pos)))
       (run-reads (next c) (drop w bits) (pos + w) (at + 1) (set sheet at c) ∙ ended-before c w o pos at sheet)
-      ∙ ap (λ e. pick (leb w (length bits)) e (stopped refusal.Short)) (ended-judged (judge f c) (before c w o) pos at sheet)
-      ∙ ended-enough (leb w (length bits)) (judged (judge f c) (before c w o)) pos at sheet
+      ∙ ap (λ e. pick (leb w (length bits)) e (stopped (faultAt refusal.Short (f .sf) pos))) (ended-judged (f .sf) (judge f c) (before c w o) pos at sheet)
+      ∙ ended-enough (f .sf) (leb w (length bits)) (judged (f .sf) (judge f c) (before c w o)) pos at sheet
 
 -- ---- codes that a field takes fit its width
 
@@ -119,22 +123,24 @@ module _ {S A : Type 0} {fieldOf : S → Field} {stepOf : S → ℕ → S} (bits
   run-done (ends e) z = refl
   run-done {s} (goes {f} e h rest) z = absurd (omega (arith, h .some, ap (λ (x : Field). x .width) e))
 
-  pub run-short : {s : S} {l : Layout A} → Walks fieldOf stepOf s l → 0 < fieldOf s .width → length bits < fieldOf s .width → runL l bits pos at sheet ≡ stopped refusal.Short
+  pub run-short : {s : S} {l : Layout A} → Walks fieldOf stepOf s l → 0 < fieldOf s .width → length bits < fieldOf s .width
+      → runL l bits pos at sheet ≡ stopped (faultAt refusal.Short (fieldOf s .sf) pos)
   unfolding runL
   run-short (ends e) z h = absurd (omega arith)
   run-short {s} (goes {f} e i rest) z h =
       let same : fieldOf s .width ≡ f .width = ap (λ (x : Field). x .width) e in
-      rw (lt-leb (f .width) (length bits) (omega arith))
+      rw (lt-leb (f .width) (length bits) (omega arith)) (ap (λ (x : Field). stopped (faultAt refusal.Short (x .sf) pos)) (sym e))
 
   pub run-fault : {s : S} {l : Layout A} (c : ℕ) (why : Refusal) → Walks fieldOf stepOf s l → 0 < fieldOf s .width → fieldOf s .width ≤ length bits
-      → c ≡ number (take (fieldOf s .width) bits) → judge (fieldOf s) c ≡ Fault why → runL l bits pos at sheet ≡ stopped why
+      → c ≡ number (take (fieldOf s .width) bits) → judge (fieldOf s) c ≡ Fault why
+      → runL l bits pos at sheet ≡ stopped (faultAt why (fieldOf s .sf) pos)
   unfolding runL
   run-fault c why (ends e) z h n j = absurd (omega arith)
   run-fault {s} c why (goes {f} e i rest) z h n j =
       let same : fieldOf s .width ≡ f .width = ap (λ (x : Field). x .width) e in
       let m : number (take (f .width) bits) ≡ c = ap (λ (x : ℕ). number (take x bits)) (sym same) ∙ sym n in
       let k : judge f c ≡ Fault why = ap (λ (x : Field). judge x c) (sym e) ∙ j in
-      rw (le-leb (f .width) (length bits) (omega arith), m, k)
+      rw (le-leb (f .width) (length bits) (omega arith), m, k) (ap (λ (x : Field). stopped (faultAt why (x .sf) pos)) (sym e))
 
   pub run-on : {s : S} {l : Layout A} (c : ℕ) → Walks fieldOf stepOf s l → 0 < fieldOf s .width → fieldOf s .width ≤ length bits
       → c ≡ number (take (fieldOf s .width) bits) → judge (fieldOf s) c ≡ Taken

@@ -8,18 +8,27 @@ use native.Mathlib.Omega.{arith}
 use lib.Dec.{T, ltb, leb, ltb→lt, leb→le}
 use lib.ListN.{length}
 use lib.Pow.{pow-pos}
+use Rattle.answer.specs.Place.{hasPlace}
 use Rattle.layout.specs.declared.Field.{Field}
 use Rattle.layout.specs.Layout.{Layout, done, field, pick}
 use Rattle.layout.specs.Parts.{free, absent, present, optional, times, each}
 
 -- ---- fields
 
--- A field as every reader and writer wants it: not empty, of a word at most, and all that it takes fits its width.
+-- a field's number: some, and one that the calls for other languages have room for
+pub record Numbered (sf : ℕ) : Type 0 where
+  pub some : 0 < sf
+  pub small : sf < 2 ^ 24
+
+-- A field as every reader and writer wants it: not empty, of a word at most, and all that it takes fits its width; with a number; what it does not take is refused by what has a place.
 pub record Fine (f : Field) : Type 0 where
   pub some : 0 < f .width
   pub word : f .width ≤ 64
   pub most : f .most < 2 ^ f .width
   pub extra : f .extra < 2 ^ f .width
+  pub number : Numbered (f .sf)
+  pub under : hasPlace (f .under) ≡ true
+  pub over : hasPlace (f .over) ≡ true
 
 abbrev both : Bool → Bool → Bool
 both true b = b
@@ -36,29 +45,46 @@ both-second false b t = absurd t
 abbrev fits : Field → Bool
 fits f = both (ltb (f .most) (2 ^ f .width)) (ltb (f .extra) (2 ^ f .width))
 
+abbrev named : Field → Bool
+named f = both (ltb 0 (f .sf)) (both (ltb (f .sf) (2 ^ 24)) (both (hasPlace (f .under)) (hasPlace (f .over))))
+
 abbrev pub isFine : Field → Bool
-isFine f = both (ltb 0 (f .width)) (both (leb (f .width) 64) (fits f))
+isFine f = both (ltb 0 (f .width)) (both (leb (f .width) 64) (both (fits f) (named f)))
+
+is-true : (b : Bool) → T b → b ≡ true
+is-true true t = refl
+is-true false t = absurd t
 
 -- of a field that is written out, `fine tt`
 pub fine : {f : Field} → T (isFine f) → Fine f
 fine {f} t =
     let t1 = both-second (ltb 0 (f .width)) _ t in
-    let t2 = both-second (leb (f .width) 64) (fits f) t1 in
+    let t3 = both-second (leb (f .width) 64) _ t1 in
+    let t2 = both-first (fits f) (named f) t3 in
+    let n1 = both-second (fits f) (named f) t3 in
+    let n2 = both-second (ltb 0 (f .sf)) _ n1 in
+    let n3 = both-second (ltb (f .sf) (2 ^ 24)) _ n2 in
     record {
       some = ltb→lt _ _ (both-first (ltb 0 (f .width)) _ t);
-      word = leb→le _ _ (both-first (leb (f .width) 64) (fits f) t1);
+      word = leb→le _ _ (both-first (leb (f .width) 64) _ t1);
       most = ltb→lt _ _ (both-first (ltb (f .most) (2 ^ f .width)) (ltb (f .extra) (2 ^ f .width)) t2);
       extra = ltb→lt _ _ (both-second (ltb (f .most) (2 ^ f .width)) (ltb (f .extra) (2 ^ f .width)) t2);
+      number = record { some = ltb→lt _ _ (both-first (ltb 0 (f .sf)) _ n1); small = ltb→lt _ _ (both-first (ltb (f .sf) (2 ^ 24)) _ n2) };
+      under = is-true _ (both-first (hasPlace (f .under)) _ n3);
+      over = is-true _ (both-second (hasPlace (f .under)) (hasPlace (f .over)) n3);
     }
 
 -- a field that takes its full width
-pub fine-free : (sf w : ℕ) → 0 < w → w ≤ 64 → Fine (free sf w)
-fine-free sf w p q =
+pub fine-free : (sf w : ℕ) → Numbered sf → 0 < w → w ≤ 64 → Fine (free sf w)
+fine-free sf w n p q =
     record {
       some = p;
       word = q;
       most = omega (arith, pow-pos w);
       extra = omega (arith, pow-pos w);
+      number = n;
+      under = refl;
+      over = refl;
     }
 
 pub fine-pick : (b : Bool) {f g : Field} → Fine f → Fine g → Fine (pick b f g)

@@ -2,6 +2,7 @@
 use mathlib.Core.Path.{_≡_, refl}
 use mathlib.Core.List.{List, [], _∷_}
 use lib.Count.{ones, onesIn}
+use Rattle.answer.specs.Place.{faultAt}
 use Rattle.answer.specs.declared.Refusal.the-variants as refusal
 use Rattle.bits.specs.Bits.{bitsOf, toBits, number}
 use Rattle.layout.specs.Layout.{done, judge, Outcome, accepted, refused, readL}
@@ -12,8 +13,8 @@ use Rattle.codes.specs.Tables.{maskSizes, maskSize, biasMaskSizes, biasSize}
 use Rattle.codes.specs.Fields.{numbered}
 use Rattle.ocb.specs.Ocb.{outOfUse, inUse, ocb}
 
--- a mask without a satellite
-no-satellite : readL (ocb Gps done) (toBits (2 ∷ 192 ∷ 0 ∷ 0 ∷ 0 ∷ 0 ∷ 64 ∷ [])) ≡ refused refusal.MaskEmpty
+-- a mask without a satellite: SF011 is at fault where its bits begin, behind its size
+no-satellite : readL (ocb Gps done) (toBits (2 ∷ 192 ∷ 0 ∷ 0 ∷ 0 ∷ 0 ∷ 64 ∷ [])) ≡ refused (faultAt refusal.MaskEmpty 11 17)
 unfolding readL judge table find lineOf sf toBits bitsOf number numbered maskSize maskSizes
 no-satellite = refl
 

@@ -9,7 +9,7 @@ use lib.ListN.{length}
 use Rattle.layout.specs.declared.Field.{Field}
 use Rattle.layout.specs.Layout.{pick}
 use Rattle.layout.specs.Parts.{upTo, free}
-use Rattle.layout.specs.Walks.{Fine, fine, Walks, goes, Leads, leads-optional, leads-times, leads-each}
+use Rattle.layout.specs.Walks.{Numbered, Fine, fine, Walks, goes, Leads, leads-optional, leads-times, leads-each}
 use Rattle.layout.specs.Tests.{one-less}
 use Rattle.fields.specs.Fields.{table, find, lineOf, sf}
 use Rattle.codes.specs.declared.Constellation.{Constellation}
@@ -169,6 +169,14 @@ fine-code : (c : Constellation) → Fine (sf (codeSf c))
 unfolding sf lineOf find table
 fine-code = by-constellation (λ n. Fine (sf n)) codeSf (fine tt) (fine tt) (fine tt) (fine tt) (fine tt)
 
+numbered-phase : (c : Constellation) → Numbered (phaseSf c)
+unfolding sf
+numbered-phase c = fine-phase c .number
+
+numbered-code : (c : Constellation) → Numbered (codeSf c)
+unfolding sf
+numbered-code c = fine-code c .number
+
 module _ {A : Type 0} where
   leads-phase : (head : Head) (n : ℕ) → Leads {A = A} ocbField ocbStep (phasesFrom head (suc n)) phaseBias (phasesFrom head n)
   unfolding sf lineOf find table
@@ -178,9 +186,9 @@ module _ {A : Type 0} where
   unfolding sf lineOf find table
   leads-bias head k rest =
       let c : Constellation = head .constellation in
-      goes refl (fine-phase c) (λ phaseSize _. goes refl (fine-bias (phaseSf c) c _) (λ phaseMask _.
+      goes refl (fine-phase c) (λ phaseSize _. goes refl (fine-bias (phaseSf c) (numbered-phase c) c _) (λ phaseMask _.
       leads-times ocbField ocbStep (phasesFrom head) (leads-phase head) (ones phaseMask) _ (λ phases.
-      goes refl (fine-code c) (λ codeSize _. goes refl (fine-bias (codeSf c) c _) (λ codeMask _.
+      goes refl (fine-code c) (λ codeSize _. goes refl (fine-bias (codeSf c) (numbered-code c) c _) (λ codeMask _.
       leads-times ocbField ocbStep (codesFrom head) (λ n k rest. goes refl (fine tt) (λ x _. rest x)) (ones codeMask) _ (λ codes.
       rest (record {
         phaseMask = record { size = phaseSize; bits = phaseMask };
@@ -224,6 +232,6 @@ module _ {A : Type 0} where
   unfolding sf lineOf find table
   leads-ocb c k rest =
       goes refl (fine tt) (λ siou _. goes refl (fine tt) (λ endOfSet _. goes refl (fine tt) (λ _ _. goes refl (fine tt) (λ yaw _. goes refl (fine tt) (λ datum _.
-      goes refl (fine-ephemeris c) (λ ephemeris _. goes refl (fine-mask-size c) (λ size _. goes refl (fine-mask (maskSf c) c size) (λ mask _.
+      goes refl (fine-ephemeris c) (λ ephemeris _. goes refl (fine-mask-size c) (λ size _. goes refl (fine-mask c size) (λ mask _.
       leads-each ocbField ocbStep (satellitesFrom c yaw) (leads-satellite c yaw) (satellitesOf c size mask) _ (λ satellites.
       rest (record { siou = siou; endOfSet = endOfSet; datum = datum; ephemeris = ephemeris; satellites = satellites }))))))))))

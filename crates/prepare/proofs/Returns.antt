@@ -26,7 +26,7 @@ use Rattle.desk.specs.History.{Held, handledAt, heldBy}
 use Rattle.prepare.specs.declared.Answer.{Answer}
 use Rattle.prepare.specs.declared.Said.{Said}
 use Rattle.prepare.specs.declared.Said.the-variants as said
-use Rattle.answer.specs.declared.Refusal.{Refusal}
+use Rattle.answer.specs.declared.Fault.{Fault}
 use Rattle.answer.specs.declared.Refusal.the-variants as refusal
 use Rattle.prepare.specs.declared.Tested.the-variants as test
 use Rattle.prepare.specs.Uncut.{Told, verdictOn, toldBy, entriesOf}
@@ -89,7 +89,7 @@ module _ (heard : stream-answer.Answer) (f : Frame) (t : Taken) where
       ≡ taken heard f t
   answered-accepted log q = rw q
 
-  pub answered-refused : (why : Refusal) → t .said ≡ says.Refused why
+  pub answered-refused : (why : Fault) → t .said ≡ says.Refused why
       → record { said = said.FrameRefused f why; used = heard .used; log = 0; tray = heard .tray; desk = t .desk }
       ≡ taken heard f t
   answered-refused why q = rw q

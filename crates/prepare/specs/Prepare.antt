@@ -122,7 +122,7 @@ byFinish handed = resultOf handed (finishOutcome handed)
 -- "Answer numbers": 0, but for a refusal, of the call or of the frame by the desk
 abbrev pub numberOfSaid : Said → ℕ
 numberOfSaid (said.Accepted header) = 0
-numberOfSaid (said.FrameRefused header why) = numberOf why
+numberOfSaid (said.FrameRefused header why) = numberOf (why .refusal)
 numberOfSaid (said.Noise count) = 0
 numberOfSaid said.Hungry = 0
 numberOfSaid said.Done = 0

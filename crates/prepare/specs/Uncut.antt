@@ -3,7 +3,7 @@
 use mathlib.Core.Path.{_≡_}
 use mathlib.Core.List.{List, [], _∷_, _++_}
 use Prim.Native.Nat.{ℕ, suc, _<_}
-use Rattle.answer.specs.declared.Refusal.{Refusal}
+use Rattle.answer.specs.declared.Fault.{Fault}
 use Rattle.frame.specs.declared.Frame.{Frame}
 use Rattle.frame.specs.Check.{checked}
 use Rattle.stream.specs.Scan as stream
@@ -14,7 +14,7 @@ use Rattle.desk.specs.History.{Held, handledAt, heldBy}
 -- log, or refused
 pub data Told : Type 0 where
   accepted : Frame → (bytes entries : List ℕ) → Told
-  refused : Frame → (bytes : List ℕ) → Refusal → Told
+  refused : Frame → (bytes : List ℕ) → Fault → Told
   noise : ℕ → Told
 
 -- ---- "Each frame event goes to the desk in order"

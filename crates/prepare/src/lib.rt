@@ -12,16 +12,17 @@ ghost use Rattle.prepare.specs.Moves.{testedOf, taken, untaken, moved, L
 ghost use Rattle.prepare.specs.declared.Said.the-variants as said;
 ghost use Rattle.prepare.specs.declared.Tested.the-variants as test;
 ghost use Rattle.stream.specs.declared.Said.the-variants as hears;
+use answer::Fault;
 use answer::Refusal;
 use desk::Desk;
 use frame::Frame;
 use stream::Tray;
 
-// What a call says: a frame that the desk took, or refused with its reason, which lies first in the tray; a count of noise; all input is used; all is
+// What a call says: a frame that the desk took, or refused with its reason and the reason's place, which lies first in the tray; a count of noise; all input is used; all is
 // told; or a refusal of the call.
 pub enum Said {
     Accepted(Frame),
-    FrameRefused { header: Frame, why: Refusal },
+    FrameRefused { header: Frame, why: Fault },
     Noise(u32),
     Hungry,
     Done,
@@ -43,7 +44,10 @@ pub fn number(said: Said) -> u8
 {
     match said {
         Said::Accepted(_) => 0,
-        Said::FrameRefused { header: _, why } => answer::number(why),
+        Said::FrameRefused { header: _, why } => {
+            let refusal = why.refusal;
+            answer::number(refusal)
+        }
         Said::Noise(_) => 0,
         Said::Hungry => 0,
         Said::Done => 0,

@@ -15,6 +15,9 @@ pub data In : Field → ℕ → Type 0 where
 pub width-is : {f : Field} {cell : ℕ} → In f cell → f .width ≡ widthIn cell
 width-is (is e) = ap (λ (x : Field). x .width) e
 
+pub sf-is : {f : Field} {cell : ℕ} → In f cell → f .sf ≡ fieldIn cell .sf
+sf-is (is e) = ap (λ (x : Field). x .sf) e
+
 pub judge-is : {f : Field} {cell : ℕ} (c : ℕ) → In f cell → judge f c ≡ judge (fieldIn cell) c
 judge-is c (is e) = ap (λ (x : Field). judge x c) e
 

@@ -9,18 +9,20 @@ use lib.Dec.{leb, ltb}
 use lib.ListN.{length, take, drop, getD}
 use lib.Seq.{sets, sets-eq, length-sets}
 use Rattle.sizes.specs.Sizes.{sheetRoom}
+use Rattle.answer.specs.declared.Refusal.the-variants as refusal
+use Rattle.answer.specs.Place.{faultAt}
 use Rattle.bits.specs.Bits.{toBits, bitsOf, putTo, leaves}
 use Rattle.bits.specs.Laws.{length-toBits, length-bitsOf}
 use Rattle.layout.specs.declared.Field.{Field}
 use Rattle.layout.specs.declared.Verdict.{Verdict}
 use Rattle.layout.specs.declared.Verdict.the-variants.{Taken, Fault}
 use Rattle.layout.specs.Layout.{Layout, pick, judge}
-use Rattle.layout.specs.Run.{Ended}
+use Rattle.layout.specs.Run.{Ended, stopped}
 use Rattle.layout.specs.Put.{putL, put-short, put-fault, put-on}
 use Rattle.layout.specs.Walks.{Walks}
 use Rattle.rows.specs.Rows.{widthIn, fieldIn}
 use Rattle.rows.specs.Cells.{cell-bits}
-use Rattle.rows.specs.Along.{In, width-is, judge-is}
+use Rattle.rows.specs.Along.{In, width-is, sf-is, judge-is}
 use Rattle.rows.specs.Walk.{Way, walk, Comes, walk-comes, Turned, short, fault, taken, Turns}
 
 -- ---- the count of bits
@@ -105,6 +107,7 @@ kept-on {place} {bits} {pos} {out} w code k =
 abbrev pub writing : List ℕ → Way
 writing sheet =
     record {
+      place = λ pos at. at;
       there = λ pos at width. ltb at (length sheet);
       code = λ pos at width. getD sheet at 0;
       behind = onward;
@@ -146,17 +149,19 @@ pub writing-turns : {S A : Type 0} {fieldOf : S → Field} {stepOf : S → ℕ �
 writing-turns {A} {fieldOf} {stepOf} sheet cell pos at out s l here run walks e = go (getD sheet at 0) refl (ltb at (length sheet)) _ refl refl
   where
     go : (c : ℕ) → c ≡ getD sheet at 0 → (b : Bool) (v : Verdict) → ltb at (length sheet) ≡ b → judge (fieldIn cell) c ≡ v
-        → Turned {A = A} fieldOf stepOf (writing sheet) (Writes sheet) here (stepOf s c) (onward pos (widthIn cell)) (at + 1) (putIn out pos (widthIn cell) c) b v
+        → Turned {A = A} fieldOf stepOf (writing sheet) (Writes sheet) (fieldIn cell .sf) at here (stepOf s c) (onward pos (widthIn cell)) (at + 1) (putIn out pos (widthIn cell) c) b v
     go c n false v p q =
         let d : fieldOf s .width ≡ widthIn cell = width-is e in
         let z : 0 < widthIn cell = cell-bits cell .0 in
         let k = ltb-false at (length sheet) p in
-        short (run .same ∙ put-short sheet (run .place) at (run .bits) walks (omega arith) (omega (arith, run .inside)))
+        short (run .same ∙ put-short sheet (run .place) at (run .bits) walks (omega arith) (omega (arith, run .inside))
+        ∙ ap (λ (x : ℕ). stopped (faultAt refusal.Short x at)) (sf-is e))
     go c n true (Fault why) p q =
         let d : fieldOf s .width ≡ widthIn cell = width-is e in
         let z : 0 < widthIn cell = cell-bits cell .0 in
         let k = ltb-true at (length sheet) p in
-        fault (run .same ∙ put-fault sheet (run .place) at (run .bits) c why walks (omega arith) k n (judge-is c e ∙ q))
+        fault (run .same ∙ put-fault sheet (run .place) at (run .bits) c why walks (omega arith) k n (judge-is c e ∙ q)
+        ∙ ap (λ (x : ℕ). stopped (faultAt why x at)) (sf-is e))
     go c n true Taken p q =
         let d : fieldOf s .width ≡ widthIn cell = width-is e in
         let z : 0 < widthIn cell = cell-bits cell .0 in

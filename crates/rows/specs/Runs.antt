@@ -7,22 +7,25 @@ use native.Mathlib.Omega.{arith}
 use borrow.Author.Tests.{leb-true, leb-false}
 use lib.Dec.{leb}
 use lib.ListN.{length, take, drop, set, length-drop}
+use Rattle.answer.specs.declared.Refusal.the-variants as refusal
+use Rattle.answer.specs.Place.{faultAt}
 use Rattle.bits.specs.Bits.{number}
 use Rattle.layout.specs.declared.Field.{Field}
 use Rattle.layout.specs.declared.Verdict.{Verdict}
 use Rattle.layout.specs.declared.Verdict.the-variants.{Taken, Fault}
 use Rattle.layout.specs.Layout.{Layout, judge}
-use Rattle.layout.specs.Run.{Ended, runL, run-short, run-fault, run-turn}
+use Rattle.layout.specs.Run.{Ended, stopped, runL, run-short, run-fault, run-turn}
 use Rattle.layout.specs.Walks.{Walks}
 use Rattle.rows.specs.Rows.{widthIn, fieldIn}
 use Rattle.rows.specs.Cells.{cell-bits}
-use Rattle.rows.specs.Along.{In, width-is, judge-is}
+use Rattle.rows.specs.Along.{In, width-is, sf-is, judge-is}
 use Rattle.rows.specs.Walk.{Way, walk, Comes, walk-comes, Turned, short, fault, taken, Turns}
 
 -- the codes of a payload's bits come onto a sheet
 abbrev pub reading : List ℕ → Way
 reading bits =
     record {
+      place = λ pos at. pos;
       there = λ pos at width. leb (pos + width) (length bits);
       code = λ pos at width. number (take width (drop pos bits));
       behind = λ pos width. pos + width;
@@ -56,18 +59,20 @@ reading-turns {A} {fieldOf} {stepOf} bits cell pos at sheet s l here run walks e
   where
     go : (c : ℕ) → c ≡ number (take (widthIn cell) (drop pos bits)) → (b : Bool) (v : Verdict) → leb (pos + widthIn cell) (length bits) ≡ b
         → judge (fieldIn cell) c ≡ v
-        → Turned {A = A} fieldOf stepOf (reading bits) (Reads bits) here (stepOf s c) (pos + widthIn cell) (at + 1) (set sheet at c) b v
+        → Turned {A = A} fieldOf stepOf (reading bits) (Reads bits) (fieldIn cell .sf) pos here (stepOf s c) (pos + widthIn cell) (at + 1) (set sheet at c) b v
     go c n false v p q =
         let d : fieldOf s .width ≡ widthIn cell = width-is e in
         let z : 0 < widthIn cell = cell-bits cell .0 in
         let k = leb-false (pos + widthIn cell) (length bits) p in
-        short (run .same ∙ run-short (drop pos bits) pos at sheet walks (omega arith) (omega (arith, run .inside, length-drop pos bits)))
+        short (run .same ∙ run-short (drop pos bits) pos at sheet walks (omega arith) (omega (arith, run .inside, length-drop pos bits))
+        ∙ ap (λ (x : ℕ). stopped (faultAt refusal.Short x pos)) (sf-is e))
     go c n true (Fault why) p q =
         let d : fieldOf s .width ≡ widthIn cell = width-is e in
         let z : 0 < widthIn cell = cell-bits cell .0 in
         let k = leb-true (pos + widthIn cell) (length bits) p in
         let m : c ≡ number (take (fieldOf s .width) (drop pos bits)) = n ∙ ap (λ (x : ℕ). number (take x (drop pos bits))) (sym d) in
-        fault (run .same ∙ run-fault (drop pos bits) pos at sheet c why walks (omega arith) (omega (arith, length-drop pos bits)) m (judge-is c e ∙ q))
+        fault (run .same ∙ run-fault (drop pos bits) pos at sheet c why walks (omega arith) (omega (arith, length-drop pos bits)) m (judge-is c e ∙ q)
+        ∙ ap (λ (x : ℕ). stopped (faultAt why x pos)) (sf-is e))
     go c n true Taken p q =
         let d : fieldOf s .width ≡ widthIn cell = width-is e in
         let z : 0 < widthIn cell = cell-bits cell .0 in

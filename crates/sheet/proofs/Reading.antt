@@ -13,6 +13,9 @@ use borrow.Author.Tests.{lt-ltb, le-ltb, eq-eqb, ne-eqb}
 use Rattle.sizes.specs.Sizes.{longestPayload, sheetRoom}
 use Rattle.answer.specs.declared.Refusal.{Refusal}
 use Rattle.answer.specs.declared.Refusal.the-variants as refusal
+use Rattle.answer.specs.declared.Fault as answer
+use Rattle.answer.specs.Place.{nowhere, faultAt, further}
+use Rattle.answer.specs.Further.{further-none}
 use Rattle.bits.specs.Bits.{toBits, number, field, got}
 use Rattle.bits.specs.Laws.{got-there, length-toBits}
 use Rattle.layout.specs.declared.Field.{Field}
@@ -76,15 +79,19 @@ module _ {payload sheet₀ : List ℕ} {total : ℕ} {s₀ : State} {sheet : Lis
         few = omega (arith, t .few, t .inside, t .whole);
       }
 
-  pub turn-short : (f .width ≡ 0 → ⊥) → total - pos < f .width → ReadPass payload sheet₀ s₀ (Fault refusal.Short) sheet
-  turn-short z h =
+  short-here : (f .width ≡ 0 → ⊥) → total - pos < f .width → ReadPass payload sheet₀ s₀ (Fault (faultAt refusal.Short (f .sf) pos)) sheet
+  short-here z h =
       let d : fieldOf s .width ≡ f .width = width-is in
       let k : length (drop pos (toBits payload)) ≡ total - pos = rest-length in
       record {
         ends = λ l w. let o = t .on l w in
-            sym (o .same ∙ run-short (drop pos (toBits payload)) pos at sheet (o .walks) (omega arith) (omega arith));
+            sym (o .same ∙ run-short (drop pos (toBits payload)) pos at sheet (o .walks) (omega arith) (omega arith)
+            ∙ ap (λ (x : Field). stopped (faultAt refusal.Short (x .sf) pos)) (sym e));
         few = omega arith;
       }
+
+  pub turn-short : (r : Pass) → (f .width ≡ 0 → ⊥) → total - pos < f .width → r ≡ Fault (faultAt refusal.Short (f .sf) pos) → ReadPass payload sheet₀ s₀ r sheet
+  turn-short r z h i = subst (λ x. ReadPass payload sheet₀ s₀ x sheet) (sym i) (short-here z h)
 
   module _ (z : f .width ≡ 0 → ⊥) (h : f .width ≤ total - pos) (code : ℕ) (g : code ≡ got payload pos (f .width)) (v : Verdict) (j : v ≡ judge f code) where
     code-is : fieldOf s .width ≤ 64 → code ≡ number (take (fieldOf s .width) (drop pos (toBits payload)))
@@ -97,16 +104,20 @@ module _ {payload sheet₀ : List ℕ} {total : ℕ} {s₀ : State} {sheet : Lis
     verdict-is : judge (fieldOf s) code ≡ v
     verdict-is = ap (λ (x : Field). judge x code) (sym e) ∙ sym j
 
-    pub turn-fault : (why : Refusal) → v ≡ verdict.Fault why → ReadPass payload sheet₀ s₀ (Fault why) sheet
-    turn-fault why q =
+    fault-here : (why : Refusal) → v ≡ verdict.Fault why → ReadPass payload sheet₀ s₀ (Fault (faultAt why (f .sf) pos)) sheet
+    fault-here why q =
         let d : fieldOf s .width ≡ f .width = width-is in
         let k : length (drop pos (toBits payload)) ≡ total - pos = rest-length in
         record {
           ends = λ l w. let o = t .on l w in
               let n : 0 < fieldOf s .width = omega arith in
-              sym (o .same ∙ run-fault (drop pos (toBits payload)) pos at sheet code why (o .walks) n (omega arith) (code-is (walks-word (o .walks) n)) (verdict-is ∙ q));
+              sym (o .same ∙ run-fault (drop pos (toBits payload)) pos at sheet code why (o .walks) n (omega arith) (code-is (walks-word (o .walks) n)) (verdict-is ∙ q)
+              ∙ ap (λ (x : Field). stopped (faultAt why (x .sf) pos)) (sym e));
           few = omega arith;
         }
+
+    pub turn-fault : (r : Pass) (why : Refusal) → v ≡ verdict.Fault why → r ≡ Fault (faultAt why (f .sf) pos) → ReadPass payload sheet₀ s₀ r sheet
+    turn-fault r why q i = subst (λ x. ReadPass payload sheet₀ s₀ x sheet) (sym i) (fault-here why q)
 
     pub turn-again : (sheet' : List ℕ) (s' : State) → v ≡ verdict.Taken → sheet' ≡ set sheet at code → s' ≡ stepOf s code
         → Turn payload sheet₀ total s₀ sheet' s' (pos + f .width) (at + 1)
@@ -133,9 +144,9 @@ module _ {payload sheet₀ : List ℕ} {total : ℕ} {s₀ : State} {sheet : Lis
 -- ---- both passes
 
 -- what a pass says is the answer
-judged-fault : (o : Outcome Message) (why : Refusal) (aside : List ℕ) → stopped why ≡ endedOf o 0 0 aside → reader.Refused why ≡ readAnswerBy o
+judged-fault : (o : Outcome Message) (why : answer.Fault) (aside : List ℕ) → stopped why ≡ endedOf o 0 0 aside → reader.Refused why ≡ readAnswerBy o
 judged-fault (accepted v cs n) why aside e = let z : _≡_ {A = ℕ} 0 1 = cc in absurd (omega arith)
-judged-fault (refused why') why aside e = cc
+judged-fault (refused why') why aside e = let q : why ≡ further 0 why' = cc in ap reader.Refused (q ∙ further-none why')
 
 judged-whole : (o : Outcome Message) (entries bits : ℕ) (aside aside' : List ℕ) → finished entries bits aside' ≡ endedOf o 0 0 aside → reader.Read bits entries ≡ readAnswerBy o
 judged-whole (accepted v cs n) entries bits aside aside' e =
@@ -153,7 +164,7 @@ module _ {payload aside : List ℕ} {start : State} (dry : Pass) (aside' : List 
   come : (l : Layout Message) → Walks fieldOf stepOf start l → endedBy dry aside' ≡ endedOf (readL l (toBits payload)) 0 0 aside
   come l w = p .ends l w ∙ run-reads l (toBits payload) 0 0 aside
 
-  pub keep-fault : (why : Refusal) → dry ≡ Fault why → ReadKept payload aside start (reader.Refused why) aside'
+  pub keep-fault : (why : answer.Fault) → dry ≡ Fault why → ReadKept payload aside start (reader.Refused why) aside'
   keep-fault why e =
       record {
         judged = record { answers = λ l w. judged-fault (readL l (toBits payload)) why aside (ap (λ x. endedBy x aside') (sym e) ∙ come l w); few = omega arith };
@@ -175,7 +186,7 @@ pub kept-judged : {payload aside : List ℕ} {start : State} {answer : ReadAnswe
 kept-judged k = k .judged
 
 -- a refusal leaves the sheet; the codes kept aside are copied, or a second pass stores them
-refused-leaves : (o : Outcome Message) (why : Refusal) (sheet : List ℕ) → reader.Refused why ≡ readAnswerBy o → sheet ≡ sheetBy o sheet
+refused-leaves : (o : Outcome Message) (why : answer.Fault) (sheet : List ℕ) → reader.Refused why ≡ readAnswerBy o → sheet ≡ sheetBy o sheet
 refused-leaves (accepted v cs n) why sheet e = let z : _≡_ {A = ℕ} 0 1 = cc in absurd (omega arith)
 refused-leaves (refused why') why sheet e = refl
 
@@ -198,7 +209,7 @@ copied-leaves (accepted v cs n) entries bits aside aside' sheet h k p (codes c) 
 copied-leaves (refused why) entries bits aside aside' sheet h k p nothing = let z : _≡_ {A = ℕ} 0 1 = cc in absurd (omega arith)
 
 module _ {payload sheet : List ℕ} {start : State} (judged : ReadAnswer) (p : ReadJudged payload start judged) where
-  pub whole-refused : (why : Refusal) → judged ≡ reader.Refused why → ReadWhole payload sheet start (reader.Refused why) sheet
+  pub whole-refused : (why : answer.Fault) → judged ≡ reader.Refused why → ReadWhole payload sheet start (reader.Refused why) sheet
   whole-refused why e =
       record {
         answers = λ l w. sym e ∙ p .answers l w;
@@ -292,12 +303,12 @@ module _ (kind subtype : ℕ) (payload : List ℕ) where
   unfolding judged
   is-judged o e = ap readAnswerBy (sym e)
 
-  pub judge-unknown : (x : Start) → x ≡ startOf kind subtype → x ≡ Unknown → reader.Refused refusal.UnknownType ≡ judged kind subtype payload
-  judge-unknown x e q = is-judged (refused refusal.UnknownType) (judging-with kind subtype payload (not-started kind subtype x e q) refl)
+  pub judge-unknown : (x : Start) → x ≡ startOf kind subtype → x ≡ Unknown → reader.Refused (nowhere refusal.UnknownType) ≡ judged kind subtype payload
+  judge-unknown x e q = is-judged (refused (nowhere refusal.UnknownType)) (judging-with kind subtype payload (not-started kind subtype x e q) refl)
 
   pub judge-length : (x : Start) (start : State) → x ≡ startOf kind subtype → x ≡ Known start → (b : Bool) → b ≡ badLength (length payload) → b ≡ true
-      → reader.Refused refusal.Length ≡ judged kind subtype payload
-  judge-length x start e q b m n = is-judged (refused refusal.Length) (judging-with kind subtype payload (started kind subtype x start e q .here) (sym m ∙ n))
+      → reader.Refused (nowhere refusal.Length) ≡ judged kind subtype payload
+  judge-length x start e q b m n = is-judged (refused (nowhere refusal.Length)) (judging-with kind subtype payload (started kind subtype x start e q .here) (sym m ∙ n))
 
   pub judge-known : (x : Start) (start : State) → x ≡ startOf kind subtype → x ≡ Known start → (b : Bool) → b ≡ badLength (length payload) → b ≡ false
       → (r : ReadAnswer) → ReadJudged payload start r → r ≡ judged kind subtype payload
@@ -321,17 +332,17 @@ module _ (kind subtype : ℕ) (payload sheet : List ℕ) where
   unfolding readAnswer sheetAfter
   meets o e = record { says = ap readAnswerBy (sym e); leaves = ap (λ x. sheetBy x sheet) (sym e) }
 
-  pub read-room : length sheet < sheetRoom → Met kind subtype payload sheet (reader.Refused refusal.Room) sheet
-  read-room h = meets (refused refusal.Room) (reading-with kind subtype payload sheet (lt-ltb (length sheet) sheetRoom h) refl refl)
+  pub read-room : length sheet < sheetRoom → Met kind subtype payload sheet (reader.Refused (nowhere refusal.Room)) sheet
+  read-room h = meets (refused (nowhere refusal.Room)) (reading-with kind subtype payload sheet (lt-ltb (length sheet) sheetRoom h) refl refl)
 
   module _ (room : sheetRoom ≤ length sheet) where
-    pub read-unknown : (x : Start) → x ≡ startOf kind subtype → x ≡ Unknown → Met kind subtype payload sheet (reader.Refused refusal.UnknownType) sheet
-    read-unknown x e q = meets (refused refusal.UnknownType) (reading-with kind subtype payload sheet (le-ltb (length sheet) sheetRoom room) (not-started kind subtype x e q) refl)
+    pub read-unknown : (x : Start) → x ≡ startOf kind subtype → x ≡ Unknown → Met kind subtype payload sheet (reader.Refused (nowhere refusal.UnknownType)) sheet
+    read-unknown x e q = meets (refused (nowhere refusal.UnknownType)) (reading-with kind subtype payload sheet (le-ltb (length sheet) sheetRoom room) (not-started kind subtype x e q) refl)
 
     pub read-length : (x : Start) (start : State) → x ≡ startOf kind subtype → x ≡ Known start → (b : Bool) → b ≡ badLength (length payload) → b ≡ true
-        → Met kind subtype payload sheet (reader.Refused refusal.Length) sheet
+        → Met kind subtype payload sheet (reader.Refused (nowhere refusal.Length)) sheet
     read-length x start e q b m n =
-        meets (refused refusal.Length) (reading-with kind subtype payload sheet (le-ltb (length sheet) sheetRoom room) (started kind subtype x start e q .here) (sym m ∙ n))
+        meets (refused (nowhere refusal.Length)) (reading-with kind subtype payload sheet (le-ltb (length sheet) sheetRoom room) (started kind subtype x start e q .here) (sym m ∙ n))
 
     pub read-known : (x : Start) (start : State) → x ≡ startOf kind subtype → x ≡ Known start → (b : Bool) → b ≡ badLength (length payload) → b ≡ false
         → (r : ReadAnswer) (sheet' : List ℕ) → ReadWhole payload sheet start r sheet' → Met kind subtype payload sheet r sheet'

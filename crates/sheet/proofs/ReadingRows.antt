@@ -4,7 +4,7 @@ use mathlib.Core.List.{List}
 use Prim.Native.Nat.{ℕ, _+_, _-_, _*_, _≤_, _<_}
 use native.Mathlib.Omega.{arith}
 use lib.ListN.{length}
-use Rattle.answer.specs.declared.Refusal.{Refusal}
+use Rattle.answer.specs.declared.Fault as answer
 use Rattle.bits.specs.Bits.{toBits}
 use Rattle.bits.specs.Laws.{length-toBits}
 use Rattle.layout.specs.Layout.{Layout}
@@ -35,7 +35,7 @@ module _ {payload sheet₀ : List ℕ} {total : ℕ} {s₀ : State} {sheet : Lis
   runs : (l : Layout Message) (w : Walks fieldOf stepOf s₀ l) → Reads (toBits payload) pos at sheet (t .on l w .left) (runL l (toBits payload) 0 0 sheet₀)
   runs l w = record { inside = omega (arith, t .inside, t .whole, length-toBits payload); same = t .on l w .same }
 
-  pub row-fault : (why : Refusal) → r ≡ Stopped why → ReadPass payload sheet₀ s₀ (Fault why) sheet'
+  pub row-fault : (why : answer.Fault) → r ≡ Stopped why → ReadPass payload sheet₀ s₀ (Fault why) sheet'
   row-fault why e =
       record { ends = λ l w. sym (row-stopped (reading-turns (toBits payload)) q some read (runs l w) (t .on l w .walks) why e); few = omega arith }
 

@@ -8,6 +8,8 @@ use borrow.Author.Tests.{le-leb, lt-leb, lt-ltb, le-ltb}
 use lib.ListN.{length, take, drop, getD, set, length-set}
 use Rattle.answer.specs.declared.Refusal.{Refusal}
 use Rattle.answer.specs.declared.Refusal.the-variants as refusal
+use Rattle.answer.specs.declared.Fault as answer
+use Rattle.answer.specs.Place.{faultAt}
 use Rattle.bits.specs.Bits.{toBits, number, field, got, leaves}
 use Rattle.bits.specs.Laws.{got-there, length-toBits}
 use Rattle.layout.specs.declared.Field.{Field}
@@ -59,12 +61,15 @@ module _ {payload sheet₀ : List ℕ} {word₀ pos₀ at₀ last₀ total : ℕ
     width-is : f .width ≡ widthIn (word % 256)
     width-is = ap (λ (x : Field). x .width) e
 
-    pub reading-short : total - pos < f .width → Walked (reading (toBits payload)) (cellsIn word₀) pos₀ at₀ last₀ sheet₀ (Stopped refusal.Short) sheet
-    reading-short h =
+    pub reading-short : (r : Ran) → total - pos < f .width → r ≡ Stopped (faultAt refusal.Short (f .sf) pos)
+        → Walked (reading (toBits payload)) (cellsIn word₀) pos₀ at₀ last₀ sheet₀ r sheet
+    reading-short r h q =
         let d : f .width ≡ widthIn (word % 256) = width-is in
         let b : length (toBits payload) ≡ total = bits-length in
         let k = lt-leb (pos + widthIn (word % 256)) (length (toBits payload)) (omega (arith, t .inside)) in
-        record { went = sym (walk-short (reading (toBits payload)) word pos at last sheet some k) ∙ t .on }
+        record {
+          went = ap (λ x. wentBy x sheet) q ∙ ap (λ (x : Field). stopped (faultAt refusal.Short (x .sf) pos) sheet) e ∙ sym (walk-short (reading (toBits payload)) word pos at last sheet some k) ∙ t .on;
+        }
 
     module _ (h : f .width ≤ total - pos) (code : ℕ) (g : code ≡ got payload pos (f .width)) (v : Verdict) (j : v ≡ judge f code) where
       there : reading (toBits payload) .there pos at (widthIn (word % 256)) ≡ true
@@ -82,10 +87,13 @@ module _ {payload sheet₀ : List ℕ} {word₀ pos₀ at₀ last₀ total : ℕ
       verdict-is : judge (fieldIn (word % 256)) code ≡ v
       verdict-is = ap (λ (x : Field). judge x code) (sym e) ∙ sym j
 
-      pub reading-fault : (why : Refusal) → v ≡ verdict.Fault why
-          → Walked (reading (toBits payload)) (cellsIn word₀) pos₀ at₀ last₀ sheet₀ (Stopped why) sheet
-      reading-fault why q =
-          record { went = sym (walk-fault (reading (toBits payload)) word pos at last sheet some code there code-is why (verdict-is ∙ q)) ∙ t .on }
+      pub reading-fault : (r : Ran) (why : Refusal) → v ≡ verdict.Fault why → r ≡ Stopped (faultAt why (f .sf) pos)
+          → Walked (reading (toBits payload)) (cellsIn word₀) pos₀ at₀ last₀ sheet₀ r sheet
+      reading-fault r why q i =
+          record {
+            went = ap (λ x. wentBy x sheet) i ∙ ap (λ (x : Field). stopped (faultAt why (x .sf) pos) sheet) e
+                ∙ sym (walk-fault (reading (toBits payload)) word pos at last sheet some code there code-is why (verdict-is ∙ q)) ∙ t .on;
+          }
 
       pub reading-again : (sheet' : List ℕ) → v ≡ verdict.Taken → sheet' ≡ set sheet at code
           → Reading payload sheet₀ word₀ pos₀ at₀ last₀ total sheet' (word / 256) (pos + f .width) (at + 1) code
@@ -113,19 +121,24 @@ module _ {sheet out₀ : List ℕ} {word₀ pos₀ at₀ last₀ : ℕ} {out : L
   pub writing-done : word ≡ 0 → Walked (writing sheet) (cellsIn word₀) pos₀ at₀ last₀ (toBits out₀) (To pos at last) (toBits out)
   writing-done z = record { went = sym (walk-none (writing sheet) word pos at last (toBits out) z) ∙ t .on }
 
-  module _ (some : word ≡ 0 → ⊥) where
-    pub writing-short : length sheet ≤ at → Walked (writing sheet) (cellsIn word₀) pos₀ at₀ last₀ (toBits out₀) (Stopped refusal.Short) (toBits out)
-    writing-short h = record { went = sym (walk-short (writing sheet) word pos at last (toBits out) some (le-ltb at (length sheet) h)) ∙ t .on }
+  module _ (some : word ≡ 0 → ⊥) (f : Field) (e : f ≡ fieldIn (word % 256)) where
+    pub writing-short : (r : Ran) → length sheet ≤ at → r ≡ Stopped (faultAt refusal.Short (f .sf) at)
+        → Walked (writing sheet) (cellsIn word₀) pos₀ at₀ last₀ (toBits out₀) r (toBits out)
+    writing-short r h q =
+        record {
+          went = ap (λ x. wentBy x (toBits out)) q ∙ ap (λ (x : Field). stopped (faultAt refusal.Short (x .sf) at) (toBits out)) e
+              ∙ sym (walk-short (writing sheet) word pos at last (toBits out) some (le-ltb at (length sheet) h)) ∙ t .on;
+        }
 
-    module _ (h : at < length sheet) (f : Field) (e : f ≡ fieldIn (word % 256)) (v : Verdict) (j : v ≡ judge f (getD sheet at 0)) where
+    module _ (h : at < length sheet) (v : Verdict) (j : v ≡ judge f (getD sheet at 0)) where
       judged-is : judge (fieldIn (word % 256)) (getD sheet at 0) ≡ v
       judged-is = ap (λ (x : Field). judge x (getD sheet at 0)) (sym e) ∙ sym j
 
-      pub writing-fault : (why : Refusal) → v ≡ verdict.Fault why
-          → Walked (writing sheet) (cellsIn word₀) pos₀ at₀ last₀ (toBits out₀) (Stopped why) (toBits out)
-      writing-fault why q =
+      pub writing-fault : (r : Ran) (why : Refusal) → v ≡ verdict.Fault why → r ≡ Stopped (faultAt why (f .sf) at)
+          → Walked (writing sheet) (cellsIn word₀) pos₀ at₀ last₀ (toBits out₀) r (toBits out)
+      writing-fault r why q i =
           record {
-            went = sym (walk-fault (writing sheet) word pos at last (toBits out) some (getD sheet at 0) (lt-ltb at (length sheet) h) refl why (judged-is ∙ q)) ∙ t .on;
+            went = ap (λ x. wentBy x (toBits out)) i ∙ ap (λ (x : Field). stopped (faultAt why (x .sf) at) (toBits out)) e ∙ sym (walk-fault (writing sheet) word pos at last (toBits out) some (getD sheet at 0) (lt-ltb at (length sheet) h) refl why (judged-is ∙ q)) ∙ t .on;
           }
 
       pub writing-again : (out' : List ℕ) (pos' : ℕ) → v ≡ verdict.Taken → length out' ≡ length out → toBits out' ≡ leaves out pos (f .width) (getD sheet at 0)
@@ -161,7 +174,7 @@ module _ {way : Way} {group tail more₀ pos₀ at₀ : ℕ} {lent₀ : List ℕ
       ap (λ x. then x (λ p a l s. walk way (again more (cellsIn group) (cellsIn tail)) p a l s)) (walked .went)
       ∙ sym (walk-append way (cellsIn group) (again more (cellsIn group) (cellsIn tail)) pos at last lent) ∙ t .on
 
-  pub rounds-fault : (why : Refusal) → r ≡ Stopped why → Walked way (again (suc more₀) (cellsIn group) (cellsIn tail)) pos₀ at₀ 0 lent₀ (Stopped why) lent₁
+  pub rounds-fault : (why : answer.Fault) → r ≡ Stopped why → Walked way (again (suc more₀) (cellsIn group) (cellsIn tail)) pos₀ at₀ 0 lent₀ (Stopped why) lent₁
   rounds-fault why e = record { went = rw e at after-group }
 
   module _ (p a l : ℕ) (e : r ≡ To p a l) where
@@ -218,7 +231,7 @@ module _ {way : Way} {Run : (pos at : ℕ) (lent : List ℕ) → Layout Message 
       subst (Follows fieldOf stepOf way Run here (stepOf (lastOf s))) (sym (walked .went))
       (along-walk fieldOf stepOf way Run turns (cellsOf row) pos at 0 lent run walks (row-along q some))
 
-  pub row-stopped : (why : Refusal) → r ≡ Stopped why → here ≡ ended.stopped why
+  pub row-stopped : (why : answer.Fault) → r ≡ Stopped why → here ≡ ended.stopped why
   row-stopped why e = go (subst (λ x. Follows fieldOf stepOf way Run here (stepOf (lastOf s)) (wentBy x lent')) e follows)
     where
       go : Follows fieldOf stepOf way Run here (stepOf (lastOf s)) (stopped why lent') → here ≡ ended.stopped why

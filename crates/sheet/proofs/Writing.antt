@@ -12,6 +12,9 @@ use borrow.Author.Tests.{lt-ltb, le-ltb, ltb-true, ltb-false, ne-eqb}
 use Rattle.sizes.specs.Sizes.{longestPayload}
 use Rattle.answer.specs.declared.Refusal.{Refusal}
 use Rattle.answer.specs.declared.Refusal.the-variants as refusal
+use Rattle.answer.specs.declared.Fault as answer
+use Rattle.answer.specs.Place.{nowhere, faultAt, further}
+use Rattle.answer.specs.Further.{further-none}
 use Rattle.bits.specs.Bits.{toBits, bitsOf, leaves}
 use Rattle.bits.specs.Laws.{leaves-there, length-toBits, length-bitsOf, toBits-append, toBits-take, toBits-drop}
 use Rattle.layout.specs.declared.Field.{Field}
@@ -66,9 +69,9 @@ turn-first sheet out s =
       };
     }
 
-pub ended-fault : (o : Written) (n : ℕ) (why : Refusal) (out out' : List ℕ) → endedW o n 0 0 (toBits out) ≡ stopped why → PutBy out out' o (Fault why)
+pub ended-fault : (o : Written) (n : ℕ) (why : answer.Fault) (out out' : List ℕ) → endedW o n 0 0 (toBits out) ≡ stopped why → PutBy out out' o (Fault why)
 ended-fault (written bs) n why out out' e = let z : _≡_ {A = ℕ} 0 1 = cc in absurd (omega arith)
-ended-fault (unwritten why') n why out out' e = let q : why' ≡ why = cc in subst (λ x. PutBy out out' (unwritten x) (Fault why)) (sym q) fault
+ended-fault (unwritten why') n why out out' e = let z : further 0 why' ≡ why = cc in let q : why' ≡ why = sym (further-none why') ∙ z in subst (λ x. PutBy out out' (unwritten x) (Fault why)) (sym q) fault
 
 ended-whole : (o : Written) (n entries count place : ℕ) (bits out out' : List ℕ) → endedW o n 0 0 (toBits out) ≡ finished entries place bits → Counted count place
     → (place ≤ 8 * longestPayload → place ≤ 8 * length out → toBits out' ≡ bits) → PutBy out out' o (Whole entries count)
@@ -85,7 +88,7 @@ module _ {sheet out₀ : List ℕ} {s₀ : State} {out : List ℕ} {s : State} {
   width-is : fieldOf s .width ≡ f .width
   width-is = ap (λ (x : Field). x .width) (sym e)
 
-  stops : (why : Refusal) → ((place : ℕ) (bits : List ℕ) (l : Layout Message) → Walks fieldOf stepOf s l → putL l (drop at sheet) place at bits ≡ stopped why)
+  stops : (why : answer.Fault) → ((place : ℕ) (bits : List ℕ) (l : Layout Message) → Walks fieldOf stepOf s l → putL l (drop at sheet) place at bits ≡ stopped why)
       → WritePass sheet out₀ s₀ (Fault why) out
   stops why h =
       record {
@@ -95,8 +98,8 @@ module _ {sheet out₀ : List ℕ} {s₀ : State} {out : List ℕ} {s : State} {
         small = omega arith;
       }
 
-  pub turn-over : f .width ≡ 0 → at < length sheet → WritePass sheet out₀ s₀ (Fault refusal.Leftover) out
-  turn-over z h = stops refusal.Leftover (λ place bits l w. put-over sheet place at bits w (width-is ∙ z) h)
+  pub turn-over : f .width ≡ 0 → at < length sheet → WritePass sheet out₀ s₀ (Fault (nowhere refusal.Leftover)) out
+  turn-over z h = stops (nowhere refusal.Leftover) (λ place bits l w. put-over sheet place at bits w (width-is ∙ z) h)
 
   pub turn-done : f .width ≡ 0 → length sheet ≤ at → WritePass sheet out₀ s₀ (Whole at pos) out
   turn-done z h =
@@ -109,10 +112,14 @@ module _ {sheet out₀ : List ℕ} {s₀ : State} {out : List ℕ} {s : State} {
         small = t .small;
       }
 
-  pub turn-short : (f .width ≡ 0 → ⊥) → length sheet ≤ at → WritePass sheet out₀ s₀ (Fault refusal.Short) out
-  turn-short z h =
+  short-here : (f .width ≡ 0 → ⊥) → length sheet ≤ at → WritePass sheet out₀ s₀ (Fault (faultAt refusal.Short (f .sf) at)) out
+  short-here z h =
       let d : fieldOf s .width ≡ f .width = width-is in
-      stops refusal.Short (λ place bits l w. put-short sheet place at bits w (omega arith) (omega (arith, t .inside)))
+      stops (faultAt refusal.Short (f .sf) at) (λ place bits l w. put-short sheet place at bits w (omega arith) (omega (arith, t .inside))
+      ∙ ap (λ (x : Field). stopped (faultAt refusal.Short (x .sf) at)) (sym e))
+
+  pub turn-short : (r : Pass) → (f .width ≡ 0 → ⊥) → length sheet ≤ at → r ≡ Fault (faultAt refusal.Short (f .sf) at) → WritePass sheet out₀ s₀ r out
+  turn-short r z h i = subst (λ x. WritePass sheet out₀ s₀ x out) (sym i) (short-here z h)
 
   module _ (z : f .width ≡ 0 → ⊥) (h : at < length sheet) (v : Verdict) (j : v ≡ judge f (getD sheet at 0)) where
     abbrev code : ℕ
@@ -121,10 +128,14 @@ module _ {sheet out₀ : List ℕ} {s₀ : State} {out : List ℕ} {s : State} {
     verdict-is : judge (fieldOf s) code ≡ v
     verdict-is = ap (λ (x : Field). judge x code) (sym e) ∙ sym j
 
-    pub turn-fault : (why : Refusal) → v ≡ verdict.Fault why → WritePass sheet out₀ s₀ (Fault why) out
-    turn-fault why q =
+    fault-here : (why : Refusal) → v ≡ verdict.Fault why → WritePass sheet out₀ s₀ (Fault (faultAt why (f .sf) at)) out
+    fault-here why q =
         let d : fieldOf s .width ≡ f .width = width-is in
-        stops why (λ place bits l w. put-fault sheet place at bits code why w (omega arith) h refl (verdict-is ∙ q))
+        stops (faultAt why (f .sf) at) (λ place bits l w. put-fault sheet place at bits code why w (omega arith) h refl (verdict-is ∙ q)
+        ∙ ap (λ (x : Field). stopped (faultAt why (x .sf) at)) (sym e))
+
+    pub turn-fault : (r : Pass) (why : Refusal) → v ≡ verdict.Fault why → r ≡ Fault (faultAt why (f .sf) at) → WritePass sheet out₀ s₀ r out
+    turn-fault r why q i = subst (λ x. WritePass sheet out₀ s₀ x out) (sym i) (fault-here why q)
 
     pub turn-again : (out' : List ℕ) (pos' : ℕ) (s' : State) → v ≡ verdict.Taken → length out' ≡ length out → toBits out' ≡ leaves out pos (f .width) code
         → (pos' ≡ onward pos (f .width)) × (pos < 2 ^ 33 → pos' < 2 ^ 33) → s' ≡ stepOf s code → Turn sheet out₀ s₀ out' s' pos' (at + 1)
@@ -176,13 +187,13 @@ exact-by count bits c h = go (ltb (8 * longestPayload) bits) refl
     go false p = let a : bits ≤ 8 * longestPayload = ltb-false (8 * longestPayload) bits p in (c .exact a, a)
 
 -- what a pass says is the answer
-judged-fault : (o : Written) (pass : Pass) (none none' : List ℕ) (why : Refusal) → PutBy none' none o pass → pass ≡ Fault why
+judged-fault : (o : Written) (pass : Pass) (none none' : List ℕ) (why : answer.Fault) → PutBy none' none o pass → pass ≡ Fault why
     → writer.Refused why ≡ writeAnswerBy (thenLength o)
 judged-fault (unwritten w) (Fault v) none none' why fault e = let q : w ≡ why = cc in ap (λ x. writer.Refused x) (sym q)
 judged-fault (written bs) (Whole n m) none none' why (whole c h) e = let z : _≡_ {A = ℕ} 0 1 = cc in absurd (omega arith)
 
 judged-length : (o : Written) (pass : Pass) (none none' : List ℕ) (entries count : ℕ) → PutBy none' none o pass → pass ≡ Whole entries count
-    → badLength (bytesFor count) ≡ true → writer.Refused refusal.Length ≡ writeAnswerBy (thenLength o)
+    → badLength (bytesFor count) ≡ true → writer.Refused (nowhere refusal.Length) ≡ writeAnswerBy (thenLength o)
 judged-length (unwritten w) (Fault v) none none' entries count fault e b = let z : _≡_ {A = ℕ} 0 1 = cc in absurd (omega arith)
 judged-length (written bs) (Whole n m) none none' entries count (whole c h) e b =
     let q : m ≡ count = cc in
@@ -202,7 +213,7 @@ aside-by (written bs) (Whole n m) aside aside' (whole c h) = text h
 aside-by (unwritten w) (Fault v) aside aside' fault = nothing
 
 module _ {sheet aside : List ℕ} {start : State} (dry : Pass) (aside' : List ℕ) (p : WritePass sheet aside start dry aside') where
-  pub keep-fault : (why : Refusal) → dry ≡ Fault why → SheetKept sheet aside start (writer.Refused why) aside'
+  pub keep-fault : (why : answer.Fault) → dry ≡ Fault why → SheetKept sheet aside start (writer.Refused why) aside'
   keep-fault why e =
       record {
         judged = record { answers = λ l w. judged-fault (writeL l sheet) dry aside' aside why (p .puts l w) e; round = refl; good = omega arith };
@@ -210,7 +221,7 @@ module _ {sheet aside : List ℕ} {start : State} (dry : Pass) (aside' : List �
       }
 
   module _ (entries count : ℕ) (e : dry ≡ Whole entries count) (b : Bool) (m : b ≡ badLength (bytesFor count)) where
-    pub keep-length : b ≡ true → SheetKept sheet aside start (writer.Refused refusal.Length) aside'
+    pub keep-length : b ≡ true → SheetKept sheet aside start (writer.Refused (nowhere refusal.Length)) aside'
     keep-length n =
         record {
           judged = record {
@@ -238,7 +249,7 @@ kept-judged k = k .judged
 
 -- a refusal leaves the bytes; the bits kept aside are copied, with the fill behind them
 module _ (out : List ℕ) where
-  refused-leaves : (o : Written) (why : Refusal) → writer.Refused why ≡ writeAnswerBy o → toBits out ≡ outBy o out
+  refused-leaves : (o : Written) (why : answer.Fault) → writer.Refused why ≡ writeAnswerBy o → toBits out ≡ outBy o out
   refused-leaves (unwritten w) why e = refl
   refused-leaves (written bs) why e = let z : _≡_ {A = ℕ} 0 1 = cc in absurd (omega arith)
 
@@ -262,7 +273,7 @@ module _ (out : List ℕ) where
   stored-leaves (written bs) out₁ out₂ bits bytes e room same (text h) p = go (badLength (bytesFor (length bs))) refl
     where
       go : (x : Bool) → badLength (bytesFor (length bs)) ≡ x → toBits out₂ ≡ outBy (thenLength (written bs)) out
-      go true k = let z : writer.Written bits bytes ≡ writer.Refused refusal.Length = rw k at e in let y : _≡_ {A = ℕ} 0 1 = cc in absurd (omega arith)
+      go true k = let z : writer.Written bits bytes ≡ writer.Refused (nowhere refusal.Length) = rw k at e in let y : _≡_ {A = ℕ} 0 1 = cc in absurd (omega arith)
       go false k =
           let z : writer.Written bits bytes ≡ writer.Written (length bs) (bytesFor (length bs)) = rw k at e in
           let i : bits ≡ length bs = cc in
@@ -287,7 +298,7 @@ copied-leaves (written bs) aside aside' out bits bytes e few room k p =
     ∙ append-assoc bs fill (drop (8 * bytesFor n) (toBits out))
 
 module _ {sheet aside : List ℕ} {start : State} (judged : WriteAnswer) (aside' : List ℕ) (p : SheetKept sheet aside start judged aside') where
-  pub whole-refused : {out : List ℕ} (why : Refusal) → judged ≡ writer.Refused why → WriteWhole sheet out start (writer.Refused why) out
+  pub whole-refused : {out : List ℕ} (why : answer.Fault) → judged ≡ writer.Refused why → WriteWhole sheet out start (writer.Refused why) out
   whole-refused {out} why e =
       record {
         answers = λ l w. sym e ∙ p .judged .answers l w;
@@ -347,8 +358,8 @@ module _ (kind subtype : ℕ) (sheet : List ℕ) where
   unfolding judgedSheet
   is-judged o e = ap writeAnswerBy (sym e)
 
-  pub judge-unknown : (x : Start) → x ≡ startOf kind subtype → x ≡ Unknown → writer.Refused refusal.UnknownType ≡ judgedSheet kind subtype sheet
-  judge-unknown x e q = is-judged (unwritten refusal.UnknownType) (judging-sheet-with kind subtype sheet (not-started kind subtype x e q))
+  pub judge-unknown : (x : Start) → x ≡ startOf kind subtype → x ≡ Unknown → writer.Refused (nowhere refusal.UnknownType) ≡ judgedSheet kind subtype sheet
+  judge-unknown x e q = is-judged (unwritten (nowhere refusal.UnknownType)) (judging-sheet-with kind subtype sheet (not-started kind subtype x e q))
 
   pub judge-known : (x : Start) (start : State) → x ≡ startOf kind subtype → x ≡ Known start → (r : WriteAnswer) → SheetJudged sheet start r
       → r ≡ judgedSheet kind subtype sheet
@@ -372,12 +383,12 @@ module _ (kind subtype : ℕ) (sheet out : List ℕ) where
   unfolding writeAnswer outAfter
   meets o out' e p = record { says = ap writeAnswerBy (sym e); leaves = p ∙ ap (λ x. outBy x out) (sym e) }
 
-  pub write-room : length out < longestPayload → Met kind subtype sheet out (writer.Refused refusal.Room) out
-  write-room h = meets (unwritten refusal.Room) out (writing-with kind subtype sheet out (lt-ltb (length out) longestPayload h) refl) refl
+  pub write-room : length out < longestPayload → Met kind subtype sheet out (writer.Refused (nowhere refusal.Room)) out
+  write-room h = meets (unwritten (nowhere refusal.Room)) out (writing-with kind subtype sheet out (lt-ltb (length out) longestPayload h) refl) refl
 
   module _ (room : longestPayload ≤ length out) where
-    pub write-unknown : (x : Start) → x ≡ startOf kind subtype → x ≡ Unknown → Met kind subtype sheet out (writer.Refused refusal.UnknownType) out
-    write-unknown x e q = meets (unwritten refusal.UnknownType) out (writing-with kind subtype sheet out (le-ltb (length out) longestPayload room) (not-started kind subtype x e q)) refl
+    pub write-unknown : (x : Start) → x ≡ startOf kind subtype → x ≡ Unknown → Met kind subtype sheet out (writer.Refused (nowhere refusal.UnknownType)) out
+    write-unknown x e q = meets (unwritten (nowhere refusal.UnknownType)) out (writing-with kind subtype sheet out (le-ltb (length out) longestPayload room) (not-started kind subtype x e q)) refl
 
     pub write-known : (x : Start) (start : State) → x ≡ startOf kind subtype → x ≡ Known start → (r : WriteAnswer) (out' : List ℕ)
         → WriteWhole sheet out start r out' → Met kind subtype sheet out r out'

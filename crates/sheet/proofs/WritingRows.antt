@@ -4,7 +4,7 @@ use mathlib.Core.List.{List}
 use Prim.Native.Nat.{ℕ, _+_, _-_, _≤_, _<_}
 use native.Mathlib.Omega.{arith}
 use lib.ListN.{length}
-use Rattle.answer.specs.declared.Refusal.{Refusal}
+use Rattle.answer.specs.declared.Fault as answer
 use Rattle.bits.specs.Bits.{toBits}
 use Rattle.layout.specs.Layout.{Layout, writeL}
 use Rattle.layout.specs.Put.{putL, put-writes}
@@ -32,7 +32,7 @@ module _ {sheet out₀ : List ℕ} {s₀ : State} {out : List ℕ} {s : State} {
       let o = t .on l w in
       record { place = o .place; bits = o .bits; kept = o .kept; inside = t .inside; same = o .on .same }
 
-  pub row-fault : (why : Refusal) → r ≡ Stopped why → WritePass sheet out₀ s₀ (Fault why) out'
+  pub row-fault : (why : answer.Fault) → r ≡ Stopped why → WritePass sheet out₀ s₀ (Fault why) out'
   row-fault why e =
       record {
         puts = λ l w. ended-fault (writeL l sheet) (length sheet) why out₀ out'

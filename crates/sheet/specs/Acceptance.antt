@@ -11,6 +11,7 @@ use lib.ListN.{length, take, drop, take-append-drop}
 use lib.Seq.{take-at}
 use Rattle.sizes.specs.Sizes.{longestPayload, sheetRoom}
 use Rattle.answer.specs.Stop.{stop}
+use Rattle.answer.specs.Place.{nowhere}
 use Rattle.answer.specs.declared.Refusal.the-variants as refusal
 use Rattle.bits.specs.Bits.{toBits}
 use Rattle.bits.specs.Laws.{length-toBits, bits-toBits}
@@ -33,15 +34,15 @@ use Rattle.sheet.specs.declared.WriteAnswer.the-variants as writer
 
 -- ---- every layout is walked by the machine, so its fields are as every reader and writer wants them
 
-record Walked (l : Layout Message) : Type 0 where
-  from : State
-  walks : Walks fieldOf stepOf from l
+pub record Walked (l : Layout Message) : Type 0 where
+  pub from : State
+  pub walks : Walks fieldOf stepOf from l
 
 walked-by : {x : Start} {p : Part (Layout Message)} → Starts x p → (l : Layout Message) → p ≡ present l → Walked l
 walked-by (known {s = s} {l = m} w) l e = let same : m ≡ l = cc in subst Walked same (record { from = s; walks = w })
 walked-by unknown l e = let z : _≡_ {A = ℕ} 0 1 = cc in absurd (omega arith)
 
-walked : (kind subtype : ℕ) (l : Layout Message) → layoutFor kind subtype ≡ present l → Walked l
+pub walked : (kind subtype : ℕ) (l : Layout Message) → layoutFor kind subtype ≡ present l → Walked l
 walked kind subtype l e = walked-by (starts kind subtype) l e
 
 -- ---- writing
@@ -169,9 +170,9 @@ entries-few kind subtype payload sheet bits entries e =
 pub judges-as-read : (kind subtype : ℕ) (payload sheet : List ℕ) → sheetRoom ≤ length sheet → judged kind subtype payload ≡ readAnswer kind subtype payload sheet
 unfolding judged readAnswer reading
 judges-as-read kind subtype payload sheet room =
-    ap (λ b. readAnswerBy (stop b (refused refusal.Room) (judging kind subtype payload))) (sym (le-ltb (length sheet) sheetRoom room))
+    ap (λ b. readAnswerBy (stop b (refused (nowhere refusal.Room)) (judging kind subtype payload))) (sym (le-ltb (length sheet) sheetRoom room))
 
 pub judges-as-written : (kind subtype : ℕ) (sheet out : List ℕ) → longestPayload ≤ length out → judgedSheet kind subtype sheet ≡ writeAnswer kind subtype sheet out
 unfolding judgedSheet writeAnswer writing
 judges-as-written kind subtype sheet out room =
-    ap (λ b. writeAnswerBy (stop b (unwritten refusal.Room) (judgingSheet kind subtype sheet))) (sym (le-ltb (length out) longestPayload room))
+    ap (λ b. writeAnswerBy (stop b (unwritten (nowhere refusal.Room)) (judgingSheet kind subtype sheet))) (sym (le-ltb (length out) longestPayload room))

@@ -8,6 +8,7 @@ use lib.Dec.{eqb, ltb, leb}
 use lib.ListN.{length, take, drop}
 use borrow.Author.Tests.{le-ltb, ltb-false, ne-eqb, eqb-false}
 use Rattle.sizes.specs.Sizes.{longestPayload, sheetRoom}
+use Rattle.answer.specs.Place.{nowhere}
 use Rattle.answer.specs.declared.Refusal.the-variants as refusal
 use Rattle.codes.specs.declared.Constellation.{Constellation}
 use Rattle.codes.specs.declared.Constellation.the-variants.{Gps, Glonass, Galileo, BeiDou, Qzss}
@@ -41,7 +42,7 @@ some-good bytes h k = rw (ne-eqb bytes 0 h, le-ltb longestPayload bytes k)
 -- ---- a message has a bit
 
 pub data Begins : Part (Layout Message) → Type 0 where
-  nowhere : Begins absent
+  no-layout : Begins absent
   begins : {f : Field} {next : ℕ → Layout Message} → 0 < f .width → Begins (present (field f next))
 
 begins-by : (l : Constellation → Layout Message) → ((c : Constellation) → Begins (present (l c))) → (subtype : ℕ) → Begins (byConstellation l (constellationOf subtype))
@@ -54,7 +55,7 @@ begins-by l h subtype = go (eqb subtype 0) (eqb subtype 1) (eqb subtype 2) (eqb 
     go false false true d e = h Galileo
     go false false false true e = h BeiDou
     go false false false false true = h Qzss
-    go false false false false false = nowhere
+    go false false false false false = no-layout
 
 begins-pick : (b : Bool) {l m : Part (Layout Message)} → Begins l → Begins m → Begins (pick b l m)
 begins-pick true p q = p
@@ -65,24 +66,24 @@ unfolding sf lineOf find table
 begins-for kind subtype =
     begins-pick (eqb kind 0) (begins-by ocbLayout (λ c. begins (omega arith)) subtype) (
     begins-pick (eqb kind 1) (begins-by hpacLayout (λ c. begins (omega arith)) subtype) (
-    begins-pick (eqb kind 2) (begins-pick (eqb subtype 0) (begins (omega arith)) nowhere) (
-    begins-pick (eqb kind 3) (begins-pick (eqb subtype 0) (begins (omega arith)) nowhere)
-    nowhere)))
+    begins-pick (eqb kind 2) (begins-pick (eqb subtype 0) (begins (omega arith)) no-layout) (
+    begins-pick (eqb kind 3) (begins-pick (eqb subtype 0) (begins (omega arith)) no-layout)
+    no-layout)))
 
-first-read : (w c : ℕ) (b : Bool) (v : Verdict) (o : Outcome Message) {m : Message} {cs : List ℕ} {n : ℕ} → enough b (judged v (before c w o)) ≡ accepted m cs n → w ≤ n
-first-read w c true Taken (accepted m' cs' n') {m} {cs} {n} e = let q : w + n' ≡ n = cc in omega arith
-first-read w c true Taken (refused why) e = let z : _≡_ {A = ℕ} 0 1 = cc in absurd (omega arith)
-first-read w c true (Fault why) o e = let z : _≡_ {A = ℕ} 0 1 = cc in absurd (omega arith)
-first-read w c false v o e = let z : _≡_ {A = ℕ} 0 1 = cc in absurd (omega arith)
+first-read : (w c sf : ℕ) (b : Bool) (v : Verdict) (o : Outcome Message) {m : Message} {cs : List ℕ} {n : ℕ} → enough sf b (judged sf v (before c w o)) ≡ accepted m cs n → w ≤ n
+first-read w c sf true Taken (accepted m' cs' n') {m} {cs} {n} e = let q : w + n' ≡ n = cc in omega arith
+first-read w c sf true Taken (refused why) e = let z : _≡_ {A = ℕ} 0 1 = cc in absurd (omega arith)
+first-read w c sf true (Fault why) o e = let z : _≡_ {A = ℕ} 0 1 = cc in absurd (omega arith)
+first-read w c sf false v o e = let z : _≡_ {A = ℕ} 0 1 = cc in absurd (omega arith)
 
 pub has-bit : (p : Part (Layout Message)) → Begins p → (l : Layout Message) (bits cs : List ℕ) (n : ℕ) {m : Message} → p ≡ present l → readL l bits ≡ accepted m cs n → 0 < n
 unfolding readL
-has-bit absent nowhere l bits cs n e r = let z : _≡_ {A = ℕ} 0 1 = cc in absurd (omega arith)
+has-bit absent no-layout l bits cs n e r = let z : _≡_ {A = ℕ} 0 1 = cc in absurd (omega arith)
 has-bit (present (field f next)) (begins h) l bits cs n {m} e r =
     let q : field f next ≡ l = cc in
     let r' : readL (field f next) bits ≡ accepted m cs n = ap (λ x. readL x bits) q ∙ r in
     let k : f .width ≤ n
-    = first-read (f .width) (number (take (f .width) bits)) (leb (f .width) (length bits)) (judge f (number (take (f .width) bits)))
+    = first-read (f .width) (number (take (f .width) bits)) (f .sf) (leb (f .width) (length bits)) (judge f (number (take (f .width) bits)))
     (readL (next (number (take (f .width) bits))) (drop (f .width) bits)) r' in
     omega arith
 
@@ -90,8 +91,8 @@ has-bit (present (field f next)) (begins h) l bits cs n {m} e r =
 
 abbrev pub judgingWith : (payload : List ℕ) (p : Part (Layout Message)) (bad : Bool) → Outcome Message
 judgingWith payload p bad =
-    known p (refused refusal.UnknownType) (λ layout.
-    stop bad (refused refusal.Length) (
+    known p (refused (nowhere refusal.UnknownType)) (λ layout.
+    stop bad (refused (nowhere refusal.Length)) (
     readL layout (toBits payload)))
 
 pub judging-with : (kind subtype : ℕ) (payload : List ℕ) {bad : Bool} {p : Part (Layout Message)} → layoutFor kind subtype ≡ p → badLength (length payload) ≡ bad
@@ -100,16 +101,16 @@ unfolding judging
 judging-with kind subtype payload a b = ap₂ (judgingWith payload) a b
 
 abbrev pub readingWith : (payload : List ℕ) (short : Bool) (p : Part (Layout Message)) (bad : Bool) → Outcome Message
-readingWith payload short p bad = stop short (refused refusal.Room) (judgingWith payload p bad)
+readingWith payload short p bad = stop short (refused (nowhere refusal.Room)) (judgingWith payload p bad)
 
 pub reading-with : (kind subtype : ℕ) (payload sheet : List ℕ) {short bad : Bool} {p : Part (Layout Message)} → ltb (length sheet) sheetRoom ≡ short
     → layoutFor kind subtype ≡ p → badLength (length payload) ≡ bad → reading kind subtype payload sheet ≡ readingWith payload short p bad
 unfolding reading
-reading-with kind subtype payload sheet a b c = ap₂ (λ x y. stop x (refused refusal.Room) y) a (judging-with kind subtype payload b c)
+reading-with kind subtype payload sheet a b c = ap₂ (λ x y. stop x (refused (nowhere refusal.Room)) y) a (judging-with kind subtype payload b c)
 
 abbrev pub judgingSheetWith : (sheet : List ℕ) (p : Part (Layout Message)) → Written
 judgingSheetWith sheet p =
-    known p (unwritten refusal.UnknownType) (λ layout.
+    known p (unwritten (nowhere refusal.UnknownType)) (λ layout.
     thenLength (writeL layout sheet))
 
 pub judging-sheet-with : (kind subtype : ℕ) (sheet : List ℕ) {p : Part (Layout Message)} → layoutFor kind subtype ≡ p
@@ -118,12 +119,12 @@ unfolding judgingSheet
 judging-sheet-with kind subtype sheet a = ap (judgingSheetWith sheet) a
 
 abbrev pub writingWith : (sheet : List ℕ) (short : Bool) (p : Part (Layout Message)) → Written
-writingWith sheet short p = stop short (unwritten refusal.Room) (judgingSheetWith sheet p)
+writingWith sheet short p = stop short (unwritten (nowhere refusal.Room)) (judgingSheetWith sheet p)
 
 pub writing-with : (kind subtype : ℕ) (sheet out : List ℕ) {short : Bool} {p : Part (Layout Message)} → ltb (length out) longestPayload ≡ short
     → layoutFor kind subtype ≡ p → writing kind subtype sheet out ≡ writingWith sheet short p
 unfolding writing
-writing-with kind subtype sheet out a b = ap₂ (λ x y. stop x (unwritten refusal.Room) y) a (judging-sheet-with kind subtype sheet b)
+writing-with kind subtype sheet out a b = ap₂ (λ x y. stop x (unwritten (nowhere refusal.Room)) y) a (judging-sheet-with kind subtype sheet b)
 
 -- ---- what a success says
 
@@ -205,13 +206,13 @@ was-written kind subtype sheet out bits bytes e =
     last l (unwritten why) p r w y k s e = let z : _≡_ {A = ℕ} 0 1 = cc in absurd (omega arith)
     last l (written text) p r w true k s e =
         let g : badLength (bytesFor (length text)) ≡ true = k text refl in
-        let e' : writer.Refused refusal.Length ≡ writer.Written bits bytes
-        = ap (λ x. writeAnswerBy (stop x (unwritten refusal.Length) (written text))) (sym g) ∙ e in
+        let e' : writer.Refused (nowhere refusal.Length) ≡ writer.Written bits bytes
+        = ap (λ x. writeAnswerBy (stop x (unwritten (nowhere refusal.Length)) (written text))) (sym g) ∙ e in
         let z : _≡_ {A = ℕ} 0 1 = cc in absurd (omega arith)
     last l (written text) p r w false k s e =
         let g : badLength (bytesFor (length text)) ≡ false = k text refl in
         let e' : writer.Written (length text) (bytesFor (length text)) ≡ writer.Written bits bytes
-        = ap (λ x. writeAnswerBy (stop x (unwritten refusal.Length) (written text))) (sym g) ∙ e in
+        = ap (λ x. writeAnswerBy (stop x (unwritten (nowhere refusal.Length)) (written text))) (sym g) ∙ e in
         let b : bytesFor (length text) ≡ bytes = cc in
         record {
           layout = l;
@@ -222,7 +223,7 @@ was-written kind subtype sheet out bits bytes e =
           room = r;
           count = cc;
           round = sym b;
-          leaves = s ∙ ap (λ x. outBy (stop x (unwritten refusal.Length) (written text)) out) g;
+          leaves = s ∙ ap (λ x. outBy (stop x (unwritten (nowhere refusal.Length)) (written text)) out) g;
         }
 
     go : (x : Bool) (p : Part (Layout Message)) → ltb (length out) longestPayload ≡ x → layoutFor kind subtype ≡ p → WasWritten kind subtype sheet out bits bytes
@@ -253,5 +254,5 @@ pub writes-so : (kind subtype : ℕ) (sheet out : List ℕ) (l : Layout Message)
 unfolding writeAnswer outAfter
 writes-so kind subtype sheet out l text p w room good =
     let e : writing kind subtype sheet out ≡ written text
-    = writing-with kind subtype sheet out (le-ltb (length out) longestPayload room) p ∙ ap thenLength w ∙ ap (λ x. stop x (unwritten refusal.Length) (written text)) good in
+    = writing-with kind subtype sheet out (le-ltb (length out) longestPayload room) p ∙ ap thenLength w ∙ ap (λ x. stop x (unwritten (nowhere refusal.Length)) (written text)) good in
     (ap writeAnswerBy e, ap (λ x. outBy x out) e)

@@ -5,3 +5,4 @@ pub mod Determined
 pub mod Laws
 pub mod Theorems
 pub mod Acceptance
+pub mod Places

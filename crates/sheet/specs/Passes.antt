@@ -6,7 +6,7 @@ use lib.Dec.{ltb}
 use lib.ListN.{length, drop}
 use lib.Seq.{sets}
 use Rattle.sizes.specs.Sizes.{longestPayload}
-use Rattle.answer.specs.declared.Refusal.{Refusal}
+use Rattle.answer.specs.declared.Fault as answer
 use Rattle.bits.specs.Bits.{toBits}
 use Rattle.layout.specs.Layout.{Layout, Outcome, accepted, refused, readL, Written, written, unwritten, writeL}
 use Rattle.layout.specs.Run.{Ended, finished, stopped, runL}
@@ -56,7 +56,7 @@ pub record ReadJudged (payload : List ℕ) (start : State) (answer : ReadAnswer)
 -- what is kept aside of an accepted message: its codes, as far as there is room
 pub data Aside (aside aside' : List ℕ) : Outcome Message → Type 0 where
   codes : {message : Message} {cs : List ℕ} {n : ℕ} → aside' ≡ sets aside 0 cs → Aside aside aside' (accepted message cs n)
-  nothing : {why : Refusal} → Aside aside aside' (refused why)
+  nothing : {why : answer.Fault} → Aside aside aside' (refused why)
 
 -- a payload judged, and its codes kept aside
 pub record ReadKept (payload aside : List ℕ) (start : State) (answer : ReadAnswer) (aside' : List ℕ) : Type 0 where
@@ -75,7 +75,7 @@ pub data PutBy (out out' : List ℕ) : Written → Pass → Type 0 where
   whole : {bits : List ℕ} {entries count : ℕ} → Counted count (length bits)
       → (length bits ≤ 8 * longestPayload → length bits ≤ 8 * length out → toBits out' ≡ bits ++ drop (length bits) (toBits out))
       → PutBy out out' (written bits) (Whole entries count)
-  fault : {why : Refusal} → PutBy out out' (unwritten why) (Fault why)
+  fault : {why : answer.Fault} → PutBy out out' (unwritten why) (Fault why)
 
 pub record WritePass (sheet out : List ℕ) (start : State) (pass : Pass) (out' : List ℕ) : Type 0 where
   pub puts : ForLayout start (λ l. PutBy out out' (writeL l sheet) pass)
@@ -99,7 +99,7 @@ pub record SheetJudged (sheet : List ℕ) (start : State) (answer : WriteAnswer)
 pub data AsideBits (aside aside' : List ℕ) : Written → Type 0 where
   text : {bits : List ℕ} → (length bits ≤ 8 * longestPayload → length bits ≤ 8 * length aside → toBits aside' ≡ bits ++ drop (length bits) (toBits aside))
       → AsideBits aside aside' (written bits)
-  nothing : {why : Refusal} → AsideBits aside aside' (unwritten why)
+  nothing : {why : answer.Fault} → AsideBits aside aside' (unwritten why)
 
 -- a sheet judged, and its bits kept aside
 pub record SheetKept (sheet aside : List ℕ) (start : State) (answer : WriteAnswer) (aside' : List ℕ) : Type 0 where

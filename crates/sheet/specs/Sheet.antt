@@ -7,6 +7,7 @@ use lib.ListN.{length, drop}
 use Rattle.sizes.specs.Sizes.{longestPayload, sheetRoom}
 use Rattle.answer.specs.Stop.{stop}
 use Rattle.answer.specs.Number.{numberOf}
+use Rattle.answer.specs.Place.{nowhere}
 use Rattle.answer.specs.declared.Refusal.the-variants.{Length, UnknownType, Room}
 use Rattle.bits.specs.Bits.{toBits, bitsOf}
 use Rattle.layout.specs.Layout.{Layout, Outcome, accepted, refused, readL, Written, written, unwritten, writeL}
@@ -31,15 +32,15 @@ known (present layout) refusal rest = rest layout
 -- what a payload of a type and subtype says: "UNKNOWN_TYPE, LENGTH, then the first fault in reading order"
 unfoldable pub judging : (kind subtype : ℕ) (payload : List ℕ) → Outcome Message
 judging kind subtype payload =
-    known (layoutFor kind subtype) (refused UnknownType) (λ layout.
-    stop (badLength (length payload)) (refused Length) (
+    known (layoutFor kind subtype) (refused (nowhere UnknownType)) (λ layout.
+    stop (badLength (length payload)) (refused (nowhere Length)) (
     readL layout (toBits payload)))
 
 -- "Reading order of checks: ROOM, UNKNOWN_TYPE, LENGTH, then the first fault in reading order"
 unfoldable pub reading : (kind subtype : ℕ) (payload sheet : List ℕ) → Outcome Message
-reading kind subtype payload sheet = stop (ltb (length sheet) sheetRoom) (refused Room) (judging kind subtype payload)
+reading kind subtype payload sheet = stop (ltb (length sheet) sheetRoom) (refused (nowhere Room)) (judging kind subtype payload)
 
--- the count of bits read and of entries written, or the refusal
+-- the count of bits read and of entries written, or the refusal with its place
 abbrev pub readAnswerBy : Outcome Message → ReadAnswer
 readAnswerBy (accepted message codes bits) = reader.Read bits (length codes)
 readAnswerBy (refused why) = reader.Refused why
@@ -67,20 +68,20 @@ bytesFor bits = (bits + 7) / 8
 
 -- LENGTH, after every fault and LEFTOVER
 abbrev pub thenLength : Written → Written
-thenLength (written bits) = stop (badLength (bytesFor (length bits))) (unwritten Length) (written bits)
+thenLength (written bits) = stop (badLength (bytesFor (length bits))) (unwritten (nowhere Length)) (written bits)
 thenLength (unwritten why) = unwritten why
 
 -- the bits that a sheet of a type and subtype says: "UNKNOWN_TYPE, first fault, LEFTOVER, LENGTH"
 unfoldable pub judgingSheet : (kind subtype : ℕ) (sheet : List ℕ) → Written
 judgingSheet kind subtype sheet =
-    known (layoutFor kind subtype) (unwritten UnknownType) (λ layout.
+    known (layoutFor kind subtype) (unwritten (nowhere UnknownType)) (λ layout.
     thenLength (writeL layout sheet))
 
 -- "Writing: ROOM, UNKNOWN_TYPE, first fault, LEFTOVER, LENGTH."
 unfoldable pub writing : (kind subtype : ℕ) (sheet out : List ℕ) → Written
-writing kind subtype sheet out = stop (ltb (length out) longestPayload) (unwritten Room) (judgingSheet kind subtype sheet)
+writing kind subtype sheet out = stop (ltb (length out) longestPayload) (unwritten (nowhere Room)) (judgingSheet kind subtype sheet)
 
--- the count of bits and of bytes written, or the refusal
+-- the count of bits and of bytes written, or the refusal with its place
 abbrev pub writeAnswerBy : Written → WriteAnswer
 writeAnswerBy (written bits) = writer.Written (length bits) (bytesFor (length bits))
 writeAnswerBy (unwritten why) = writer.Refused why
@@ -109,8 +110,8 @@ outAfter kind subtype sheet out = outBy (writing kind subtype sheet out) out
 
 abbrev pub numberOfRead : ReadAnswer → ℕ
 numberOfRead (reader.Read bits entries) = 0
-numberOfRead (reader.Refused refusal) = numberOf refusal
+numberOfRead (reader.Refused fault) = numberOf (fault .refusal)
 
 abbrev pub numberOfWritten : WriteAnswer → ℕ
 numberOfWritten (writer.Written bits bytes) = 0
-numberOfWritten (writer.Refused refusal) = numberOf refusal
+numberOfWritten (writer.Refused fault) = numberOf (fault .refusal)

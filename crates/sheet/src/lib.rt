@@ -6,11 +6,16 @@ ghost use lib.Seq.{sets};
 ghost use Rattle.sizes.specs.Sizes.{longestPayload, sheetRoom};
 ghost use Rattle.bits.specs.Bits.{toBits};
 ghost use Rattle.sheet.specs.Sheet.{badLength, judged, readAnswer, sheetAfter, judgedSheet, writeAnswer, outAfter, numberOfRead, numberOfWritten};
+ghost use Rattle.answer.specs.Place.{faultAt};
+ghost use Rattle.sheet.specs.declared.Pass.the-variants as pass;
 ghost use Rattle.sheet.specs.Passes.{ReadPass, ReadJudged, ReadKept, ReadWhole, WritePass, SheetJudged, SheetKept, WriteWhole};
 
 mod row;
 
+use answer::Fault;
+use answer::Place;
 use answer::Refusal;
+use layout::Field;
 use layout::Verdict;
 use message::Start;
 use message::State;
@@ -18,22 +23,23 @@ use row::Ran;
 use row::read_row;
 use row::write_row;
 
-// What `read` answers: the count of bits read and of entries written, or the refusal.
+// What `read` answers: the count of bits read and of entries written, or the refusal; SHORT, FIELD and MASK_EMPTY with the field's number and the bit where its
+// entry begins.
 pub enum ReadAnswer {
     Read { bits: usize, entries: usize },
-    Refused(Refusal),
+    Refused(Fault),
 }
 
-// What `write` answers: the count of bits and of bytes written, or the refusal.
+// What `write` answers: the count of bits and of bytes written, or the refusal; SHORT, FIELD and MASK_EMPTY with the field's number and its entry of the sheet.
 pub enum WriteAnswer {
     Written { bits: usize, bytes: usize },
-    Refused(Refusal),
+    Refused(Fault),
 }
 
 // What a pass over a message came to: its entries and its bits, or its first fault.
 enum Pass {
     Whole { entries: usize, bits: usize },
-    Fault(Refusal),
+    Fault(Fault),
 }
 
 // LENGTH: "payload of 0 or over 1,023 bytes".
@@ -44,6 +50,19 @@ fn bad_length(bytes: usize) -> bool
         return true;
     }
     sizes::LONGEST_PAYLOAD < bytes
+}
+
+// A fault at the entry of a field, which begins here.
+fn fault_at(field: Field, why: Refusal, here: usize) -> Pass
+    ensures { λ r. ⌜ r ≡ pass.Fault (faultAt why (field .sf) here) ⌝ }
+{
+    Pass::Fault(Fault {
+        refusal: why,
+        place: Place::At {
+            sf: field.sf,
+            at: here,
+        },
+    })
 }
 
 // One pass over a payload: what it comes to, and the codes in the sheet as far as that has room.
@@ -83,17 +102,18 @@ fn read_pass(payload: &[u8], sheet: &mut [u64], start: State) -> Pass
             }
             let bits = width as usize;
             if total - pos < bits {
-                return Pass::Fault(Refusal::Short);
+                return fault_at(field, Refusal::Short, pos);
             }
             let code = bits::get(payload, pos, width);
+            let next = pos + bits;
             match layout::judge(field, code) {
                 Verdict::Fault(why) => {
-                    return Pass::Fault(why);
+                    return fault_at(field, why, pos);
                 }
                 Verdict::Taken => {
                     rows::store(sheet, at, code);
                     at += 1;
-                    pos += bits;
+                    pos = next;
                     s = message::advance(s, code);
                 }
             }
@@ -175,10 +195,16 @@ pub fn judge(kind: u8, subtype: u8, payload: &[u8]) -> ReadAnswer
     ensures { λ r. ⌜ r ≡ judged kind subtype (now (payload .entry)) ⌝ }
 {
     match message::start_of(kind, subtype) {
-        Start::Unknown => ReadAnswer::Refused(Refusal::UnknownType),
+        Start::Unknown => ReadAnswer::Refused(Fault {
+            refusal: Refusal::UnknownType,
+            place: Place::Nowhere,
+        }),
         Start::Known(start) => {
             if bad_length(payload.len()) {
-                return ReadAnswer::Refused(Refusal::Length);
+                return ReadAnswer::Refused(Fault {
+                    refusal: Refusal::Length,
+                    place: Place::Nowhere,
+                });
             }
             judge_from(payload, start)
         }
@@ -191,13 +217,22 @@ pub fn read(kind: u8, subtype: u8, payload: &[u8], sheet: &mut [u64]) -> ReadAns
     ensures { λ _. ⌜ now (sheet .exit) ≡ sheetAfter kind subtype (now (payload .entry)) (now (sheet .entry)) ⌝ }
 {
     if sheet.len() < sizes::SHEET_ROOM {
-        return ReadAnswer::Refused(Refusal::Room);
+        return ReadAnswer::Refused(Fault {
+            refusal: Refusal::Room,
+            place: Place::Nowhere,
+        });
     }
     match message::start_of(kind, subtype) {
-        Start::Unknown => ReadAnswer::Refused(Refusal::UnknownType),
+        Start::Unknown => ReadAnswer::Refused(Fault {
+            refusal: Refusal::UnknownType,
+            place: Place::Nowhere,
+        }),
         Start::Known(start) => {
             if bad_length(payload.len()) {
-                return ReadAnswer::Refused(Refusal::Length);
+                return ReadAnswer::Refused(Fault {
+                    refusal: Refusal::Length,
+                    place: Place::Nowhere,
+                });
             }
             read_whole(payload, sheet, start)
         }
@@ -233,7 +268,10 @@ fn write_pass(sheet: &[u64], out: &mut [u8], start: State) -> Pass
             let width = field.width;
             if width == 0 {
                 if at < sheet.len() {
-                    return Pass::Fault(Refusal::Leftover);
+                    return Pass::Fault(Fault {
+                        refusal: Refusal::Leftover,
+                        place: Place::Nowhere,
+                    });
                 }
                 return Pass::Whole {
                     entries: at,
@@ -241,16 +279,17 @@ fn write_pass(sheet: &[u64], out: &mut [u8], start: State) -> Pass
                 };
             }
             if sheet.len() <= at {
-                return Pass::Fault(Refusal::Short);
+                return fault_at(field, Refusal::Short, at);
             }
             let code = sheet[at];
+            let next = at + 1;
             match layout::judge(field, code) {
                 Verdict::Fault(why) => {
-                    return Pass::Fault(why);
+                    return fault_at(field, why, at);
                 }
                 Verdict::Taken => {
                     bits::put(out, pos, width, code);
-                    at += 1;
+                    at = next;
                     pos = rows::counted(pos, width);
                     s = message::advance(s, code);
                 }
@@ -268,7 +307,10 @@ fn keep_sheet_from(sheet: &[u64], aside: &mut [u8], start: State) -> WriteAnswer
         Pass::Whole { entries: _, bits } => {
             let bytes = (bits + 7) / 8;
             if bad_length(bytes) {
-                return WriteAnswer::Refused(Refusal::Length);
+                return WriteAnswer::Refused(Fault {
+                    refusal: Refusal::Length,
+                    place: Place::Nowhere,
+                });
             }
             WriteAnswer::Written { bits, bytes }
         }
@@ -312,7 +354,10 @@ pub fn judge_sheet(kind: u8, subtype: u8, sheet: &[u64]) -> WriteAnswer
     ensures { λ r. ⌜ r ≡ judgedSheet kind subtype (now (sheet .entry)) ⌝ }
 {
     match message::start_of(kind, subtype) {
-        Start::Unknown => WriteAnswer::Refused(Refusal::UnknownType),
+        Start::Unknown => WriteAnswer::Refused(Fault {
+            refusal: Refusal::UnknownType,
+            place: Place::Nowhere,
+        }),
         Start::Known(start) => judge_sheet_from(sheet, start),
     }
 }
@@ -323,10 +368,16 @@ pub fn write(kind: u8, subtype: u8, sheet: &[u64], out: &mut [u8]) -> WriteAnswe
     ensures { λ _. ⌜ toBits (now (out .exit)) ≡ outAfter kind subtype (now (sheet .entry)) (now (out .entry)) ⌝ }
 {
     if out.len() < sizes::LONGEST_PAYLOAD {
-        return WriteAnswer::Refused(Refusal::Room);
+        return WriteAnswer::Refused(Fault {
+            refusal: Refusal::Room,
+            place: Place::Nowhere,
+        });
     }
     match message::start_of(kind, subtype) {
-        Start::Unknown => WriteAnswer::Refused(Refusal::UnknownType),
+        Start::Unknown => WriteAnswer::Refused(Fault {
+            refusal: Refusal::UnknownType,
+            place: Place::Nowhere,
+        }),
         Start::Known(start) => write_whole(sheet, out, start),
     }
 }
@@ -340,7 +391,10 @@ pub fn number_read(answer: ReadAnswer) -> u8
             bits: _,
             entries: _,
         } => 0,
-        ReadAnswer::Refused(refusal) => answer::number(refusal),
+        ReadAnswer::Refused(fault) => {
+            let refusal = fault.refusal;
+            answer::number(refusal)
+        }
     }
 }
 
@@ -350,6 +404,9 @@ pub fn number_written(answer: WriteAnswer) -> u8
 {
     match answer {
         WriteAnswer::Written { bits: _, bytes: _ } => 0,
-        WriteAnswer::Refused(refusal) => answer::number(refusal),
+        WriteAnswer::Refused(fault) => {
+            let refusal = fault.refusal;
+            answer::number(refusal)
+        }
     }
 }

@@ -7,7 +7,11 @@ ghost use Rattle.bits.specs.Bits.{toBits};
 ghost use Rattle.rows.specs.Rows.{fieldIn, cellsIn, cellsOf};
 ghost use Rattle.rows.specs.Runs.{reading};
 ghost use Rattle.rows.specs.Puts.{writing};
+ghost use Rattle.answer.specs.Place.{faultAt};
+ghost use Rattle.sheet.specs.declared.row.Ran.the-variants.{Stopped};
 ghost use Rattle.sheet.specs.Walked.{Walked, Placed};
+use answer::Fault;
+use answer::Place;
 use answer::Refusal;
 use layout::Field;
 use layout::Verdict;
@@ -19,7 +23,7 @@ use rows::store;
 // What a row came to: the place after it and its last code, or its first fault.
 pub enum Ran {
     To { pos: usize, at: usize, last: u64 },
-    Stopped(Refusal),
+    Stopped(Fault),
 }
 
 // The field of a cell; a number that no field has counts one bit.
@@ -31,6 +35,19 @@ fn field_in(cell: u64) -> Field
         return up_to(cell, 1, 1);
     }
     field
+}
+
+// A fault at the entry of a field, which begins here.
+fn stopped_at(field: Field, why: Refusal, here: usize) -> Ran
+    ensures { λ r. ⌜ r ≡ Stopped (faultAt why (field .sf) here) ⌝ }
+{
+    Ran::Stopped(Fault {
+        refusal: why,
+        place: Place::At {
+            sf: field.sf,
+            at: here,
+        },
+    })
 }
 
 fn read_cells(payload: &[u8], sheet: &mut [u64], word: u64, pos: usize, at: usize, last: u64) -> Ran
@@ -47,12 +64,12 @@ fn read_cells(payload: &[u8], sheet: &mut [u64], word: u64, pos: usize, at: usiz
         let width = field.width;
         let bits = width as usize;
         if total - pos < bits {
-            return Ran::Stopped(Refusal::Short);
+            return stopped_at(field, Refusal::Short, pos);
         }
         let code = bits::get(payload, pos, width);
         match layout::judge(field, code) {
             Verdict::Fault(why) => {
-                return Ran::Stopped(why);
+                return stopped_at(field, why, pos);
             }
             Verdict::Taken => {
                 store(sheet, at, code);
@@ -66,6 +83,7 @@ fn read_cells(payload: &[u8], sheet: &mut [u64], word: u64, pos: usize, at: usiz
     Ran::To { pos, at, last }
 }
 
+// Internal: the row begins within the payload.
 pub fn read_row(payload: &[u8], sheet: &mut [u64], row: Row, pos: usize, at: usize) -> Ran
     requires { ⌜ (length (now payload) ≤ longestPayload) × Placed (now payload) pos at ⌝ }
     ensures { λ r. ⌜ Walked (reading (toBits (now (payload .entry)))) (cellsOf row) pos at 0 (now (sheet .entry)) r (now (sheet .exit)) ⌝ }
@@ -106,15 +124,15 @@ fn write_cells(sheet: &[u64], out: &mut [u8], word: u64, pos: usize, at: usize, 
     let mut at = at;
     let mut last = last;
     while word != 0 {
-        if sheet.len() <= at {
-            return Ran::Stopped(Refusal::Short);
-        }
         let field = field_in(word % 256);
         let width = field.width;
+        if sheet.len() <= at {
+            return stopped_at(field, Refusal::Short, at);
+        }
         let code = sheet[at];
         match layout::judge(field, code) {
             Verdict::Fault(why) => {
-                return Ran::Stopped(why);
+                return stopped_at(field, why, at);
             }
             Verdict::Taken => {
                 bits::put(out, pos, width, code);

@@ -3,7 +3,8 @@ use mathlib.Core.Path.{_≡_, refl, ap, sym, _∙_}
 use mathlib.Core.List.{List}
 use Prim.Native.Nat.{ℕ, _≤_, _<_}
 use borrow.Author.Tests.{lt-ltb, le-ltb}
-use Rattle.answer.specs.declared.Refusal.{Refusal}
+use Rattle.answer.specs.declared.Fault.{Fault}
+use Rattle.answer.specs.Place.{nowhere}
 use Rattle.answer.specs.declared.Refusal.the-variants as refusal
 use Rattle.bpac.specs.Bpac as bpac
 use Rattle.fields.specs.Fields.{sf}
@@ -46,7 +47,7 @@ module _ (id : ℕ) (sheet : List ℕ) where
   bpac-answers = opens 3 0 sheet Refused look (ifBpacId id (firstBpac id (bpacAreas sheet))) (λ s w h. ap (ifBpacId id) (bpac-finds id sheet s w h))
 
   module _ (o : Opened) (e : o ≡ opened 3 0 sheet) where
-    pub bpac-refused : (why : Refusal) → o ≡ opening.Refused why → Refused why ≡ bpacAnswerOf id sheet
+    pub bpac-refused : (why : Fault) → o ≡ opening.Refused why → Refused why ≡ bpacAnswerOf id sheet
     bpac-refused why q = ap (openedAs Refused look) (sym q ∙ e) ∙ bpac-answers
 
     pub bpac-said : (p : Place) → o ≡ opening.At p → (wide : ℕ) (r : BpacAnswer) → wide ≡ id → r ≡ ifBpacId wide (bpacFound sheet (found 72 wide sheet p)) → r ≡ bpacAnswerOf id sheet
@@ -54,8 +55,8 @@ module _ (id : ℕ) (sheet : List ℕ) where
 
 -- the ID, as the code has it, against SF072's codes
 module _ (id : ℕ) (field : Field) (is : field ≡ sf 72) (rest : BpacAnswer) where
-  pub bpac-over : field .most < id → Refused refusal.Field ≡ ifBpacId id rest
-  bpac-over h = ap (λ b. pick b (Refused refusal.Field) rest) (sym (lt-ltb (sf 72 .most) id (rw is at h)))
+  pub bpac-over : field .most < id → Refused (nowhere refusal.Field) ≡ ifBpacId id rest
+  bpac-over h = ap (λ b. pick b (Refused (nowhere refusal.Field)) rest) (sym (lt-ltb (sf 72 .most) id (rw is at h)))
 
   pub bpac-among : (r : BpacAnswer) → id ≤ field .most → r ≡ rest → r ≡ ifBpacId id rest
-  bpac-among r h e = e ∙ ap (λ b. pick b (Refused refusal.Field) rest) (sym (le-ltb (sf 72 .most) id (rw is at h)))
+  bpac-among r h e = e ∙ ap (λ b. pick b (Refused (nowhere refusal.Field)) rest) (sym (le-ltb (sf 72 .most) id (rw is at h)))

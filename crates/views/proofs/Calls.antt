@@ -2,7 +2,8 @@
 use mathlib.Core.Path.{_≡_, ap, sym, _∙_}
 use mathlib.Core.List.{List}
 use Prim.Native.Nat.{ℕ}
-use Rattle.answer.specs.declared.Refusal.{Refusal}
+use Rattle.answer.specs.declared.Fault.{Fault}
+use Rattle.answer.specs.Place.{nowhere}
 use Rattle.answer.specs.declared.Refusal.the-variants as refusal
 use Rattle.codes.specs.declared.Constellation.{Constellation}
 use Rattle.layout.specs.Parts.{Part}
@@ -30,14 +31,14 @@ use Rattle.views.specs.Taken.{taken-holds, constellation-is, constellati
 -- ---- `open`
 
 module _ (kind subtype : ℕ) (sheet : List ℕ) (a : WriteAnswer) (e : a ≡ judgedSheet kind subtype sheet) where
-  pub open-refused : (why : Refusal) → a ≡ writer.Refused why → opening.Refused why ≡ opened kind subtype sheet
+  pub open-refused : (why : Fault) → a ≡ writer.Refused why → opening.Refused why ≡ opened kind subtype sheet
   open-refused why q = ap (λ x. ifTaken x opening.Refused (openedAt (startOf kind subtype))) (sym q ∙ e)
 
   module _ (bits bytes : ℕ) (q : a ≡ writer.Written bits bytes) (s : Start) (is : s ≡ startOf kind subtype) where
     taken : openedAt s ≡ opened kind subtype sheet
     taken = ap openedAt is ∙ ap (λ x. ifTaken x opening.Refused (openedAt (startOf kind subtype))) (sym q ∙ e)
 
-    pub open-unknown : s ≡ start.Unknown → opening.Refused refusal.UnknownType ≡ opened kind subtype sheet
+    pub open-unknown : s ≡ start.Unknown → opening.Refused (nowhere refusal.UnknownType) ≡ opened kind subtype sheet
     open-unknown u = ap openedAt (sym u) ∙ taken
 
     pub open-known : (t : State) → s ≡ start.Known t → opening.At (record { state = t; at = 0 }) ≡ opened kind subtype sheet
@@ -55,9 +56,9 @@ same f a b e = ap f e
 
 module _ (subtype : ℕ) (sheet : List ℕ) (place : ℕ) (a : WriteAnswer) (e : a ≡ judgedSheet 0 subtype sheet) where
   abbrev found : Part Constellation → SatelliteAnswer
-  found p = forConstellation p (satellite.Refused refusal.UnknownType) (λ c. nth c sheet place)
+  found p = forConstellation p (satellite.Refused (nowhere refusal.UnknownType)) (λ c. nth c sheet place)
 
-  pub satellite-refused : (why : Refusal) → a ≡ writer.Refused why → satellite.Refused why ≡ satelliteAnswerOf subtype sheet place
+  pub satellite-refused : (why : Fault) → a ≡ writer.Refused why → satellite.Refused why ≡ satelliteAnswerOf subtype sheet place
   unfolding satelliteAnswerOf
   satellite-refused why q = ap (λ x. ifTaken x satellite.Refused (found (constellationOf subtype))) (sym q ∙ e)
 
@@ -66,8 +67,8 @@ module _ (subtype : ℕ) (sheet : List ℕ) (place : ℕ) (a : WriteAnswer) (e :
     unfolding satelliteAnswerOf
     said r h = h ∙ ap (λ x. ifTaken x satellite.Refused (found (constellationOf subtype))) (sym q ∙ e)
 
-    pub satellite-unknown : s ≡ sub.Unknown → satellite.Refused refusal.UnknownType ≡ satelliteAnswerOf subtype sheet place
-    satellite-unknown u = said (satellite.Refused refusal.UnknownType) (ap found (sym (constellation-none subtype s known u)))
+    pub satellite-unknown : s ≡ sub.Unknown → satellite.Refused (nowhere refusal.UnknownType) ≡ satelliteAnswerOf subtype sheet place
+    satellite-unknown u = said (satellite.Refused (nowhere refusal.UnknownType)) (ap found (sym (constellation-none subtype s known u)))
 
     module _ (c : Constellation) (is : s ≡ sub.Known c) where
       pub satellite-listed : Listed c sheet

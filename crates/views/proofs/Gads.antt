@@ -2,7 +2,7 @@
 use mathlib.Core.Path.{_≡_, refl, ap, sym, _∙_}
 use mathlib.Core.List.{List}
 use Prim.Native.Nat.{ℕ}
-use Rattle.answer.specs.declared.Refusal.{Refusal}
+use Rattle.answer.specs.declared.Fault.{Fault}
 use Rattle.gad.specs.Gad as gad
 use Rattle.fields.specs.Fields.{sf}
 use Rattle.layout.specs.Layout.{done}
@@ -43,7 +43,7 @@ module _ (id : ℕ) (sheet : List ℕ) where
   gad-answers = opens 2 0 sheet Refused look (firstGad id (gadBlocks sheet)) (gad-finds id sheet)
 
   module _ (o : Opened) (e : o ≡ opened 2 0 sheet) where
-    pub gad-refused : (why : Refusal) → o ≡ opening.Refused why → Refused why ≡ gadAnswerOf id sheet
+    pub gad-refused : (why : Fault) → o ≡ opening.Refused why → Refused why ≡ gadAnswerOf id sheet
     gad-refused why q = ap (openedAs Refused look) (sym q ∙ e) ∙ gad-answers
 
     pub gad-said : (p : Place) → o ≡ opening.At p → (wide : ℕ) (r : GadAnswer) → wide ≡ id → r ≡ gadFound sheet (found 31 wide sheet p) → r ≡ gadAnswerOf id sheet

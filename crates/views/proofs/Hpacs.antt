@@ -2,7 +2,8 @@
 use mathlib.Core.Path.{_≡_, refl, ap, sym, _∙_}
 use mathlib.Core.List.{List}
 use Prim.Native.Nat.{ℕ}
-use Rattle.answer.specs.declared.Refusal.{Refusal}
+use Rattle.answer.specs.declared.Fault.{Fault}
+use Rattle.answer.specs.Place.{nowhere}
 use Rattle.answer.specs.declared.Refusal.the-variants as refusal
 use Rattle.codes.specs.declared.Constellation.{Constellation}
 use Rattle.hpac.specs.Hpac as hpac
@@ -47,14 +48,14 @@ module _ (subtype id : ℕ) (sheet : List ℕ) where
   hpac-answers = opens 1 subtype sheet Refused look (of (constellationOf subtype)) (go (constellationOf subtype))
     where
       of : Part Constellation → HpacAnswer
-      of p = forConstellation p (Refused refusal.UnknownType) (λ c. firstHpac id (hpacAreas c sheet))
+      of p = forConstellation p (Refused (nowhere refusal.UnknownType)) (λ c. firstHpac id (hpacAreas c sheet))
 
       go : (p : Part Constellation) → Looks 1 subtype sheet Refused look (of p) (byConstellation hpacLayout p)
       go absent = refl
       go (present c) = hpac-finds c id sheet
 
   module _ (o : Opened) (e : o ≡ opened 1 subtype sheet) where
-    pub hpac-refused : (why : Refusal) → o ≡ opening.Refused why → Refused why ≡ hpacAnswerOf subtype id sheet
+    pub hpac-refused : (why : Fault) → o ≡ opening.Refused why → Refused why ≡ hpacAnswerOf subtype id sheet
     hpac-refused why q = ap (openedAs Refused look) (sym q ∙ e) ∙ hpac-answers
 
     pub hpac-said : (p : Place) → o ≡ opening.At p → (wide : ℕ) (r : HpacAnswer) → wide ≡ id → r ≡ hpacFound sheet (found 31 wide sheet p) → r ≡ hpacAnswerOf subtype id sheet

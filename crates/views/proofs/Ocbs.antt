@@ -9,6 +9,7 @@ use lib.Count.{ones}
 use lib.Dec.{eqb}
 use lib.Ieee.{Float}
 use lib.ListN.{length, getD}
+use Rattle.answer.specs.Place.{nowhere}
 use Rattle.answer.specs.declared.Refusal.the-variants as refusal
 use Rattle.codes.specs.declared.Constellation.{Constellation}
 use Rattle.codes.specs.Fields.{satellitesOf, satelliteAt}
@@ -208,7 +209,7 @@ module _ (sheet : List ℕ) (yaw place left at : ℕ) (p : Passing sheet yaw pla
 
 module _ (sheet : List ℕ) (yaw : ℕ) where
   nth-past : (ms : List ℕ) (at place : ℕ) → length ms ≤ place
-      → nthFrom at (manyOf (satelliteFrom sheet yaw) (satelliteEnd sheet yaw) ms at) place ≡ answer.Refused refusal.Field
+      → nthFrom at (manyOf (satelliteFrom sheet yaw) (satelliteEnd sheet yaw) ms at) place ≡ answer.Refused (nowhere refusal.Field)
   unfolding nthFrom
   nth-past [] at place h = refl
   nth-past (m ∷ ms) at zero h = absurd (omega arith)
@@ -230,7 +231,7 @@ module _ (c : Constellation) (sheet : List ℕ) (place size mask count : ℕ) (e
   count-are : count ≡ length (numbersIn sheet c)
   count-are = ec ∙ ap length numbers-are
 
-  pub nth-field : count ≤ place → answer.Refused refusal.Field ≡ nth c sheet place
+  pub nth-field : count ≤ place → answer.Refused (nowhere refusal.Field) ≡ nth c sheet place
   nth-field h =
       let n : count ≡ length (numbersIn sheet c) = count-are in
       sym (ap (λ ss. nthFrom 8 ss place) (satellites-in c sheet) ∙ nth-past sheet (getD sheet 3 0) (numbersIn sheet c) 8 place (omega arith))

@@ -4,6 +4,7 @@ use Prim.Native.Nat.{ℕ, _+_, _*_}
 use lib.Dec.{ltb}
 use lib.ListN.{length}
 use Rattle.answer.specs.Number.{numberOf}
+use Rattle.answer.specs.Place.{nowhere}
 use Rattle.answer.specs.declared.Refusal.the-variants as refusal
 use Rattle.bpac.specs.Bpac as bpac
 use Rattle.fields.specs.Fields.{sf}
@@ -45,7 +46,7 @@ firstBpac id areas = first (λ (a : bpac.Area). a .id) bpacEntries (λ at a. bpa
 
 -- SF072 has two bits: an ID over 3 is an argument outside its range, FIELD
 abbrev pub ifBpacId : (id : ℕ) → BpacAnswer → BpacAnswer
-ifBpacId id rest = pick (ltb (sf 72 .most) id) (bpacAnswer.Refused refusal.Field) rest
+ifBpacId id rest = pick (ltb (sf 72 .most) id) (bpacAnswer.Refused (nowhere refusal.Field)) rest
 
 -- what `bpac_area` answers: the sheet is judged first, then the ID
 unfoldable pub bpacAnswerOf : (id : ℕ) (sheet : List ℕ) → BpacAnswer
@@ -57,4 +58,4 @@ bpacAnswerOf id sheet =
 abbrev pub numberOfBpac : BpacAnswer → ℕ
 numberOfBpac (bpacAnswer.Is area) = 0
 numberOfBpac bpacAnswer.Absent = 0
-numberOfBpac (bpacAnswer.Refused refusal) = numberOf refusal
+numberOfBpac (bpacAnswer.Refused fault) = numberOf (fault .refusal)

@@ -3,6 +3,7 @@ use mathlib.Core.Path.{_≡_, refl}
 use mathlib.Core.List.{List, [], _∷_}
 use Prim.Native.Nat.{ℕ}
 use lib.Count.{ones, onesIn}
+use Rattle.answer.specs.Place.{nowhere, faultAt}
 use Rattle.answer.specs.declared.Refusal.the-variants as refusal
 use Rattle.bits.specs.Bits.{bitsOf}
 use Rattle.codes.specs.Fields.{numbered}
@@ -48,7 +49,7 @@ unfolding satelliteAnswerOf nthFrom judgedSheet judgingSheet writeL judge bitsOf
 second-satellite = refl
 
 -- past the last
-third-satellite : satelliteAnswerOf 1 glonass 2 ≡ satellite.Refused refusal.Field
+third-satellite : satelliteAnswerOf 1 glonass 2 ≡ satellite.Refused (nowhere refusal.Field)
 unfolding satelliteAnswerOf nthFrom judgedSheet judgingSheet writeL judge bitsOf numbered maskSize maskSizes biasSize biasMaskSizes ones onesIn recordFrom sf lineOf find table
 third-satellite = refl
 
@@ -72,13 +73,13 @@ no-area-eight : gadAnswerOf 8 seven ≡ gad.Absent
 unfolding gadAnswerOf first judgedSheet judgingSheet writeL judge bitsOf recordFrom sf lineOf find table
 no-area-eight = refl
 
--- the sheet ends an entry early
-cut-short : gadAnswerOf 7 (5 ∷ 3 ∷ 0 ∷ 0 ∷ 7 ∷ 1234 ∷ 2000 ∷ 3 ∷ 4 ∷ 9 ∷ []) ≡ gad.Refused refusal.Short
+-- the sheet ends an entry early: SF037 is not there
+cut-short : gadAnswerOf 7 (5 ∷ 3 ∷ 0 ∷ 0 ∷ 7 ∷ 1234 ∷ 2000 ∷ 3 ∷ 4 ∷ 9 ∷ []) ≡ gad.Refused (faultAt refusal.Short 37 10)
 unfolding gadAnswerOf judgedSheet judgingSheet writeL judge sf lineOf find table
 cut-short = refl
 
--- a GAD's sheet is none of BPAC
-not-bpac : bpacAnswerOf 3 seven ≡ bpac.Refused refusal.Field
+-- a GAD's sheet is none of BPAC: its second entry is no reserved bit
+not-bpac : bpacAnswerOf 3 seven ≡ bpac.Refused (faultAt refusal.Field 69 1)
 unfolding bpacAnswerOf judgedSheet judgingSheet writeL judge bitsOf sf lineOf find table
 not-bpac = refl
 
@@ -105,11 +106,11 @@ unfolding bpacAnswerOf first judgedSheet judgingSheet writeL judge bitsOf record
 no-area-two = refl
 
 -- SF072 has no 4
-area-four : bpacAnswerOf 4 three ≡ bpac.Refused refusal.Field
+area-four : bpacAnswerOf 4 three ≡ bpac.Refused (nowhere refusal.Field)
 unfolding bpacAnswerOf judgedSheet judgingSheet writeL judge bitsOf ones onesIn sf lineOf find table
 area-four = refl
 
--- the sheet is judged before the ID: it ends an entry early
-cut-before-four : bpacAnswerOf 4 (5 ∷ 0 ∷ 1 ∷ 0 ∷ 3 ∷ 85 ∷ 180 ∷ 0 ∷ 0 ∷ 0 ∷ 1 ∷ 2047 ∷ []) ≡ bpac.Refused refusal.Short
+-- the sheet is judged before the ID: it ends an entry early, before SF079
+cut-before-four : bpacAnswerOf 4 (5 ∷ 0 ∷ 1 ∷ 0 ∷ 3 ∷ 85 ∷ 180 ∷ 0 ∷ 0 ∷ 0 ∷ 1 ∷ 2047 ∷ []) ≡ bpac.Refused (faultAt refusal.Short 79 12)
 unfolding bpacAnswerOf judgedSheet judgingSheet writeL judge ones onesIn sf lineOf find table
 cut-before-four = refl

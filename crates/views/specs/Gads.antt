@@ -41,4 +41,4 @@ gadAnswerOf id sheet = ifTaken (judgedSheet 2 0 sheet) gadAnswer.Refused (firstG
 abbrev pub numberOfGad : GadAnswer → ℕ
 numberOfGad (gadAnswer.Is area) = 0
 numberOfGad gadAnswer.Absent = 0
-numberOfGad (gadAnswer.Refused refusal) = numberOf refusal
+numberOfGad (gadAnswer.Refused fault) = numberOf (fault .refusal)

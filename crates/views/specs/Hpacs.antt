@@ -4,6 +4,7 @@ use mathlib.Core.List.{List, [], _∷_}
 use Prim.Native.Nat.{ℕ, _+_}
 use lib.ListN.{length}
 use Rattle.answer.specs.Number.{numberOf}
+use Rattle.answer.specs.Place.{nowhere}
 use Rattle.answer.specs.declared.Refusal.the-variants as refusal
 use Rattle.codes.specs.declared.Constellation.{Constellation}
 use Rattle.hpac.specs.Hpac as hpac
@@ -67,11 +68,11 @@ firstHpac id areas = first (λ (a : hpac.Area). a .id) hpacEntries (λ at a. hpa
 unfoldable pub hpacAnswerOf : (subtype id : ℕ) (sheet : List ℕ) → HpacAnswer
 hpacAnswerOf subtype id sheet =
     ifTaken (judgedSheet 1 subtype sheet) hpacAnswer.Refused (
-    forConstellation (constellationOf subtype) (hpacAnswer.Refused refusal.UnknownType) (λ constellation.
+    forConstellation (constellationOf subtype) (hpacAnswer.Refused (nowhere refusal.UnknownType)) (λ constellation.
     firstHpac id (hpacAreas constellation sheet)))
 
 -- its number in document 01; that no block has the ID is no refusal
 abbrev pub numberOfHpac : HpacAnswer → ℕ
 numberOfHpac (hpacAnswer.Is area) = 0
 numberOfHpac hpacAnswer.Absent = 0
-numberOfHpac (hpacAnswer.Refused why) = numberOf why
+numberOfHpac (hpacAnswer.Refused fault) = numberOf (fault .refusal)

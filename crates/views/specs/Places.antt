@@ -4,6 +4,7 @@ use mathlib.Core.List.{List, [], _∷_}
 use Prim.Native.Nat.{ℕ, zero, suc}
 use lib.Dec.{eqb}
 use lib.ListN.{drop, getD}
+use Rattle.answer.specs.Place.{nowhere}
 use Rattle.answer.specs.declared.Refusal.the-variants as refusal
 use Rattle.layout.specs.Layout.{pick}
 use Rattle.message.specs.declared.Start.{Start}
@@ -20,7 +21,7 @@ use Rattle.views.specs.Judged.{ifTaken}
 
 abbrev pub openedAt : Start → Opened
 openedAt (start.Known s) = opening.At (record { state = s; at = 0 })
-openedAt start.Unknown = opening.Refused refusal.UnknownType
+openedAt start.Unknown = opening.Refused (nowhere refusal.UnknownType)
 
 abbrev pub opened : (kind subtype : ℕ) (sheet : List ℕ) → Opened
 opened kind subtype sheet = ifTaken (judgedSheet kind subtype sheet) opening.Refused (openedAt (startOf kind subtype))

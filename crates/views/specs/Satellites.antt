@@ -4,6 +4,7 @@ use mathlib.Core.List.{List, [], _∷_}
 use Prim.Native.Nat.{ℕ, zero, suc, _+_, _*_}
 use lib.ListN.{length}
 use Rattle.answer.specs.Number.{numberOf}
+use Rattle.answer.specs.Place.{nowhere}
 use Rattle.answer.specs.declared.Refusal.the-variants as refusal
 use Rattle.codes.specs.declared.Constellation.{Constellation}
 use Rattle.layout.specs.Layout.{done}
@@ -100,7 +101,7 @@ satelliteView start (ocb.inUse b) = InUse (blocksView start b)
 
 -- the satellites follow one another on the sheet from `start` on
 unfoldable pub nthFrom : (start : ℕ) → List ocb.Satellite → (place : ℕ) → SatelliteAnswer
-nthFrom start [] place = answer.Refused refusal.Field
+nthFrom start [] place = answer.Refused (nowhere refusal.Field)
 nthFrom start (s ∷ ss) zero = answer.Is (s .number) (satelliteView start (s .state))
 nthFrom start (s ∷ ss) (suc place) = nthFrom (start + stateEntries (s .state)) ss place
 
@@ -116,10 +117,10 @@ nth constellation sheet place = nthFrom 8 (satellitesIn constellation sheet) pla
 unfoldable pub satelliteAnswerOf : (subtype : ℕ) (sheet : List ℕ) (place : ℕ) → SatelliteAnswer
 satelliteAnswerOf subtype sheet place =
     ifTaken (judgedSheet 0 subtype sheet) answer.Refused (
-    forConstellation (constellationOf subtype) (answer.Refused refusal.UnknownType) (λ constellation.
+    forConstellation (constellationOf subtype) (answer.Refused (nowhere refusal.UnknownType)) (λ constellation.
     nth constellation sheet place))
 
 -- its number in document 01
 abbrev pub numberOfSatellite : SatelliteAnswer → ℕ
 numberOfSatellite (answer.Is number satellite) = 0
-numberOfSatellite (answer.Refused why) = numberOf why
+numberOfSatellite (answer.Refused fault) = numberOf (fault .refusal)

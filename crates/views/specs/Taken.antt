@@ -5,7 +5,8 @@ use mathlib.Core.List.{List}
 use Prim.Native.Nat.{ℕ}
 use native.Mathlib.Omega.{arith}
 use lib.Dec.{eqb}
-use Rattle.answer.specs.declared.Refusal.{Refusal}
+use Rattle.answer.specs.declared.Fault.{Fault}
+use Rattle.answer.specs.Place.{nowhere}
 use Rattle.answer.specs.declared.Refusal.the-variants as refusal
 use Rattle.codes.specs.declared.Constellation.{Constellation}
 use Rattle.codes.specs.declared.Constellation.the-variants.{Gps, Glonass, Galileo, BeiDou, Qzss}
@@ -43,14 +44,14 @@ taken-holds kind subtype sheet l {a} {bits} {bytes} e p q = go (writeL l sheet) 
 
 -- ---- what is made of the sheet's first place
 
-abbrev pub openedAs : {C : Type 0} → (Refusal → C) → (Place → C) → Opened → C
+abbrev pub openedAs : {C : Type 0} → (Fault → C) → (Place → C) → Opened → C
 openedAs refused look (opening.Refused why) = refused why
 openedAs refused look (opening.At p) = look p
 
-module _ {C : Type 0} (kind subtype : ℕ) (sheet : List ℕ) (refused : Refusal → C) (look : Place → C) (rest : C) where
+module _ {C : Type 0} (kind subtype : ℕ) (sheet : List ℕ) (refused : Fault → C) (look : Place → C) (rest : C) where
   -- what is to be shown of the layout, if there is one
   abbrev pub Looks : Part (Layout Message) → Type 0
-  Looks absent = refused refusal.UnknownType ≡ rest
+  Looks absent = refused (nowhere refusal.UnknownType) ≡ rest
   Looks (present l) = (s : State) → Walks fieldOf stepOf s l → Holds l sheet 0 → look (record { state = s; at = 0 }) ≡ rest
 
   pub opens : Looks (layoutFor kind subtype) → openedAs refused look (opened kind subtype sheet) ≡ ifTaken (judgedSheet kind subtype sheet) refused rest

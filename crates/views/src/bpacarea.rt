@@ -11,6 +11,7 @@ use crate::places::find;
 use crate::places::open;
 use crate::places::unit_of;
 use crate::units::wide;
+use answer::Fault;
 use answer::Refusal;
 use bpac::BpacAreaId;
 
@@ -27,11 +28,11 @@ pub struct BpacArea {
     pub average: f64,
 }
 
-// What `bpac_area` answers: the area, that no block has the ID, or a refusal: the writer's of the sheet, or FIELD for an ID over 3.
+// What `bpac_area` answers: the area, that no block has the ID, or a refusal: the writer's of the sheet with its place, or FIELD for an ID over 3.
 pub enum BpacAnswer {
     Is(BpacArea),
     Absent,
-    Refused(Refusal),
+    Refused(Fault),
 }
 
 // The block that starts at a place.
@@ -56,7 +57,10 @@ fn bpac_from(start: Place, id: u64, sheet: &[u64]) -> BpacAnswer
 {
     let field = fields::sf(72);
     if field.most < id {
-        return BpacAnswer::Refused(Refusal::Field);
+        return BpacAnswer::Refused(Fault {
+            refusal: Refusal::Field,
+            place: answer::Place::Nowhere,
+        });
     }
     match find(start, sheet, 72, id) {
         Found::Nothing => BpacAnswer::Absent,
@@ -81,6 +85,9 @@ pub fn number_of_bpac(answer: BpacAnswer) -> u8
     match answer {
         BpacAnswer::Is(_) => 0,
         BpacAnswer::Absent => 0,
-        BpacAnswer::Refused(refusal) => answer::number(refusal),
+        BpacAnswer::Refused(fault) => {
+            let refusal = fault.refusal;
+            answer::number(refusal)
+        }
     }
 }

@@ -11,7 +11,7 @@ use crate::places::find;
 use crate::places::open;
 use crate::places::unit_of;
 use crate::units::wide;
-use answer::Refusal;
+use answer::Fault;
 use area::AreaId;
 
 // An area of GAD: its reference corner and its spacings in degrees, its counts of nodes.
@@ -24,11 +24,11 @@ pub struct GadArea {
     pub longitude_spacing: f64,
 }
 
-// What `gad_area` answers: the area, that no block has the ID, or the writer's refusal of the sheet.
+// What `gad_area` answers: the area, that no block has the ID, or the writer's refusal of the sheet with its place.
 pub enum GadAnswer {
     Is(GadArea),
     Absent,
-    Refused(Refusal),
+    Refused(Fault),
 }
 
 // The block that starts at a place.
@@ -72,6 +72,9 @@ pub fn number_of_gad(answer: GadAnswer) -> u8
     match answer {
         GadAnswer::Is(_) => 0,
         GadAnswer::Absent => 0,
-        GadAnswer::Refused(refusal) => answer::number(refusal),
+        GadAnswer::Refused(fault) => {
+            let refusal = fault.refusal;
+            answer::number(refusal)
+        }
     }
 }

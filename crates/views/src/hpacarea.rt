@@ -10,7 +10,7 @@ use crate::places::code_of;
 use crate::places::find;
 use crate::places::open;
 use crate::units::wide;
-use answer::Refusal;
+use answer::Fault;
 use area::AreaId;
 
 // An area of HPAC: its grid points, SF039, and its two SF040. Its block starts at the entry `start` of the sheet.
@@ -21,11 +21,11 @@ pub struct HpacArea {
     pub ionosphere_blocks: u64,
 }
 
-// What `hpac_area` answers: the area, that no block has the ID, or the writer's refusal of the sheet.
+// What `hpac_area` answers: the area, that no block has the ID, or the writer's refusal of the sheet with its place.
 pub enum HpacAnswer {
     Is(HpacArea),
     Absent,
-    Refused(Refusal),
+    Refused(Fault),
 }
 
 // The block that starts at a place; the second SF040 is the ionosphere's.
@@ -67,6 +67,9 @@ pub fn number_of_hpac(answer: HpacAnswer) -> u8
     match answer {
         HpacAnswer::Is(_) => 0,
         HpacAnswer::Absent => 0,
-        HpacAnswer::Refused(refusal) => answer::number(refusal),
+        HpacAnswer::Refused(fault) => {
+            let refusal = fault.refusal;
+            answer::number(refusal)
+        }
     }
 }

@@ -8,6 +8,7 @@ ghost use Rattle.views.specs.Places.{sought, found, opened, codeAt};
 use crate::units::count_in;
 use crate::units::entry;
 use crate::units::in_unit;
+use answer::Fault;
 use answer::Refusal;
 use message::Start;
 use message::State;
@@ -28,7 +29,7 @@ pub enum Found {
 
 // The first entry of a sheet that the writer accepts, or its refusal.
 pub enum Opened {
-    Refused(Refusal),
+    Refused(Fault),
     At(Place),
 }
 
@@ -38,7 +39,10 @@ pub fn open(kind: u8, subtype: u8, sheet: &[u64]) -> Opened
     match judge_sheet(kind, subtype, sheet) {
         WriteAnswer::Refused(why) => Opened::Refused(why),
         WriteAnswer::Written { bits: _, bytes: _ } => match start_of(kind, subtype) {
-            Start::Unknown => Opened::Refused(Refusal::UnknownType),
+            Start::Unknown => Opened::Refused(Fault {
+                refusal: Refusal::UnknownType,
+                place: answer::Place::Nowhere,
+            }),
             Start::Known(state) => Opened::At(Place {
                 state: state,
                 at: 0,

@@ -8,6 +8,8 @@ ghost use Rattle.views.specs.SatellitePlaces.{orbitOf, clockStart, clock
 use crate::units::entry;
 use crate::units::in_unit;
 use crate::units::yaw_in;
+use answer::Fault;
+use answer::Place;
 use answer::Refusal;
 use codes::Constellation;
 use codes::satellites::satellite_count;
@@ -60,10 +62,11 @@ pub enum Satellite {
     InUse(Blocks),
 }
 
-// What `satellite_at` answers: the satellite's number and the satellite, or the refusal.
+// What `satellite_at` answers: the satellite's number and the satellite, or a refusal: the writer's of the sheet with its place, or FIELD for a place past the
+// last satellite.
 pub enum SatelliteAnswer {
     Is(u64, Satellite),
-    Refused(Refusal),
+    Refused(Fault),
 }
 
 // Where the clock block of the satellite that starts at `at` starts, if it has one: behind SF013 to SF015 and the orbit block. `yaw` is SF008.
@@ -230,7 +233,10 @@ fn nth_satellite(constellation: Constellation, sheet: &[u64], place: u64) -> Sat
     let mask = entry(sheet, 7);
     let count = satellite_count(constellation, size, mask);
     if count <= place {
-        return SatelliteAnswer::Refused(Refusal::Field);
+        return SatelliteAnswer::Refused(Fault {
+            refusal: Refusal::Field,
+            place: Place::Nowhere,
+        });
     }
     let number = satellite_number(constellation, size, mask, count - 1 - place);
     let yaw = entry(sheet, 3);
@@ -245,7 +251,10 @@ pub fn satellite_at(subtype: u8, sheet: &[u64], place: u64) -> SatelliteAnswer
     match judge_sheet(0, subtype, sheet) {
         WriteAnswer::Refused(why) => SatelliteAnswer::Refused(why),
         WriteAnswer::Written { bits: _, bytes: _ } => match constellation_of(subtype) {
-            Subtype::Unknown => SatelliteAnswer::Refused(Refusal::UnknownType),
+            Subtype::Unknown => SatelliteAnswer::Refused(Fault {
+                refusal: Refusal::UnknownType,
+                place: Place::Nowhere,
+            }),
             Subtype::Known(constellation) => nth_satellite(constellation, sheet, place),
         },
     }
@@ -257,6 +266,9 @@ pub fn number_of_satellite(answer: SatelliteAnswer) -> u8
 {
     match answer {
         SatelliteAnswer::Is(_, _) => 0,
-        SatelliteAnswer::Refused(refusal) => answer::number(refusal),
+        SatelliteAnswer::Refused(fault) => {
+            let refusal = fault.refusal;
+            answer::number(refusal)
+        }
     }
 }

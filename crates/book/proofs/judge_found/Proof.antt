@@ -10,8 +10,8 @@ enum-known-found c = search needs
 enum-told : tie.Need-enum-told
 enum-told c = search needs
 
-add-t11 : tie.Need-add-t11
-add-t11 c = search needs
+add-t13 : tie.Need-add-t13
+add-t13 c = search needs
 
 returns : tie.Need-returns
 returns c = search (found-same, needs)
@@ -27,4 +27,4 @@ returns-4 c = search (found-full, needs)
 
 pub judge-found-spec : {M : Type 1} → statement M
 judge-found-spec =
-    tie.close (tie.spec enum-known-found enum-told add-t11 returns returns-2 returns-3 returns-4)
+    tie.close (tie.spec enum-known-found enum-told add-t13 returns returns-2 returns-3 returns-4)

@@ -26,7 +26,7 @@ enum-told : tie.Need-enum-told
 enum-told c = search needs
 
 take-blocks-requires : tie.Need-take-blocks-requires
-take-blocks-requires c κs = search (take-sound, take-there, needs)
+take-blocks-requires c κs = (search needs, search (take-sound, needs), search (take-there, needs))
 
 same-length-2 : tie.Need-same-length-2
 same-length-2 c = search needs

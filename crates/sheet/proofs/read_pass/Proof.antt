@@ -62,6 +62,9 @@ cast-bits c = search needs
 sub-if3 : tie.Need-sub-if3 Inv-loop μ-loop
 sub-if3 c = search needs
 
+fault-at-requires : tie.Need-fault-at-requires Inv-loop μ-loop
+fault-at-requires c κs = search needs
+
 same-length-3 : tie.Need-same-length-3 Inv-loop μ-loop
 same-length-3 c = search needs
 
@@ -71,17 +74,28 @@ returns-3 c = search (turn-short, needs)
 get-requires : tie.Need-get-requires Inv-loop μ-loop
 get-requires c κs = search needs
 
+add-next : tie.Need-add-next Inv-loop μ-loop
+add-next c = search needs
+
 judge-requires : tie.Need-judge-requires Inv-loop μ-loop
 judge-requires c κs = search needs
 
 enum-known-why-2 : tie.Need-enum-known-why-2 Inv-loop μ-loop
 enum-known-why-2 c = search needs
 
+fault-at-requires-2 : tie.Need-fault-at-requires-2 Inv-loop μ-loop
+fault-at-requires-2 c κs = search needs
+
 same-length-4 : tie.Need-same-length-4 Inv-loop μ-loop
 same-length-4 c = search needs
 
 returns-4 : tie.Need-returns-4 Inv-loop μ-loop
-returns-4 c = search (turn-fault, needs)
+returns-4 c =
+    let j = c .before .before .before .before in
+    let g = j .before in
+    let f = g .before .before .before in
+    turn-fault (f .before .before .before .before .loop .inv) (f .field-of .result) (f .field-of .ensures) (g .before .before .if2 .left) (g .before .if3 .left) _ (g .get .ensures) _
+    (j .judge .ensures) _ _ (c .before .before .why2 .given .1) (c .fault-at2 .ensures)
 
 enum-told : tie.Need-enum-told Inv-loop μ-loop
 enum-told c = search needs
@@ -91,9 +105,6 @@ store-requires c κs = search needs
 
 add-at : tie.Need-add-at Inv-loop μ-loop
 add-at c = search needs
-
-add-pos : tie.Need-add-pos Inv-loop μ-loop
-add-pos c = search needs
 
 advance-requires : tie.Need-advance-requires Inv-loop μ-loop
 advance-requires c κs = search needs
@@ -132,17 +143,19 @@ read-pass-spec =
     returns-2
     cast-bits
     sub-if3
+    fault-at-requires
     same-length-3
     returns-3
     get-requires
+    add-next
     judge-requires
     enum-known-why-2
+    fault-at-requires-2
     same-length-4
     returns-4
     enum-told
     store-requires
     add-at
-    add-pos
     advance-requires
     loop-less-2
     loop-again-2)

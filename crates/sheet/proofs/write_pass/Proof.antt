@@ -60,6 +60,9 @@ same-length-3 c = search needs
 returns-3 : tie.Need-returns-3 Inv-loop μ-loop
 returns-3 c = search (turn-done, needs)
 
+fault-at-requires : tie.Need-fault-at-requires Inv-loop μ-loop
+fault-at-requires c κs = search needs
+
 same-length-4 : tie.Need-same-length-4 Inv-loop μ-loop
 same-length-4 c = search needs
 
@@ -72,26 +75,33 @@ mul-code c = search needs
 shared-slice-read-code : tie.Need-shared-slice-read-code Inv-loop μ-loop
 shared-slice-read-code c = search needs
 
+add-next : tie.Need-add-next Inv-loop μ-loop
+add-next c = search needs
+
 judge-requires : tie.Need-judge-requires Inv-loop μ-loop
 judge-requires c κs = search needs
 
 enum-known-why-2 : tie.Need-enum-known-why-2 Inv-loop μ-loop
 enum-known-why-2 c = search needs
 
+fault-at-requires-2 : tie.Need-fault-at-requires-2 Inv-loop μ-loop
+fault-at-requires-2 c κs = search needs
+
 same-length-5 : tie.Need-same-length-5 Inv-loop μ-loop
 same-length-5 c = search needs
 
 returns-5 : tie.Need-returns-5 Inv-loop μ-loop
-returns-5 c = search (turn-fault, needs)
+returns-5 c =
+    let j = c .before .before .before .before in
+    let f = j .before .before .before .before in
+    turn-fault (f .before .before .before .before .loop .inv) (f .field-of .result) (f .field-of .ensures) (j .before .before .before .if2 .left) (j .before .before .if4 .left) _
+    (j .judge .ensures) _ _ (c .before .before .why2 .given .1) (c .fault-at2 .ensures)
 
 enum-told : tie.Need-enum-told Inv-loop μ-loop
 enum-told c = search needs
 
 put-requires : tie.Need-put-requires Inv-loop μ-loop
 put-requires c κs = search needs
-
-add-at : tie.Need-add-at Inv-loop μ-loop
-add-at c = search needs
 
 counted-requires : tie.Need-counted-requires Inv-loop μ-loop
 counted-requires c κs = search needs
@@ -131,17 +141,19 @@ write-pass-spec =
     returns-2
     same-length-3
     returns-3
+    fault-at-requires
     same-length-4
     returns-4
     mul-code
     shared-slice-read-code
+    add-next
     judge-requires
     enum-known-why-2
+    fault-at-requires-2
     same-length-5
     returns-5
     enum-told
     put-requires
-    add-at
     counted-requires
     advance-requires
     loop-less-2

@@ -24,8 +24,8 @@ put-requires c κs = search needs
 enum-known-answer-2 : tie.Need-enum-known-answer-2
 enum-known-answer-2 c = search needs
 
-number-requires : tie.Need-number-requires
-number-requires c κs = search needs
+answer-of-requires : tie.Need-answer-of-requires
+answer-of-requires c κs = search needs
 
 same-length : tie.Need-same-length
 same-length c = search needs
@@ -48,7 +48,7 @@ tell-read-spec =
     slice-aggregate-put
     put-requires
     enum-known-answer-2
-    number-requires
+    answer-of-requires
     same-length
     returns
     returns-2)

@@ -16,8 +16,8 @@ put-desk-requires c κs = search needs
 enum-known-said : tie.Need-enum-known-said
 enum-known-said c = search needs
 
-number-requires : tie.Need-number-requires
-number-requires c κs = search needs
+answer-of-requires : tie.Need-answer-of-requires
+answer-of-requires c κs = search needs
 
 same-length : tie.Need-same-length
 same-length c = search needs
@@ -37,7 +37,7 @@ tell-taken-spec =
     enum-told
     put-desk-requires
     enum-known-said
-    number-requires
+    answer-of-requires
     same-length
     returns
     returns-2)

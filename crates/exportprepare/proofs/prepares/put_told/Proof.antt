@@ -1,6 +1,6 @@
--- The five numbers of an event.
+-- The seven numbers of an event.
 use Rattle.exportprepare.specs.Prepares.{eventOf}
-use Rattle.export.proofs.Laws.{cons-as}
+use Rattle.exportprepare.proofs.Prepared.{told-made}
 use Rattle.export.specs.Stored.{laid-there}
 use borrow.Author.Needs.{needs}
 use Rattle.exportprepare.proofs.prepares.put_told.Statement.{statement}
@@ -15,6 +15,15 @@ wide-requires c κs = search needs
 count-requires-2 : tie.Need-count-requires-2
 count-requires-2 c κs = search needs
 
+sf-in-requires : tie.Need-sf-in-requires
+sf-in-requires c κs = search needs
+
+at-in-requires : tie.Need-at-in-requires
+at-in-requires c κs = search needs
+
+count-requires-3 : tie.Need-count-requires-3
+count-requires-3 c κs = search needs
+
 slice-aggregate-put : tie.Need-slice-aggregate-put
 slice-aggregate-put c = search needs
 
@@ -26,7 +35,7 @@ same-length c = search needs
 
 returns : tie.Need-returns
 unfolding eventOf
-returns c = search (laid-there, cons-as, needs) depth 8
+returns c = search (laid-there, told-made, needs)
 
 pub put-told-spec : {M : Type 1} → statement M
 put-told-spec =
@@ -35,6 +44,9 @@ put-told-spec =
     count-requires
     wide-requires
     count-requires-2
+    sf-in-requires
+    at-in-requires
+    count-requires-3
     slice-aggregate-put
     put-requires
     same-length

@@ -21,8 +21,8 @@ put-none-requires c κs = search needs
 enum-known-answer-2 : tie.Need-enum-known-answer-2
 enum-known-answer-2 c = search needs
 
-number-requires : tie.Need-number-requires
-number-requires c κs = search needs
+answer-of-requires : tie.Need-answer-of-requires
+answer-of-requires c κs = search needs
 
 same-length : tie.Need-same-length
 same-length c = search needs
@@ -54,7 +54,7 @@ tell-gad-spec =
     enum-told
     put-none-requires
     enum-known-answer-2
-    number-requires
+    answer-of-requires
     same-length
     same-length-2
     returns

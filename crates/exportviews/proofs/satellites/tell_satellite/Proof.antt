@@ -15,8 +15,8 @@ tell-use-requires c κs = search needs
 enum-known-answer-2 : tie.Need-enum-known-answer-2
 enum-known-answer-2 c = search needs
 
-number-requires : tie.Need-number-requires
-number-requires c κs = search needs
+answer-of-requires : tie.Need-answer-of-requires
+answer-of-requires c κs = search needs
 
 same-length : tie.Need-same-length
 same-length c = search needs
@@ -39,7 +39,7 @@ tell-satellite-spec =
     enum-known-answer
     tell-use-requires
     enum-known-answer-2
-    number-requires
+    answer-of-requires
     same-length
     same-length-2
     returns

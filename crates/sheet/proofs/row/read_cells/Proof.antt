@@ -26,6 +26,9 @@ cast-bits c = search needs
 sub-if1 : tie.Need-sub-if1 Inv-loop μ-loop
 sub-if1 c = search needs
 
+stopped-at-requires : tie.Need-stopped-at-requires Inv-loop μ-loop
+stopped-at-requires c κs = search needs
+
 same-length : tie.Need-same-length Inv-loop μ-loop
 same-length c = search needs
 
@@ -40,6 +43,9 @@ judge-requires c κs = search needs
 
 enum-known-why : tie.Need-enum-known-why Inv-loop μ-loop
 enum-known-why c = search needs
+
+stopped-at-requires-2 : tie.Need-stopped-at-requires-2 Inv-loop μ-loop
+stopped-at-requires-2 c κs = search needs
 
 same-length-2 : tie.Need-same-length-2 Inv-loop μ-loop
 same-length-2 c = search needs
@@ -82,11 +88,13 @@ read-cells-spec =
     field-in-requires
     cast-bits
     sub-if1
+    stopped-at-requires
     same-length
     returns
     get-requires
     judge-requires
     enum-known-why
+    stopped-at-requires-2
     same-length-2
     returns-2
     enum-told

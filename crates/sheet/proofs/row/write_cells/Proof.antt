@@ -14,14 +14,17 @@ abbrev μ-loop : tie.MeasureT-loop
 loop-holds : tie.Need-loop-holds Inv-loop μ-loop
 loop-holds c = search (writing-first, needs)
 
+field-in-requires : tie.Need-field-in-requires Inv-loop μ-loop
+field-in-requires c κs = search needs
+
+stopped-at-requires : tie.Need-stopped-at-requires Inv-loop μ-loop
+stopped-at-requires c κs = search needs
+
 same-length : tie.Need-same-length Inv-loop μ-loop
 same-length c = search needs
 
 returns : tie.Need-returns Inv-loop μ-loop
 returns c = search (writing-short, needs)
-
-field-in-requires : tie.Need-field-in-requires Inv-loop μ-loop
-field-in-requires c κs = search needs
 
 mul-code : tie.Need-mul-code Inv-loop μ-loop
 mul-code c = search needs
@@ -34,6 +37,9 @@ judge-requires c κs = search needs
 
 enum-known-why : tie.Need-enum-known-why Inv-loop μ-loop
 enum-known-why c = search needs
+
+stopped-at-requires-2 : tie.Need-stopped-at-requires-2 Inv-loop μ-loop
+stopped-at-requires-2 c κs = search needs
 
 same-length-2 : tie.Need-same-length-2 Inv-loop μ-loop
 same-length-2 c = search needs
@@ -72,13 +78,15 @@ write-cells-spec =
     Inv-loop
     μ-loop
     loop-holds
+    field-in-requires
+    stopped-at-requires
     same-length
     returns
-    field-in-requires
     mul-code
     shared-slice-read-code
     judge-requires
     enum-known-why
+    stopped-at-requires-2
     same-length-2
     returns-2
     enum-told
