@@ -194,8 +194,8 @@ const ENDS: [RangeInclusive<u16>; 8] =
 const NARROW: [RangeInclusive<u16>; 10] =
     [20..=21, 29..=29, 32..=33, 40..=41, 43..=43, 45..=50, 54..=54, 57..=62, 73..=74, 80..=80];
 
-/// Which call has to have said what at which fields: the readers and the writer at all that there are, the calls above them
-/// anywhere. A GAD and a BPAC have no satellite mask.
+/// Which call has to have said what at which fields: the readers and the writer at all that there are, the desk and the joined
+/// call at some of a GAD and of an HPAC message, residuals too, the views anywhere. A GAD and a BPAC have no satellite mask.
 pub fn must() -> Vec<Must> {
     let listed = |ranges: &[RangeInclusive<u16>]| ranges.iter().cloned().flatten().collect::<Vec<u16>>();
     let number = Refusal::number;
@@ -212,10 +212,17 @@ pub fn must() -> Vec<Must> {
         must.push((call, mask_empty, MASKS.to_vec()));
         must.push((call, field, listed(&FIELDS)));
     }
-    for call in ["satellite_at", "hpac_area", "desk_take", "prepare, of a frame"] {
+    for call in ["desk_take", "prepare, of a frame"] {
+        must.push((call, short, vec![31, 33, 37, 52, 57, 61, 67]));
+        must.push((call, mask_empty, MASKS.to_vec()));
+        must.push((call, field, vec![32, 33, 40, 41, 54]));
+    }
+    must.push(("book_take", short, vec![31, 33, 37]));
+    must.push(("book_take", field, vec![32, 33]));
+    for call in ["satellite_at", "hpac_area"] {
         must.extend([short, mask_empty, field].map(|number| (call, number, Vec::new())));
     }
-    for call in ["gad_area", "bpac_area", "book_take"] {
+    for call in ["gad_area", "bpac_area"] {
         must.extend([short, field].map(|number| (call, number, Vec::new())));
     }
     must

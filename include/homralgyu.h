@@ -6,7 +6,10 @@
  * place is where the entry of that field begins, for SHORT where it would begin: a bit of the payload or an entry of the sheet, as the call
  * says, counted from 0. SHORT, FIELD and MASK_EMPTY carry a place where a payload or a sheet is refused by them. All other refusals carry
  * none, nor do the SHORT of a frame and the FIELD of an argument: SF number and place are 0 then, as in OK, and the answer is the number
- * alone. So 0 is OK; to ask for another number, take it out of the answer by homralgyu_number.
+ * alone. So 0 is OK. Do not compare such an answer with another number, nor keep it in an int: ask homralgyu_number(answer) == 8.
+ * Bit b of a payload is payload[b / 8] & (0x80 >> b % 8); in a frame the payload begins at byte HOMRALGYU_PAYLOAD_AT. SHORT names the field
+ * that no longer fits, which need not be the wrong one: the cause may be a count, a size or a mask before it. FIELD names the first code that
+ * cannot be.
  *
  * A slice is lent as a pointer and a count of its elements. What a caller in C must keep, since no call can test it:
  *   - the pointer is not null, even for 0 elements, and is aligned for its elements;
@@ -44,7 +47,7 @@ extern "C" {
 /* An answer of 64 bits, taken apart: document 01's number; the number of the field at fault, 20 for SF020, or 0 if there is no place; and
  * the place, a bit of the payload or an entry of the sheet. The field is the one in use, as SF096 for Galileo's ephemeris type, and SF069 for
  * the reserved bit. The size and the bits of a mask are two entries of one field, and each group of SF079 is an entry. An entry over 2^32 - 1,
- * which no message has, would be told as that. */
+ * which no layout has, would be told as that. */
 static inline uint8_t homralgyu_number(uint64_t answer)
 {
     return (uint8_t)(answer & 0xFF);

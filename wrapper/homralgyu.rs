@@ -827,6 +827,7 @@ pub struct Place {
     pub sf: u32,
     pub unit: Unit,
     /// the bit of the payload or the entry of the sheet, from 0 on, where the field's entry begins; for SHORT where it would
+    /// begin; bit b of a payload is `payload[b / 8] & (0x80 >> b % 8)`
     pub at: u32,
 }
 
@@ -850,7 +851,9 @@ impl fmt::Display for Place {
 /// assert_eq!(Fault::from(Refusal(9)).to_string(), "ROOM");
 /// ```
 ///
-/// By `?` it becomes a `Refusal`, without its place, where a function returns that, and a `Refusal` becomes a `Fault`.
+/// By `?` a `Refusal` becomes a `Fault`; the other way, which loses the place, has to be asked for: `fault.refusal`.
+/// SHORT names the field that no longer fits, which need not be the wrong one: the cause may be a count, a size or a mask
+/// before it. FIELD names the first code that cannot be.
 #[derive(Clone, Copy, PartialEq, Eq, Debug)]
 pub struct Fault {
     pub refusal: Refusal,
@@ -867,12 +870,6 @@ impl fmt::Display for Fault {
 }
 
 impl std::error::Error for Fault {}
-
-impl From<Fault> for Refusal {
-    fn from(fault: Fault) -> Refusal {
-        fault.refusal
-    }
-}
 
 impl From<Refusal> for Fault {
     fn from(refusal: Refusal) -> Fault {

@@ -37,6 +37,27 @@ hasPlace Leftover = false
 hasPlace State = false
 hasPlace Form = false
 
+-- those of them by which a field refuses a code
+abbrev pub ofCode : Refusal → Bool
+ofCode MaskEmpty = true
+ofCode Field = true
+ofCode Short = false
+ofCode Preamble = false
+ofCode FrameCrc = false
+ofCode Length = false
+ofCode MessageCrc = false
+ofCode UnknownType = false
+ofCode Room = false
+ofCode Sealed = false
+ofCode Tag = false
+ofCode NotOurs = false
+ofCode AreaOff = false
+ofCode Conflict = false
+ofCode BookFull = false
+ofCode Leftover = false
+ofCode State = false
+ofCode Form = false
+
 -- the same place, where so many bits or entries come before
 abbrev pub moved : ℕ → Place → Place
 moved n Nowhere = Nowhere

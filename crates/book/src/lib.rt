@@ -399,7 +399,7 @@ pub fn take(book: Book, bytes: &mut [u8], payload: &[u8]) -> Taken
         });
     }
     match sheet::judge(2, 0, payload) {
-        ReadAnswer::Refused(refusal) => Taken::Refused(refusal),
+        ReadAnswer::Refused(fault) => Taken::Refused(fault),
         ReadAnswer::Read {
             bits: _,
             entries: _,

@@ -32,7 +32,7 @@ answersNowhere Leftover = false
 answersNowhere State = true
 answersNowhere Form = false
 
--- those at a place: a field's number, and a bit of the payload or the one right behind it
+-- those at a place: a field's number, of which answers for other languages have 24 bits, and a bit that the longest payload has, or the one right behind it
 abbrev pub answersAt : Place → Refusal → Bool
 answersAt Nowhere why = answersNowhere why
 answersAt (At sf at) why = hasPlace why && (ltb 0 sf && (ltb sf (2 ^ 24) && leb at (8 * longestPayload)))

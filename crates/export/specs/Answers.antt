@@ -1,23 +1,22 @@
--- Theorems (document 02, request 2): an answer says number, field's number and place, each by bits of its own, wherever they have room; and of every payload they do. Proved.
-use mathlib.Core.Path.{_≡_, refl, ap, ap₂, sym, _∙_}
+-- Theorems (document 02, request 2): an answer says document 01's number, and is never OK's; field's number and place too, each by bits of its own, wherever they have room, as they have of
+-- every payload and of every sheet under 2^32 entries. Proved.
+use mathlib.Core.Path.{_≡_, refl, ap, ap₂, _∙_}
 use mathlib.Core.Bool.{Bool, true, false, cond}
 use mathlib.Core.List.{List}
 use Prim.Native.Nat.{ℕ, _+_, _-_, _*_, _/_, _%_, _^_, _≤_, _<_}
 use native.Mathlib.Omega.{arith}
-use borrow.Author.Tests.{ltb-true, ltb-false}
+use borrow.Author.Tests.{ltb-false}
 use lib.Dec.{ltb}
 use lib.ListN.{length}
-use Rattle.sizes.specs.Sizes.{longestPayload}
 use Rattle.answer.specs.Number.{numberOf}
 use Rattle.answer.specs.Place.{sfIn, atIn}
 use Rattle.answer.specs.declared.Refusal.{Refusal}
 use Rattle.answer.specs.declared.Refusal.the-variants as refusal
-use Rattle.answer.specs.declared.Place.the-variants.{At}
 use Rattle.answer.specs.declared.Fault.{Fault}
-use Rattle.sheet.specs.Sheet.{judged}
-use Rattle.sheet.specs.Laws.{good-some}
-use Rattle.sheet.specs.Places.{PayloadFault, no-layout, no-length, at-field, judged-faults, bit-inside}
+use Rattle.sheet.specs.Sheet.{judged, judgedSheet}
+use Rattle.sheet.specs.Places.{judged-faults, payload-within, judged-sheet-faults, entry-within}
 use Rattle.sheet.specs.declared.ReadAnswer.the-variants as reader
+use Rattle.sheet.specs.declared.WriteAnswer.the-variants as writer
 use Rattle.export.specs.Numbers.{atMost, mostSf, mostPlace, answerOf}
 
 -- the lowest 8 bits are document 01's number, the next 24 the field's, the highest 32 the bit or the entry
@@ -26,25 +25,35 @@ pub record Exact (fault : Fault) : Type 0 where
   pub sf : answerOf fault / 2 ^ 8 % 2 ^ 24 ≡ sfIn (fault .place)
   pub place : answerOf fault / 2 ^ 32 ≡ atIn (fault .place)
 
-number-small : (why : Refusal) → numberOf why < 2 ^ 8
-number-small refusal.Short = omega arith
-number-small refusal.Preamble = omega arith
-number-small refusal.FrameCrc = omega arith
-number-small refusal.Length = omega arith
-number-small refusal.MessageCrc = omega arith
-number-small refusal.UnknownType = omega arith
-number-small refusal.MaskEmpty = omega arith
-number-small refusal.Field = omega arith
-number-small refusal.Room = omega arith
-number-small refusal.Sealed = omega arith
-number-small refusal.Tag = omega arith
-number-small refusal.NotOurs = omega arith
-number-small refusal.AreaOff = omega arith
-number-small refusal.Conflict = omega arith
-number-small refusal.BookFull = omega arith
-number-small refusal.Leftover = omega arith
-number-small refusal.State = omega arith
-number-small refusal.Form = omega arith
+number-small : (why : Refusal) → (0 < numberOf why) × (numberOf why < 2 ^ 8)
+number-small refusal.Short = (omega arith, omega arith)
+number-small refusal.Preamble = (omega arith, omega arith)
+number-small refusal.FrameCrc = (omega arith, omega arith)
+number-small refusal.Length = (omega arith, omega arith)
+number-small refusal.MessageCrc = (omega arith, omega arith)
+number-small refusal.UnknownType = (omega arith, omega arith)
+number-small refusal.MaskEmpty = (omega arith, omega arith)
+number-small refusal.Field = (omega arith, omega arith)
+number-small refusal.Room = (omega arith, omega arith)
+number-small refusal.Sealed = (omega arith, omega arith)
+number-small refusal.Tag = (omega arith, omega arith)
+number-small refusal.NotOurs = (omega arith, omega arith)
+number-small refusal.AreaOff = (omega arith, omega arith)
+number-small refusal.Conflict = (omega arith, omega arith)
+number-small refusal.BookFull = (omega arith, omega arith)
+number-small refusal.Leftover = (omega arith, omega arith)
+number-small refusal.State = (omega arith, omega arith)
+number-small refusal.Form = (omega arith, omega arith)
+
+-- the lowest 8 bits are document 01's number, whatever the place is ..
+pub number-of-answer : (fault : Fault) → answerOf fault % 2 ^ 8 ≡ numberOf (fault .refusal)
+unfolding answerOf
+number-of-answer fault = omega (arith, number-small (fault .refusal) .1)
+
+-- .. so no refusal is answered by 0
+pub never-ok : (fault : Fault) → 0 < answerOf fault
+unfolding answerOf
+never-ok fault = omega (arith, number-small (fault .refusal) .0)
 
 at-most-is : (most x : ℕ) → x ≤ most → atMost most x ≡ x
 unfolding atMost
@@ -60,7 +69,7 @@ exact fault h k =
     let n : ℕ = numberOf (fault .refusal) in
     let s : ℕ = sfIn (fault .place) in
     let p : ℕ = atIn (fault .place) in
-    let small : n < 2 ^ 8 = number-small (fault .refusal) in
+    let small : n < 2 ^ 8 = number-small (fault .refusal) .1 in
     let is : answerOf fault ≡ n + (2 ^ 8 * s + 2 ^ 32 * p)
     = ap₂ (λ (x y : ℕ). n + (2 ^ 8 * x + 2 ^ 32 * y)) (at-most-is mostSf s h) (at-most-is mostPlace p k) in
     record {
@@ -69,14 +78,14 @@ exact fault h k =
       place = ap (λ (x : ℕ). x / 2 ^ 32) is ∙ omega arith;
     }
 
--- What a payload is refused by is told exactly.
+-- What a payload is refused by is told exactly ..
 pub judged-exact : (kind subtype : ℕ) (payload : List ℕ) (why : Fault) → judged kind subtype payload ≡ reader.Refused why → Exact why
-judged-exact kind subtype payload why e = go (judged-faults kind subtype payload why e)
-  where
-    go : PayloadFault kind subtype payload why → Exact why
-    go (no-layout q e) = exact why (omega (arith, ap (λ (x : Fault). sfIn (x .place)) e)) (omega (arith, ap (λ (x : Fault). atIn (x .place)) e))
-    go (no-length q e) = exact why (omega (arith, ap (λ (x : Fault). sfIn (x .place)) e)) (omega (arith, ap (λ (x : Fault). atIn (x .place)) e))
-    go (at-field l q g p s) =
-        let a : sfIn (why .place) ≡ p .sf = ap sfIn (p .place) in
-        let b : atIn (why .place) ≡ length (s .said) = ap atIn (s .place) in
-        exact why (omega (arith, p .number .small)) (omega (arith, bit-inside kind subtype payload l why s, good-some (length payload) g .1))
+judged-exact kind subtype payload why e =
+    let w = payload-within (judged-faults kind subtype payload why e) in
+    exact why (omega (arith, w .sf)) (omega (arith, w .at))
+
+-- .. and what a sheet is refused by, if it has fewer than 2^32 entries.
+pub judged-sheet-exact : (kind subtype : ℕ) (sheet : List ℕ) (why : Fault) → length sheet < 2 ^ 32 → judgedSheet kind subtype sheet ≡ writer.Refused why → Exact why
+judged-sheet-exact kind subtype sheet why few e =
+    let w = entry-within (judged-sheet-faults kind subtype sheet why e) in
+    exact why (omega (arith, w .sf)) (omega (arith, w .at))

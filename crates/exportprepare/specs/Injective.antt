@@ -1,4 +1,5 @@
--- Theorems: what is heard says what was told: no two things told are heard alike, and no two rows of them. Proved; assumes nothing.
+-- Theorems: what is heard says what was told: no two things told are heard alike, and no two rows of them, where each place told has a field's number (`Named`), as each has that a desk
+-- gives (`named-by`). Proved; assumes nothing.
 use mathlib.Core.Path.{_≡_, refl, sym, ap, ap₂, _∙_}
 use mathlib.Core.Bool.{true, _&&_}
 use mathlib.Core.List.{List, [], _∷_}
@@ -122,7 +123,7 @@ header-injective f g e =
       «payload_at» = at 14 i;
     }
 
--- ---- what is told, taken with the bytes of its entries or refused with its number, which is never 0
+-- ---- what is told, taken with the bytes of its entries or refused with its number, which is never 0, and its place
 
 module _ (f g : Frame) (b b′ : List ℕ) where
   accepted-injective : (n n′ : List ℕ) → heardOf (uncut.accepted f b n) ≡ heardOf (uncut.accepted g b′ n′) → uncut.accepted f b n ≡ uncut.accepted g b′ n′

@@ -8,7 +8,7 @@ use Rattle.answer.specs.declared.Refusal.{Refusal}
 use Rattle.answer.specs.declared.Fault.{Fault}
 use Rattle.export.specs.Numbers.{answerOf, room, roomFor, laid}
 
--- what a caller is told: document 01's number, further numbers, and floats
+-- what a caller is told: document 01's number, of a refusal with its place, further numbers, and floats
 pub record Told : Type 0 where
   pub number : ℕ
   pub numbers : List ℕ

@@ -1,9 +1,9 @@
 -- Theorems, for every layout at once (document 02, request 2): where a refusal is. Its place has the number of the layout's field there; the bits, or the entries, before it are those of
--- the entries before that field, each taken by its own; SHORT is at the first entry that is not there. And each payload or sheet that stops so is refused so. Proved.
+-- the entries before that field, each taken by its own. And each payload or sheet that stops so is refused so. (SHORT: Placed.antt.) Proved.
 use mathlib.Core.Path.{_≡_, refl, ap, ap₂, sym, _∙_, subst}
 use mathlib.Core.Bool.{Bool, true, false}
 use mathlib.Core.List.{List, [], _∷_, _++_, append-assoc}
-use Prim.Native.Nat.{ℕ, zero, suc, _+_, _^_, _≤_, _<_}
+use Prim.Native.Nat.{ℕ, _+_, _^_, _≤_, _<_}
 use native.Mathlib.Omega.{arith}
 use lib.Dec.{ltb, leb}
 use lib.ListN.{length, take, drop, length-append, take-append-drop}
@@ -12,7 +12,7 @@ use borrow.Author.Tests.{leb-true, leb-false, ltb-true, ltb-false, lt-ltb, le-lt
 use Rattle.answer.specs.declared.Refusal.{Refusal}
 use Rattle.answer.specs.declared.Refusal.the-variants as refusal
 use Rattle.answer.specs.declared.Place.{Place}
-use Rattle.answer.specs.declared.Place.the-variants.{Nowhere, At}
+use Rattle.answer.specs.declared.Place.the-variants.{At}
 use Rattle.answer.specs.declared.Fault as answer
 use Rattle.answer.specs.Place.{nowhere, faultAt, moved, further}
 use Rattle.answer.specs.Further.{further-none, further-twice}

@@ -8,7 +8,7 @@ use native.Mathlib.Omega.{arith}
 use lib.Dec.{T, ltb, leb, ltb→lt, leb→le}
 use lib.ListN.{length}
 use lib.Pow.{pow-pos}
-use Rattle.answer.specs.Place.{hasPlace}
+use Rattle.answer.specs.Place.{ofCode}
 use Rattle.layout.specs.declared.Field.{Field}
 use Rattle.layout.specs.Layout.{Layout, done, field, pick}
 use Rattle.layout.specs.Parts.{free, absent, present, optional, times, each}
@@ -20,15 +20,15 @@ pub record Numbered (sf : ℕ) : Type 0 where
   pub some : 0 < sf
   pub small : sf < 2 ^ 24
 
--- A field as every reader and writer wants it: not empty, of a word at most, and all that it takes fits its width; with a number; what it does not take is refused by what has a place.
+-- A field as every reader and writer wants it: not empty, of a word at most, and all that it takes fits its width; with a number; what it does not take is refused by FIELD or MASK_EMPTY.
 pub record Fine (f : Field) : Type 0 where
   pub some : 0 < f .width
   pub word : f .width ≤ 64
   pub most : f .most < 2 ^ f .width
   pub extra : f .extra < 2 ^ f .width
   pub number : Numbered (f .sf)
-  pub under : hasPlace (f .under) ≡ true
-  pub over : hasPlace (f .over) ≡ true
+  pub under : ofCode (f .under) ≡ true
+  pub over : ofCode (f .over) ≡ true
 
 abbrev both : Bool → Bool → Bool
 both true b = b
@@ -46,7 +46,7 @@ abbrev fits : Field → Bool
 fits f = both (ltb (f .most) (2 ^ f .width)) (ltb (f .extra) (2 ^ f .width))
 
 abbrev named : Field → Bool
-named f = both (ltb 0 (f .sf)) (both (ltb (f .sf) (2 ^ 24)) (both (hasPlace (f .under)) (hasPlace (f .over))))
+named f = both (ltb 0 (f .sf)) (both (ltb (f .sf) (2 ^ 24)) (both (ofCode (f .under)) (ofCode (f .over))))
 
 abbrev pub isFine : Field → Bool
 isFine f = both (ltb 0 (f .width)) (both (leb (f .width) 64) (both (fits f) (named f)))
@@ -70,8 +70,8 @@ fine {f} t =
       most = ltb→lt _ _ (both-first (ltb (f .most) (2 ^ f .width)) (ltb (f .extra) (2 ^ f .width)) t2);
       extra = ltb→lt _ _ (both-second (ltb (f .most) (2 ^ f .width)) (ltb (f .extra) (2 ^ f .width)) t2);
       number = record { some = ltb→lt _ _ (both-first (ltb 0 (f .sf)) _ n1); small = ltb→lt _ _ (both-first (ltb (f .sf) (2 ^ 24)) _ n2) };
-      under = is-true _ (both-first (hasPlace (f .under)) _ n3);
-      over = is-true _ (both-second (hasPlace (f .under)) (hasPlace (f .over)) n3);
+      under = is-true _ (both-first (ofCode (f .under)) _ n3);
+      over = is-true _ (both-second (ofCode (f .under)) (ofCode (f .over)) n3);
     }
 
 -- a field that takes its full width

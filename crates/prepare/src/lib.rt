@@ -18,8 +18,8 @@ use desk::Desk;
 use frame::Frame;
 use stream::Tray;
 
-// What a call says: a frame that the desk took, or refused with its reason and the reason's place, which lies first in the tray; a count of noise; all input is used; all is
-// told; or a refusal of the call.
+// What a call says: a frame, which lies first in the tray, taken by the desk or refused with the reason and its place; a count of noise; all input is used; all is told; or a
+// refusal of the call.
 pub enum Said {
     Accepted(Frame),
     FrameRefused { header: Frame, why: Fault },

@@ -26,7 +26,7 @@ pub data Went : Type 0 where
   to : (pos at last : ℕ) (lent : List ℕ) → Went
   stopped : (why : answer.Fault) (lent : List ℕ) → Went
 
--- What a walk does at a cell of a width: which of position and place in the sheet says where a fault is, whether a code is there, the code, the position behind it, and the lent list
+-- What a walk does at a cell of a width: which of position and entry says where a fault is, whether a code is there, the code, the position behind it, and the lent list
 -- with it.
 pub record Way : Type 0 where
   pub place : (pos at : ℕ) → ℕ

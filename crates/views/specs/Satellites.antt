@@ -97,7 +97,7 @@ abbrev pub satelliteView : (start : ℕ) → ocb.Use → Satellite
 satelliteView start ocb.outOfUse = OutOfUse
 satelliteView start (ocb.inUse b) = InUse (blocksView start b)
 
--- ---- the satellite at a place; a place past the last satellite is FIELD, an argument outside its range
+-- ---- the satellite at a place; a place past the last satellite is FIELD, an argument outside its range, without a place of its own
 
 -- the satellites follow one another on the sheet from `start` on
 unfoldable pub nthFrom : (start : ℕ) → List ocb.Satellite → (place : ℕ) → SatelliteAnswer

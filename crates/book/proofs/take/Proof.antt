@@ -19,8 +19,8 @@ returns-2 c = search (take-state, left-state, needs)
 judge-requires : tie.Need-judge-requires
 judge-requires c κs = search needs
 
-enum-known-refusal : tie.Need-enum-known-refusal
-enum-known-refusal c = search needs
+enum-known-fault : tie.Need-enum-known-fault
+enum-known-fault c = search needs
 
 enum-told : tie.Need-enum-told
 enum-told c = search needs
@@ -49,7 +49,7 @@ take-spec =
     same-length
     returns-2
     judge-requires
-    enum-known-refusal
+    enum-known-fault
     enum-told
     take-blocks-requires
     same-length-2
