@@ -9,3 +9,4 @@ pub mod Judge
 pub mod Theorems
 pub mod Examples
 pub mod Determined
+pub mod PassedOn

@@ -8,6 +8,7 @@ pub mod Payloads
 pub mod Copied
 pub mod Fits
 pub mod Answering
+pub mod PassedOn
 pub mod History
 pub mod Continues
 pub mod Entries
