@@ -195,7 +195,8 @@ const NARROW: [RangeInclusive<u16>; 10] =
     [20..=21, 29..=29, 32..=33, 40..=41, 43..=43, 45..=50, 54..=54, 57..=62, 73..=74, 80..=80];
 
 /// Which call has to have said what at which fields: the readers and the writer at all that there are, the desk and the joined
-/// call at some of a GAD and of an HPAC message, residuals too, the views anywhere. A GAD and a BPAC have no satellite mask.
+/// call at some of a GAD and of an HPAC message, residuals too, the book at some of a GAD, the views anywhere. A GAD and a BPAC
+/// have no satellite mask.
 pub fn must() -> Vec<Must> {
     let listed = |ranges: &[RangeInclusive<u16>]| ranges.iter().cloned().flatten().collect::<Vec<u16>>();
     let number = Refusal::number;

@@ -6,10 +6,10 @@
  * place is where the entry of that field begins, for SHORT where it would begin: a bit of the payload or an entry of the sheet, as the call
  * says, counted from 0. SHORT, FIELD and MASK_EMPTY carry a place where a payload or a sheet is refused by them. All other refusals carry
  * none, nor do the SHORT of a frame and the FIELD of an argument: SF number and place are 0 then, as in OK, and the answer is the number
- * alone. So 0 is OK. Do not compare such an answer with another number, nor keep it in an int: ask homralgyu_number(answer) == 8.
- * Bit b of a payload is payload[b / 8] & (0x80 >> b % 8); in a frame the payload begins at byte HOMRALGYU_PAYLOAD_AT. SHORT names the field
- * that no longer fits, which need not be the wrong one: the cause may be a count, a size or a mask before it. FIELD names the first code that
- * cannot be.
+ * alone. So 0 is OK. Do not compare such an answer with another number, nor keep it in an int: ask homralgyu_number(answer) == 8 for FIELD.
+ * Bit b of a payload is payload[b / 8] & (0x80 >> b % 8), and in a frame the payload begins at byte header[HOMRALGYU_PAYLOAD_AT]; of SHORT, b may
+ * be 8 * payload_len, where no bit lies. SHORT names the field that no longer fits, which need not be the wrong one: the cause may be a count, a
+ * size or a mask before it. FIELD names the first code that cannot be.
  *
  * A slice is lent as a pointer and a count of its elements. What a caller in C must keep, since no call can test it:
  *   - the pointer is not null, even for 0 elements, and is aligned for its elements;

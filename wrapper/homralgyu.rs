@@ -827,7 +827,8 @@ pub struct Place {
     pub sf: u32,
     pub unit: Unit,
     /// the bit of the payload or the entry of the sheet, from 0 on, where the field's entry begins; for SHORT where it would
-    /// begin; bit b of a payload is `payload[b / 8] & (0x80 >> b % 8)`
+    /// begin. Bit b of a payload is `payload[b / 8] & (0x80 >> b % 8)`, with `b = at as usize`; of SHORT, b may be the bits that
+    /// the payload has, where no bit lies
     pub at: u32,
 }
 

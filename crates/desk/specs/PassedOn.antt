@@ -17,7 +17,6 @@ use Rattle.answer.specs.declared.Refusal.the-variants as refusal
 use Rattle.layout.specs.Layout.{done, readL}
 use Rattle.layout.specs.Layout as layout
 use Rattle.bits.specs.Bits.{toBits}
-use Rattle.codes.specs.Tables.{rowOf}
 use Rattle.hpac.specs.Hpac.{Hpac, hpac}
 use Rattle.gad.specs.Gad.{Gad}
 use Rattle.message.specs.Messages.{Message, ocbMessage, hpacMessage, gadMessage, bpacMessage}

@@ -1,5 +1,5 @@
--- Theorems (document 02, request 2): an answer says document 01's number, and is never OK's; field's number and place too, each by bits of its own, wherever they have room, as they have of
--- every payload and of every sheet under 2^32 entries. Proved.
+-- Theorems (document 02, request 2): a refusal's answer says document 01's number and is never 0; field's number and place too, each by bits of its own, wherever they have room, as they do
+-- for every payload and for every sheet under 2^32 entries. Proved.
 use mathlib.Core.Path.{_≡_, refl, ap, ap₂, _∙_}
 use mathlib.Core.Bool.{Bool, true, false, cond}
 use mathlib.Core.List.{List}

@@ -145,7 +145,7 @@ module _ (f g : Frame) (b b′ : List ℕ) where
       let l = place-injective (why .place) (why′ .place) n n′ s a in
       λ i. uncut.refused (header-injective f g h i) (p i) (record { refusal = r i; place = l i })
 
--- a place that is told of a frame has a field's number (`named-by`)
+-- what is asked of a thing told: its place has a field's number, as one that a desk gives has (`named-by`)
 abbrev pub NamedTold : uncut.Told → Type 0
 NamedTold (uncut.accepted f b n) = Unit {0}
 NamedTold (uncut.refused f b why) = Named (why .place)

@@ -1,5 +1,5 @@
 -- Theorems, for every layout that a machine walks (document 02, request 2): its faults are SHORT, FIELD and MASK_EMPTY, and each has a place with a field's number; LEFTOVER has none;
--- SHORT is at the first entry that is not there. Proved.
+-- SHORT is at the first entry that is not there whole. Proved.
 use mathlib.Core.Path.{_≡_, refl, ap, sym, _∙_, subst}
 use mathlib.Core.Bool.{Bool, true, false, false≢true}
 use mathlib.Core.List.{List, [], _∷_, _++_}
@@ -130,7 +130,7 @@ module _ {S A : Type 0} {fieldOf : S → Field} {stepOf : S → ℕ → S} where
   write-placed (goes {f = f} {next} e fine walks) (c ∷ cs) why r =
       entry-placed f fine c (judge f c) (ltb c (2 ^ f .width)) (writeL (next c) cs) why refl (λ q why' r'. write-placed (walks c (taken-fits fine q)) cs why' r') r
 
--- ---- SHORT: it is at the first entry that is not there
+-- ---- SHORT: it is at the first entry that is not there whole
 
 module _ {S A : Type 0} {fieldOf : S → Field} {stepOf : S → ℕ → S} where
   fine-there : {s : S} {l : Layout A} → Walks fieldOf stepOf s l → {cs said : List ℕ} {f : Field} {next : ℕ → Layout A} → Before l cs said (field f next) → Fine f

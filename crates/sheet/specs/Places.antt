@@ -63,7 +63,7 @@ module _ (kind subtype : ℕ) (payload : List ℕ) where
   unfolding judged
   stops-judged l why q g s = ap readAnswerBy (judging-with kind subtype payload q g ∙ stops-refused l (toBits payload) why s)
 
-  -- SHORT is where the payload ends within an entry, or right behind one.
+  -- SHORT: from the place on the payload has too few bits for the field there.
   pub short-payload : (l : Layout Message) (why : answer.Fault) → layoutFor kind subtype ≡ present l → (s : ReadStop l (toBits payload) why) → why .refusal ≡ refusal.Short
       → length (s .rest) < s .here .width
   short-payload l why q s e = short-bits (walked kind subtype l q .walks) (toBits payload) why s e
@@ -142,7 +142,7 @@ pub short-entry : (kind subtype : ℕ) (sheet : List ℕ) (l : Layout Message) (
     → atIn (why .place) ≡ length sheet
 short-entry kind subtype sheet l why q s e = short-sheet (walked kind subtype l q .walks) sheet why s e
 
--- ---- a field's number has 24 bits; a place is at most as far as there are bits, or entries
+-- ---- a field's number has 24 bits; a place is at most as far as the longest payload has bits, or the sheet entries
 
 pub record Within (most : ℕ) (why : answer.Fault) : Type 0 where
   pub sf : sfIn (why .place) < 2 ^ 24
