@@ -1,74 +1,402 @@
-/* How much stack each call takes that reads the run log, beside what the caller lends: it runs on a stack of its own, painted before
- * and looked at behind. Prints a line a call, and exits with 1 if one takes over 2 KiB, with 2 if the entry does not read. */
+/* How much stack the calls take, beside what the caller lends: each runs on a stack of its own, painted before and looked at behind, over messages
+ * of every type, accepted and refused. Prints the most that each call took and on which input. What is counted is all below the place of the call:
+ * arguments that go by the stack and the return address too.
+ *
+ * stack [--markdown] [NAME..]: exits with 1 if a call takes over 2 KiB that is not among the names, and with 2 if an input is not what it should
+ * be, so that nothing was measured. */
 #define _XOPEN_SOURCE 700
 #include "homralgyu.h"
 #include <stdio.h>
 #include <string.h>
 #include <ucontext.h>
 
-enum { ROOM = 256 * 1024, MOST = 2048, PAINT = 0xA5 };
+enum { ROOM = 128 * 1024, MOST = 2048, PAINT = 0xA5, AIOU = 3, TAG = 100, SOLUTION = 5, PROCESSOR = 11 };
 
 static unsigned char stack[ROOM];
-static uint8_t bytes[16384];
-static size_t length;
-static uint64_t entry[HOMRALGYU_ENTRY], what[2];
-static double value[1];
 static ucontext_t here, there;
+static size_t base;
 
-static void put(uint64_t x) {
-    for (; x >= 128; x /= 128) bytes[length++] = (uint8_t)(128 + x % 128);
-    bytes[length++] = (uint8_t)x;
+/* ---- inputs */
+
+struct input {
+    const char *name;
+    uint8_t kind, subtype;
+    uint64_t sheet[HOMRALGYU_SHEET_ROOM];
+    size_t entries;
+    uint8_t payload[HOMRALGYU_LONGEST_PAYLOAD];
+    size_t bits, bytes;
+    uint8_t frame[HOMRALGYU_LONGEST_FRAME];
+    size_t length;
+};
+
+static struct input inputs[32];
+static size_t made;
+static struct input *at;
+static int wrong;
+
+static void expect(int holds, const char *what) {
+    if (holds) return;
+    fprintf(stderr, "stack: %s: %s\n", at ? at->name : "no input", what);
+    wrong = 1;
 }
 
-/* The longest entry, 8,525 bytes: area 255, whose ID takes two bytes and whose 47 bits take seven, with 8 x 8 nodes, both grids with the
- * widest residuals, 64 satellites of two bytes each. */
-static void make(void) {
-    uint64_t id = 255, bits = (id << 39) | ((uint64_t)1800 << 28) | (7 << 13) | (7 << 10);
-    put(2), put(id), put(bits), put(64), put(1);
-    for (int node = 0; node < 64; node++) put(255);
-    put(64);
-    for (int k = 0; k < 64; k++) {
-        put(193 + k), put(3);
-        for (int node = 0; node < 64; node++) put(16383);
+static void code(uint64_t x) { at->sheet[at->entries++] = x; }
+
+static void codes(size_t count, uint64_t x) {
+    while (count-- > 0) code(x);
+}
+
+static struct input *begin(const char *name, uint8_t kind, uint8_t subtype) {
+    at = &inputs[made++];
+    at->name = name, at->kind = kind, at->subtype = subtype;
+    return at;
+}
+
+static void frame_of(uint64_t tag, uint8_t solution) {
+    uint64_t size[1] = {0};
+    uint8_t answer = homralgyu_frame_write(at->kind, 2, at->subtype, 0, tag, solution, PROCESSOR, at->payload, at->bytes, at->frame,
+                                           HOMRALGYU_LONGEST_FRAME, size, 1);
+    expect(answer == 0, "the frame is not written");
+    at->length = size[0];
+}
+
+/* Payload and frame of the sheet. */
+static void end(void) {
+    uint64_t counts[2] = {0, 0};
+    uint64_t answer =
+        homralgyu_sheet_write(at->kind, at->subtype, at->sheet, at->entries, at->payload, HOMRALGYU_LONGEST_PAYLOAD, counts, 2);
+    expect(answer == 0, "the sheet is not written");
+    at->bits = counts[0], at->bytes = counts[1];
+    frame_of(TAG, SOLUTION);
+}
+
+/* Sixteen satellites with every block; so many bias bits each. */
+static void ocb(const char *name, uint8_t subtype, uint64_t satellites, uint64_t bias, int biases) {
+    begin(name, 0, subtype);
+    code(5), code(0), code(0), code(1), code(0), code(0), code(3), code(satellites);
+    for (; satellites; satellites &= satellites - 1) {
+        code(0), code(7), code(2), code(99);
+        codes(3, 16382), code(63), code(1), code(8200), code(4);
+        code(1), code(bias);
+        for (int i = 0; i < biases; i++) code(1), code(6), code(8000);
+        code(1), code(bias), codes((size_t)biases, 1023);
     }
+    end();
 }
+
+/* Areas from an ID on, each with so many points and eight satellites; blocks 1 is without grids. */
+static void hpac(const char *name, uint64_t areas, uint64_t id, uint64_t points, uint64_t blocks) {
+    begin(name, 1, 0);
+    code(5), code(AIOU), code(0), code(areas - 1);
+    for (uint64_t area = 0; area < areas; area++) {
+        code(id + 7 * area), code(points), code(blocks), code(blocks);
+        code(2), code(0), code(254), code(1), codes(4, 9);
+        if (blocks == 2) code(1), codes(points, 255);
+        code(2), code(0), code(0x88888888);
+        for (int k = 0; k < 8; k++) {
+            code(15), code(1), codes(4, 9);
+            if (blocks == 2) code(2), codes(points, 1023);
+        }
+    }
+    end();
+}
+
+/* So many areas with rows and columns, as codes, and their reference corner as far south as told. */
+static void gad(const char *name, uint64_t areas, uint64_t rows, uint64_t latitude) {
+    begin(name, 2, 0);
+    code(5), code(AIOU), code(0), code(areas - 1);
+    for (uint64_t area = 1; area <= areas; area++)
+        code(7 * area), code(latitude), code(10 * area), code(rows), code(7), code(9), code(9);
+    end();
+}
+
+static void bpac(void) {
+    begin("BPAC, two areas of 128 nodes", 3, 0);
+    code(5), code(0), code(1), code(1);
+    for (uint64_t area = 0; area < 2; area++) {
+        code(area), code(170), code(360), code(15), code(7), code(3), code(3), code(9);
+        codes(2, 0xF0F0F0F0F0F0F0F0);
+        for (int node = 0; node < 64; node++) code(15), code(node % 2), code(99);
+    }
+    end();
+}
+
+static struct input *again(const struct input *of, const char *name) {
+    struct input *to = begin(name, of->kind, of->subtype);
+    *to = *of;
+    to->name = name;
+    return to;
+}
+
+/* The message without its last entry and its last byte. */
+static void cut(const struct input *of, const char *name) {
+    struct input *to = again(of, name);
+    to->entries--, to->bytes--;
+    frame_of(TAG, SOLUTION);
+}
+
+/* So many bits from a bit on are set, and an entry has the top code. */
+static void top(const struct input *of, const char *name, size_t bit, size_t width, size_t entry) {
+    struct input *to = again(of, name);
+    for (size_t b = bit; b < bit + width; b++) to->payload[b / 8] |= (uint8_t)(0x80 >> b % 8);
+    to->sheet[entry] = ((uint64_t)1 << width) - 1;
+    frame_of(TAG, SOLUTION);
+}
+
+static struct input *known, *placed;
+
+static void make(void) {
+    ocb("OCB of GPS, 16 satellites", 0, 0xFFFF, 0x7FF, 11);
+    struct input *rich = at;
+    ocb("OCB of Galileo, 10 satellites", 2, 0x3FF, 0x7FFF, 15);
+    hpac("HPAC, 64 nodes, 8 satellites", 1, 7, 64, 2);
+    placed = at;
+    hpac("HPAC, no grids, 6 areas", 6, 7, 64, 1);
+    struct input *plain = at;
+    hpac("HPAC, an area left out", 1, 8, 64, 2);
+    gad("GAD of 32", 32, 7, 1800);
+    known = at;
+    gad("GAD in conflict", 32, 6, 1800);
+    gad("GAD off", 32, 7, 0);
+    bpac();
+    struct input *vtec = at;
+    cut(rich, "OCB, cut");
+    cut(placed, "HPAC, cut");
+    cut(known, "GAD, cut");
+    cut(vtec, "BPAC, cut");
+    top(rich, "OCB, the last code refused", rich->bits - 11, 11, rich->entries - 1);
+    top(plain, "HPAC, the last code refused", plain->bits - 15, 15, plain->entries - 1);
+    top(known, "GAD, the last latitude refused", known->bits - 39, 11, known->entries - 6);
+    again(placed, "HPAC, a tag out of range"), frame_of(43200, SOLUTION);
+    again(placed, "HPAC, another solution"), frame_of(TAG, SOLUTION + 1);
+    again(placed, "HPAC, damaged")->frame[30] ^= 4;
+    again(placed, "HPAC, a sheet that goes on")->entries++;
+}
+
+/* ---- what is lent */
+
+static uint8_t bytes[HOMRALGYU_LONGEST_FRAME], live[HOMRALGYU_BOOK_BYTES], run[HOMRALGYU_BOOK_BYTES], log_[HOMRALGYU_LOG_ROOM];
+static uint64_t tray[3], desk[HOMRALGYU_DESK], told[HOMRALGYU_TOLD], header[HOMRALGYU_HEADER], written[1], counts[2], book[2];
+static uint64_t sheet[HOMRALGYU_SHEET_ROOM], entry[HOMRALGYU_ENTRY], what[2];
+static uint8_t out[HOMRALGYU_LONGEST_FRAME], kept[HOMRALGYU_KEPT_ROOM], entries[16384];
+static size_t kept_bytes, length;
+static double value[1];
+static const uint8_t *part;
+static size_t part_bytes;
+static uint64_t answer;
+
+#define DESK desk, HOMRALGYU_DESK, live, sizeof live, run, sizeof run, log_, sizeof log_
+#define TRAY bytes, sizeof bytes, tray, 3
+#define TOLD(room) told, room, header, HOMRALGYU_HEADER
 
 static void nothing(void) {}
-static void read_entry(void) { homralgyu_entry_read(bytes, length, entry, HOMRALGYU_ENTRY); }
-static void troposphere(void) { homralgyu_entry_troposphere(bytes, length, 63, what, 2, value, 1); }
-static void satellite(void) { homralgyu_entry_satellite(bytes, length, 63, what, 2); }
-static void residual(void) { homralgyu_entry_residual(bytes, length, 63, 63, what, 2, value, 1); }
+static void take(void) { answer = homralgyu_desk_take(at->frame, at->length, 1, DESK, written, 1); }
+static void judge(void) { answer = homralgyu_payload_judge(at->kind, at->subtype, at->payload, at->bytes, counts, 2); }
+static void read_payload(void) {
+    answer = homralgyu_payload_read(at->kind, at->subtype, at->payload, at->bytes, sheet, HOMRALGYU_SHEET_ROOM, counts, 2);
+}
+static void judge_sheet(void) { answer = homralgyu_sheet_judge(at->kind, at->subtype, at->sheet, at->entries, counts, 2); }
+static void write_sheet(void) {
+    answer = homralgyu_sheet_write(at->kind, at->subtype, at->sheet, at->entries, out, HOMRALGYU_LONGEST_PAYLOAD, counts, 2);
+}
+static void check(void) { answer = homralgyu_frame_check(at->frame, at->length, header, HOMRALGYU_HEADER); }
+static void write_frame(void) {
+    answer = homralgyu_frame_write(at->kind, 3, at->subtype, 1, TAG, SOLUTION, PROCESSOR, at->payload, at->bytes, out, sizeof out,
+                                   written, 1);
+}
+static void take_book(void) { answer = homralgyu_book_take(book, 2, live, sizeof live, at->payload, at->bytes); }
+static void keep(void) { answer = homralgyu_kept_write(book, 2, live, sizeof live, out, sizeof out, written, 1); }
+static void read_kept(void) { answer = homralgyu_kept_read(kept, kept_bytes, book, 2, live, sizeof live); }
+static void call(void) { answer = homralgyu_stream_call(TRAY, part, part_bytes, TOLD(3)); }
+static void finish(void) { answer = homralgyu_stream_finish(TRAY, TOLD(3)); }
+static void prepare(void) { answer = homralgyu_prepare_call(TRAY, DESK, part, part_bytes, 1, TOLD(HOMRALGYU_TOLD)); }
+static void prepare_end(void) { answer = homralgyu_prepare_finish(TRAY, DESK, 1, TOLD(HOMRALGYU_TOLD)); }
+static void read_entry(void) { answer = homralgyu_entry_read(entries, length, entry, HOMRALGYU_ENTRY); }
+static void troposphere(void) { answer = homralgyu_entry_troposphere(entries, length, 63, what, 2, value, 1); }
+static void satellite(void) { answer = homralgyu_entry_satellite(entries, length, 63, what, 2); }
+static void residual(void) { answer = homralgyu_entry_residual(entries, length, 63, 63, what, 2, value, 1); }
 
-static size_t taken(void (*call)(void)) {
+/* ---- measuring */
+
+struct most {
+    const char *name;
+    size_t bytes;
+    const char *input;
+};
+
+static struct most calls[] = {{"prepare_call", 0, ""}, {"prepare_finish", 0, ""}, {"desk_take", 0, ""}, {"payload_read", 0, ""},
+                              {"payload_judge", 0, ""}, {"sheet_judge", 0, ""}, {"sheet_write", 0, ""}, {"stream_call", 0, ""},
+                              {"stream_finish", 0, ""}, {"frame_check", 0, ""}, {"frame_write", 0, ""}, {"book_take", 0, ""},
+                              {"kept_read", 0, ""}, {"kept_write", 0, ""}, {"entry_read", 0, ""}, {"entry_troposphere", 0, ""},
+                              {"entry_satellite", 0, ""}, {"entry_residual", 0, ""}};
+enum { CALLS = sizeof calls / sizeof calls[0] };
+
+static size_t taken(void (*f)(void)) {
     memset(stack, PAINT, ROOM);
     getcontext(&there);
     there.uc_stack.ss_sp = stack;
     there.uc_stack.ss_size = ROOM;
     there.uc_link = &here;
-    makecontext(&there, call, 0);
+    makecontext(&there, f, 0);
     swapcontext(&here, &there);
     size_t left = 0;
     while (left < ROOM && stack[left] == PAINT) left++;
     return ROOM - left;
 }
 
-int main(void) {
-    static const struct {
-        const char *name;
-        void (*call)(void);
-    } calls[] = {{"homralgyu_entry_read", read_entry},
-                 {"homralgyu_entry_troposphere", troposphere},
-                 {"homralgyu_entry_satellite", satellite},
-                 {"homralgyu_entry_residual", residual}};
-    make();
-    if (homralgyu_entry_read(bytes, length, entry, HOMRALGYU_ENTRY) != 0 || entry[HOMRALGYU_ENTRY_USED] != length) return 2;
-    if (homralgyu_entry_residual(bytes, length, 63, 63, what, 2, value, 1) != 0) return 2;
-    size_t base = taken(nothing);
-    int status = 0;
-    for (size_t i = 0; i < sizeof calls / sizeof calls[0]; i++) {
-        size_t used = taken(calls[i].call) - base;
-        printf("%s: %zu bytes of stack on an entry of %zu bytes\n", calls[i].name, used, length);
-        if (used > MOST) status = 1;
+static void measure(const char *name, void (*f)(void), const char *input) {
+    size_t used = taken(f) - base;
+    for (size_t i = 0; i < CALLS; i++) {
+        if (strcmp(calls[i].name, name) != 0) continue;
+        if (used > calls[i].bytes) calls[i].bytes = used, calls[i].input = input;
+        return;
+    }
+    expect(0, name);
+}
+
+/* A tray and a desk at the start; the desk with a book of 32 areas, and with an open run too. */
+static void fresh(int state) {
+    memset(bytes, 0, sizeof bytes), memset(tray, 0, sizeof tray);
+    homralgyu_desk_new(SOLUTION, PROCESSOR, 0, desk, HOMRALGYU_DESK);
+    struct input *now = at;
+    if (state >= 1) at = known, take(), expect(answer == 0, "the book is not taken");
+    if (state >= 2) at = placed, take(), expect(answer == 0, "the message is not taken");
+    at = now;
+}
+
+/* The bytes in portions, then the end. */
+static void feed(const uint8_t *stream, size_t size, size_t portion, int desk_too) {
+    for (size_t from = 0; from < size; from += portion) {
+        size_t left = size - from < portion ? size - from : portion;
+        part = stream + from, part_bytes = left;
+        do {
+            measure(desk_too ? "prepare_call" : "stream_call", desk_too ? prepare : call, at->name);
+            expect(answer == 0, "the stream refuses");
+            part += told[1], part_bytes -= told[1];
+        } while (told[0] != 0 && !wrong);
+    }
+    do {
+        measure(desk_too ? "prepare_finish" : "stream_finish", desk_too ? prepare_end : finish, at->name);
+        expect(answer == 0, "the end of the stream refuses");
+    } while (told[0] != 3 && !wrong);
+}
+
+/* Noise, the start of a frame that never ends, and the frame: so the end of the stream still has it to tell. */
+static void streams(int state) {
+    static uint8_t stream[HOMRALGYU_LONGEST_FRAME * 2];
+    struct input *longest = placed;
+    memset(stream, 0x21, 3);
+    memcpy(stream + 3, longest->frame, 8);
+    memcpy(stream + 11, at->frame, at->length);
+    for (int desk_too = 0; desk_too < 2; desk_too++) {
+        fresh(state), feed(at->frame, at->length, at->length, desk_too);
+        fresh(state), feed(stream, at->length + 11, at->length + 11, desk_too);
+        fresh(state), feed(stream, at->length + 11, 97, desk_too);
+    }
+}
+
+static void books(void) {
+    memset(book, 0, sizeof book), memset(live, 0, sizeof live);
+    measure("book_take", take_book, at->name);
+    measure("book_take", take_book, at->name);
+    if (answer != 0) return;
+    measure("kept_write", keep, at->name);
+    expect(answer == 0, "the book is not kept");
+    kept_bytes = written[0];
+    memcpy(kept, out, sizeof kept);
+    measure("kept_read", read_kept, at->name);
+    expect(answer == 0, "the kept book does not read");
+    kept_bytes--;
+    measure("kept_read", read_kept, "a kept book, cut");
+    kept_bytes++, kept[1] = 99;
+    measure("kept_read", read_kept, "a kept book of no form");
+    book[1] = 33;
+    measure("kept_write", keep, "a book that is not sound");
+}
+
+static void put(uint64_t x) {
+    for (; x >= 128; x /= 128) entries[length++] = (uint8_t)(128 + x % 128);
+    entries[length++] = (uint8_t)x;
+}
+
+static void entry_calls(const char *name) {
+    measure("entry_read", read_entry, name);
+    measure("entry_troposphere", troposphere, name);
+    measure("entry_satellite", satellite, name);
+    measure("entry_residual", residual, name);
+}
+
+/* The longest entry, 8,525 bytes: area 255, whose ID takes two bytes and whose 47 bits take seven, with 8 x 8 nodes, both grids with the
+ * widest residuals, 64 satellites of two bytes each; then cut, and of no form. */
+static void run_log(void) {
+    uint64_t id = 255, bits = (id << 39) | ((uint64_t)1800 << 28) | (7 << 13) | (7 << 10);
+    put(2), put(id), put(bits), put(64), put(1);
+    for (int node = 0; node < 64; node++) put(255);
+    put(64);
+    for (int k = 0; k < 64; k++) {
+        put(193 + (uint64_t)k), put(3);
+        for (int node = 0; node < 64; node++) put(16383);
+    }
+    read_entry();
+    expect(answer == 0 && entry[HOMRALGYU_ENTRY_USED] == length && length == 8525, "the longest entry does not read");
+    residual();
+    expect(answer == 0, "the longest entry has no last residual");
+    entry_calls("the longest entry");
+    length--;
+    entry_calls("the longest entry, cut");
+    entries[length++] = 0;
+    entry_calls("the longest entry, of no form");
+}
+
+static void all(void) {
+    for (size_t i = 0; i < made; i++) {
+        at = &inputs[i];
+        measure("payload_judge", judge, at->name);
+        measure("payload_read", read_payload, at->name);
+        measure("sheet_judge", judge_sheet, at->name);
+        measure("sheet_write", write_sheet, at->name);
+        measure("frame_check", check, at->name);
+        measure("frame_write", write_frame, at->name);
+        if (at->kind == 2) books();
+        for (int state = 0; state < 3; state++) {
+            fresh(state), measure("desk_take", take, at->name);
+            streams(state);
+        }
+    }
+    at = NULL;
+    run_log();
+}
+
+/* What the calls must say of the inputs, so that the depths are of the ways that they are meant for. */
+static void answers(void) {
+    for (size_t i = 0; i < made; i++) {
+        at = &inputs[i];
+        int refused = strchr(at->name, ',') && (strstr(at->name, "cut") || strstr(at->name, "refused"));
+        judge(), expect((answer != 0) == refused, "the payload's answer");
+        if (refused) expect(homralgyu_sf(answer) != 0, "the payload's refusal has no place");
+        judge_sheet(), expect((answer != 0) == (refused || strstr(at->name, "goes on")), "the sheet's answer");
+    }
+    at = placed, fresh(1), take(), expect(answer == 0 && written[0] > 600, "the area is not placed");
+}
+
+static int may(const char *name, int count, char **names) {
+    for (int i = 1; i < count; i++)
+        if (strcmp(names[i], name) == 0) return 1;
+    return 0;
+}
+
+int main(int count, char **names) {
+    int markdown = may("--markdown", count, names), status = 0;
+    base = taken(nothing);
+    make(), answers();
+    if (!wrong) all();
+    if (wrong) return 2;
+    if (markdown) printf("\n**Stack** (bytes a call)\n\n| call | most | on |\n|---|---|---|\n");
+    for (size_t i = 0; i < CALLS; i++) {
+        const char *over = calls[i].bytes > MOST ? may(calls[i].name, count, names) ? ", over 2 KiB as told" : ", over 2 KiB" : "";
+        const char *row = markdown ? "| %s | %zu | %s%s |\n" : "%-18s %6zu bytes of stack at most, on: %s%s\n";
+        printf(row, calls[i].name, calls[i].bytes, calls[i].input, over);
+        if (calls[i].bytes > MOST && !may(calls[i].name, count, names)) status = 1;
     }
     return status;
 }
