@@ -2,13 +2,15 @@
 -- Written by tests/determined from the contracts in src/.
 use Prim.Native.Nat.{_%_, _+_, ℕ}
 use Rattle.codes.specs.Fields.{listed, maskField, satelliteAt, satellitesOf}
+use Rattle.codes.specs.Stepping.{alignedTo, withoutFirst}
 use Rattle.codes.specs.Tables.{biasSize, firstSatellite, maskSf, maskSize}
 use Rattle.codes.specs.declared.Constellation.{Constellation}
 use Rattle.codes.specs.declared.satellites.Satellites.{Satellites}
+use Rattle.codes.specs.declared.satellites.Step.{Step}
 use Rattle.fields.specs.Fields.{sf}
 use Rattle.layout.specs.Parts.{free}
 use Rattle.layout.specs.declared.Field.{Field}
-use lib.Count.{ones}
+use lib.Count.{leadingZeros, ones}
 use lib.ListN.{length}
 use mathlib.Core.Path.{_∙_, _≡_, sym}
 
@@ -29,6 +31,18 @@ pub satellite-number-determined : (constellation : Constellation) (size mask mor
     → r₂ ≡ satelliteAt (satellitesOf constellation size mask) more
     → r₁ ≡ r₂
 satellite-number-determined constellation size mask more r₁ r₂ e0₁ e0₂ = e0₁ ∙ sym e0₂
+
+pub aligned-determined : (constellation : Constellation) (size mask : ℕ) (r₁ r₂ : ℕ)
+    → r₁ ≡ alignedTo (maskSize constellation size) mask
+    → r₂ ≡ alignedTo (maskSize constellation size) mask
+    → r₁ ≡ r₂
+aligned-determined constellation size mask r₁ r₂ e0₁ e0₂ = e0₁ ∙ sym e0₂
+
+pub next-set-determined : (left : ℕ) (r₁ r₂ : Step)
+    → r₁ ≡ record { position = leadingZeros 64 left; left = withoutFirst left }
+    → r₂ ≡ record { position = leadingZeros 64 left; left = withoutFirst left }
+    → r₁ ≡ r₂
+next-set-determined left r₁ r₂ e0₁ e0₂ = e0₁ ∙ sym e0₂
 
 pub set-bits-determined : (mask : ℕ) (r₁ r₂ : ℕ)
     → r₁ ≡ ones mask

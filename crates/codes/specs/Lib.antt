@@ -2,5 +2,6 @@ pub mod Tables
 pub mod Fields
 pub mod Sizes
 pub mod Listing
+pub mod Stepping
 pub mod Examples
 pub mod Determined

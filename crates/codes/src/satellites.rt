@@ -1,9 +1,11 @@
 // The satellites of a mask, and how many bits a mask has set.
 ghost use mathlib.Core.Path.{_≡_};
 ghost use Prim.Native.Nat.{_≤_};
-ghost use lib.Count.{ones};
+ghost use lib.Count.{ones, leadingZeros};
 ghost use lib.ListN.{length};
 ghost use Rattle.codes.specs.Fields.{numbered, satellitesOf, listed, satelliteAt};
+ghost use Rattle.codes.specs.Tables.{maskSize};
+ghost use Rattle.codes.specs.Stepping.{alignedTo, withoutFirst};
 use crate::Constellation;
 use crate::tables::first_satellite;
 use crate::tables::mask_size;
@@ -71,6 +73,36 @@ pub fn satellite_number(constellation: Constellation, size: u64, mask: u64, more
         return numbers[at];
     }
     0
+}
+
+// A step of a walk over the set bits of a mask: the position of the first one, and the mask without it.
+pub struct Step {
+    pub position: u64,
+    pub left: u64,
+}
+
+// The mask of a size at the top of a word, so that a bit's position is how many come before it.
+pub fn aligned(constellation: Constellation, size: u64, mask: u64) -> u64
+    ensures { λ r. ⌜ r ≡ alignedTo (maskSize constellation size) mask ⌝ }
+{
+    mask << (64 - mask_size(constellation, size))
+}
+
+// From set bit to set bit of such a mask; where none is set, the position is 64.
+pub fn next_set(left: u64) -> Step
+    ensures { λ r. ⌜ r ≡ record { position = leadingZeros 64 left; left = withoutFirst left } ⌝ }
+{
+    let position = u64::leading_zeros(left);
+    if left == 0 {
+        return Step {
+            position: 64,
+            left: 0,
+        };
+    }
+    Step {
+        position: position as u64,
+        left: left - (1 << (63 - position)),
+    }
 }
 
 // How many bits of a mask are set.

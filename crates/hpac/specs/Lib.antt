@@ -3,3 +3,4 @@ pub mod Machine
 pub mod Examples
 pub mod Determined
 pub mod Rows
+pub mod Spans

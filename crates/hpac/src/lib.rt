@@ -7,6 +7,7 @@ ghost use Rattle.hpac.specs.Machine.{hpacField, hpacStep, areasFrom, are
 pub mod after;
 pub mod row;
 mod sized;
+pub mod spans;
 
 use codes::Constellation;
 use codes::satellites::satellite_count;
