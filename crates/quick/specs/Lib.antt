@@ -1,0 +1,15 @@
+pub mod Passes
+pub mod Codes
+pub mod Behind
+pub mod Passed
+pub mod Counted
+pub mod Gad
+pub mod GadReads
+pub mod Ocb
+pub mod OcbReads
+pub mod Bpac
+pub mod BpacReads
+pub mod Hpac
+pub mod HpacReads
+pub mod Quick
+pub mod Determined
