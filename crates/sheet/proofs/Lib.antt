@@ -1,4 +1,5 @@
 pub mod Reading
+pub mod Storing
 pub mod Writing
 pub mod Walking
 pub mod ReadingRows

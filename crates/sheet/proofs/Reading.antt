@@ -6,7 +6,7 @@ use Prim.Native.Nat.{ℕ, _+_, _-_, _*_, _≤_, _<_}
 use native.Mathlib.Omega.{arith}
 use native.Mathlib.Nat.{zero-add}
 use native.Mathlib.Numerals.{add-one}
-use lib.Dec.{ltb}
+use lib.Dec.{eqb, ltb}
 use lib.ListN.{length, take, drop, set, getD, length-drop, length-set, drop-of-length-le}
 use lib.Seq.{sets, sets-eq, drop-drop, drop-cons, take-at}
 use borrow.Author.Tests.{lt-ltb, le-ltb, eq-eqb, ne-eqb}
@@ -17,22 +17,33 @@ use Rattle.answer.specs.declared.Fault as answer
 use Rattle.answer.specs.Place.{nowhere, faultAt, further}
 use Rattle.answer.specs.Further.{further-none}
 use Rattle.bits.specs.Bits.{toBits, number, field, got}
-use Rattle.bits.specs.Laws.{got-there, length-toBits}
+use Rattle.bits.specs.Laws.{got-there, length-toBits, bits-toBits}
 use Rattle.layout.specs.declared.Field.{Field}
 use Rattle.layout.specs.declared.Verdict.{Verdict}
 use Rattle.layout.specs.declared.Verdict.the-variants as verdict
-use Rattle.layout.specs.Layout.{Layout, judge, Outcome, accepted, refused, readL}
+use Rattle.layout.specs.Layout.{Layout, pick, judge, Outcome, accepted, refused, readL}
 use Rattle.layout.specs.Parts.{Part, absent, present}
-use Rattle.layout.specs.Run.{finished, stopped, endedOf, runL, run-reads, On, run-done, run-short, run-fault, run-on}
+use Rattle.layout.specs.Run.{Ended, finished, stopped, endedOf, runL, run-reads, On, run-done, run-short, run-fault, run-on}
 use Rattle.layout.specs.Walks.{Walks, ends, goes}
+use Rattle.layout.specs.Acceptance.{codes-few}
+use Rattle.layout.specs.RoundTrip.{write-read}
+use Rattle.codes.specs.declared.Constellation.{Constellation}
+use Rattle.codes.specs.declared.Constellation.the-variants.{Gps, Glonass, Galileo, BeiDou, Qzss}
 use Rattle.message.specs.declared.State.{State}
 use Rattle.message.specs.declared.Start.{Start}
 use Rattle.message.specs.declared.Start.the-variants.{Known, Unknown}
-use Rattle.message.specs.Machine.{fieldOf, stepOf, startOf, Starts, known, unknown, starts}
-use Rattle.message.specs.Messages.{Message, layoutFor}
+use Rattle.message.specs.Machine.{fieldOf, stepOf, startOf, hpacStart, Starts, known, unknown, starts}
+use Rattle.message.specs.declared.Subtype.{Subtype}
+use Rattle.message.specs.declared.Subtype.the-variants as sub
+use Rattle.message.specs.Messages.{Message, hpacLayout, constellationOf, constellationFor, byConstellation, layoutFor}
+use Rattle.quick.specs.declared.Quick.{Quick}
+use Rattle.quick.specs.declared.Quick.the-variants.{Reads}
+use Rattle.quick.specs.Quick.{quickOf, quick-reads}
 use Rattle.sheet.specs.Sheet.{badLength, judging, judged, reading, readAnswerBy, sheetBy, readAnswer, sheetAfter}
 use Rattle.sheet.specs.Laws.{good-some, judging-with, reading-with}
-use Rattle.sheet.specs.Passes.{ForLayout, endedBy, entriesOf, ReadPass, entriesRead, ReadJudged, Aside, codes, nothing, ReadKept, ReadWhole}
+use Rattle.sheet.specs.Passes.{ForLayout, endedBy, entriesOf, ReadPass, ReadJudged, isKnown, StartedPass, StartedJudged, Fills, Filled}
+use Rattle.sheet.specs.Stores.{Finishes}
+use Rattle.sheet.specs.StoresHpac.{HpacStored}
 use Rattle.sheet.specs.declared.ReadAnswer.{ReadAnswer}
 use Rattle.sheet.specs.declared.ReadAnswer.the-variants as reader
 use Rattle.sheet.specs.declared.Pass.{Pass}
@@ -141,7 +152,7 @@ module _ {payload sheet₀ : List ℕ} {total : ℕ} {s₀ : State} {sheet : Lis
               };
         }
 
--- ---- both passes
+-- ---- what a pass says
 
 -- what a pass says is the answer
 judged-fault : (o : Outcome Message) (why : answer.Fault) (aside : List ℕ) → stopped why ≡ endedOf o 0 0 aside → reader.Refused why ≡ readAnswerBy o
@@ -155,112 +166,67 @@ judged-whole (accepted v cs n) entries bits aside aside' e =
     ap₂ (λ x y. reader.Read x y) (b ∙ zero-add n) (a ∙ zero-add (length cs))
 judged-whole (refused why) entries bits aside aside' e = let z : _≡_ {A = ℕ} 0 1 = cc in absurd (omega arith)
 
-aside-by : (o : Outcome Message) (pass : Pass) (aside aside' : List ℕ) → endedBy pass aside' ≡ endedOf o 0 0 aside → Aside aside aside' o
-aside-by (accepted v cs n) (Whole entries bits) aside aside' e = let c : aside' ≡ sets aside 0 cs = cc in codes c
-aside-by (accepted v cs n) (Fault why) aside aside' e = let z : _≡_ {A = ℕ} 0 1 = cc in absurd (omega arith)
-aside-by (refused why) pass aside aside' e = nothing
-
 module _ {payload aside : List ℕ} {start : State} (dry : Pass) (aside' : List ℕ) (p : ReadPass payload aside start dry aside') where
   come : (l : Layout Message) → Walks fieldOf stepOf start l → endedBy dry aside' ≡ endedOf (readL l (toBits payload)) 0 0 aside
   come l w = p .ends l w ∙ run-reads l (toBits payload) 0 0 aside
 
-  pub keep-fault : (why : answer.Fault) → dry ≡ Fault why → ReadKept payload aside start (reader.Refused why) aside'
-  keep-fault why e =
+  fault-judged : (why : answer.Fault) → dry ≡ Fault why → ReadJudged payload start (reader.Refused why)
+  fault-judged why e = record { answers = λ l w. judged-fault (readL l (toBits payload)) why aside (ap (λ x. endedBy x aside') (sym e) ∙ come l w) }
+
+  whole-judged : (entries bits : ℕ) → dry ≡ Whole entries bits → ReadJudged payload start (reader.Read bits entries)
+  whole-judged entries bits e =
+      record { answers = λ l w. judged-whole (readL l (toBits payload)) entries bits aside aside' (ap (λ x. endedBy x aside') (sym e) ∙ come l w) }
+
+-- ---- from the start of a type and subtype
+
+module _ (kind subtype : ℕ) (payload sheet : List ℕ) (x : Start) (e : x ≡ startOf kind subtype) (pass : Pass) (sheet' : List ℕ) where
+  pub pass-known : (s : State) → x ≡ Known s → ReadPass payload sheet s pass sheet' → StartedPass kind subtype payload sheet pass sheet'
+  pass-known s q p =
       record {
-        judged = record { answers = λ l w. judged-fault (readL l (toBits payload)) why aside (ap (λ x. endedBy x aside') (sym e) ∙ come l w); few = omega arith };
-        keeps = λ l w. aside-by (readL l (toBits payload)) dry aside aside' (come l w);
+        from = λ start k.
+            let both : Known s ≡ Known start = sym q ∙ e ∙ k in
+            let same : s ≡ start = cc both in
+            subst (λ y. ReadPass payload sheet y pass sheet') same p;
       }
 
-  pub keep-whole : (entries bits : ℕ) → dry ≡ Whole entries bits → ReadKept payload aside start (reader.Read bits entries) aside'
-  keep-whole entries bits e =
+  pub pass-unknown : x ≡ Unknown → StartedPass kind subtype payload sheet pass sheet'
+  pass-unknown q =
       record {
-        judged = record {
-          answers = λ l w. judged-whole (readL l (toBits payload)) entries bits aside aside' (ap (λ x. endedBy x aside') (sym e) ∙ come l w);
-          few = subst (λ x. entriesOf x ≤ 8 * length payload) e (p .few);
-        };
-        keeps = λ l w. aside-by (readL l (toBits payload)) dry aside aside' (come l w);
+        from = λ start k.
+            let both : Unknown ≡ Known start = sym q ∙ e ∙ k in
+            let z : _≡_ {A = ℕ} 0 1 = cc in absurd (omega arith);
       }
 
-pub kept-judged : {payload aside : List ℕ} {start : State} {answer : ReadAnswer} {aside' : List ℕ} → ReadKept payload aside start answer aside'
-    → ReadJudged payload start answer
-kept-judged k = k .judged
+module _ {kind subtype : ℕ} {payload aside : List ℕ} (dry : Pass) (aside' : List ℕ) (p : StartedPass kind subtype payload aside dry aside') where
+  pub pass-fault : (why : answer.Fault) → dry ≡ Fault why → StartedJudged kind subtype payload (reader.Refused why)
+  pass-fault why e = record { from = λ start k. fault-judged dry aside' (p .from start k) why e }
 
--- a refusal leaves the sheet; the codes kept aside are copied, or a second pass stores them
+  pub pass-whole : (entries bits : ℕ) → dry ≡ Whole entries bits → StartedJudged kind subtype payload (reader.Read bits entries)
+  pass-whole entries bits e = record { from = λ start k. whole-judged dry aside' (p .from start k) entries bits e }
+
+start-there : (x : Start) → isKnown x ≡ true → (s : State) × (x ≡ Known s)
+start-there (Known s) e = (s, refl)
+start-there Unknown e = let z : _≡_ {A = ℕ} 0 1 = cc in absurd (omega arith)
+
+-- a refusal leaves the sheet; a second pass stores the codes
 refused-leaves : (o : Outcome Message) (why : answer.Fault) (sheet : List ℕ) → reader.Refused why ≡ readAnswerBy o → sheet ≡ sheetBy o sheet
 refused-leaves (accepted v cs n) why sheet e = let z : _≡_ {A = ℕ} 0 1 = cc in absurd (omega arith)
 refused-leaves (refused why') why sheet e = refl
 
-stored-leaves : (o : Outcome Message) (entries bits : ℕ) (pass : Pass) (sheet sheet' : List ℕ) → entries ≤ length sheet
-    → reader.Read bits entries ≡ readAnswerBy o → endedBy pass sheet' ≡ endedOf o 0 0 sheet → sheet' ≡ sheetBy o sheet
-stored-leaves (accepted v cs n) entries bits (Whole entries' bits') sheet sheet' h p q =
-    let a : entries ≡ length cs = cc in
-    let c : sheet' ≡ sets sheet 0 cs = cc in
-    c ∙ sets-eq cs sheet 0 (omega arith) ∙ simp zero-add
-stored-leaves (accepted v cs n) entries bits (Fault why) sheet sheet' h p q = let z : _≡_ {A = ℕ} 0 1 = cc in absurd (omega arith)
-stored-leaves (refused why) entries bits pass sheet sheet' h p q = let z : _≡_ {A = ℕ} 0 1 = cc in absurd (omega arith)
-
-copied-leaves : (o : Outcome Message) (entries bits : ℕ) (aside aside' sheet : List ℕ) → entries ≤ length aside → entries ≤ length sheet
-    → reader.Read bits entries ≡ readAnswerBy o → Aside aside aside' o → sets sheet 0 (take entries aside') ≡ sheetBy o sheet
-copied-leaves (accepted v cs n) entries bits aside aside' sheet h k p (codes c) =
-    let a : entries ≡ length cs = cc in
-    let d : aside' ≡ cs ++ drop (length cs) aside = c ∙ sets-eq cs aside 0 (omega arith) ∙ simp zero-add in
-    let t : take entries aside' ≡ cs = ap (take entries) d ∙ take-at cs (drop (length cs) aside) entries (sym a) in
-    ap (sets sheet 0) t ∙ sets-eq cs sheet 0 (omega arith) ∙ simp zero-add
-copied-leaves (refused why) entries bits aside aside' sheet h k p nothing = let z : _≡_ {A = ℕ} 0 1 = cc in absurd (omega arith)
-
-module _ {payload sheet : List ℕ} {start : State} (judged : ReadAnswer) (p : ReadJudged payload start judged) where
-  pub whole-refused : (why : answer.Fault) → judged ≡ reader.Refused why → ReadWhole payload sheet start (reader.Refused why) sheet
-  whole-refused why e =
-      record {
-        answers = λ l w. sym e ∙ p .answers l w;
-        leaves = λ l w. refused-leaves (readL l (toBits payload)) why sheet (sym e ∙ p .answers l w);
-      }
-
-  pub whole-read : (pass : Pass) (sheet' : List ℕ) (bits entries : ℕ) → length payload ≤ longestPayload → sheetRoom ≤ length sheet
-      → judged ≡ reader.Read bits entries → ReadPass payload sheet start pass sheet' → ReadWhole payload sheet start (reader.Read bits entries) sheet'
-  whole-read pass sheet' bits entries short room e q =
-      let m : entries ≤ 8 * length payload = subst (λ x. entriesRead x ≤ 8 * length payload) e (p .few) in
-      record {
-        answers = λ l w. sym e ∙ p .answers l w;
-        leaves =
-            λ l w. stored-leaves (readL l (toBits payload)) entries bits pass sheet sheet' (omega arith) (sym e ∙ p .answers l w)
-            (q .ends l w ∙ run-reads l (toBits payload) 0 0 sheet);
-      }
-
-pub whole-copied : {payload aside sheet : List ℕ} {start : State} (answer : ReadAnswer) (aside' sheet' : List ℕ) (bits entries : ℕ)
-    → ReadKept payload aside start answer aside' → length payload ≤ longestPayload → sheetRoom ≤ length sheet → answer ≡ reader.Read bits entries
-    → entries ≤ length aside' → length aside' ≡ length aside → sheet' ≡ sets sheet 0 (take entries aside')
-    → ReadWhole payload sheet start (reader.Read bits entries) sheet'
-whole-copied {payload} {aside} {sheet} answer aside' sheet' bits entries p short room e h same c =
-    let m : entries ≤ 8 * length payload = subst (λ x. entriesRead x ≤ 8 * length payload) e (p .judged .few) in
-    record {
-      answers = λ l w. sym e ∙ p .judged .answers l w;
-      leaves = λ l w. c
-          ∙ copied-leaves (readL l (toBits payload)) entries bits aside aside' sheet (omega arith) (omega arith) (sym e ∙ p .judged .answers l w) (p .keeps l w);
-    }
-
--- ---- codes copied one by one
-
--- at the loop's head: what is left is stored from here as all was to be from the start
-pub record Copying (from to₀ to : List ℕ) (i : ℕ) : Type 0 where
-  pub inside : i ≤ length from
-  pub same : length to ≡ length to₀
-  pub on : sets to i (drop i from) ≡ sets to₀ 0 from
-
-pub copy-first : (from to : List ℕ) → Copying from to to 0
-copy-first from to = record { inside = omega arith; same = refl; on = refl }
-
-module _ {from to₀ to : List ℕ} {i : ℕ} (t : Copying from to₀ to i) where
-  pub copy-more : (to' : List ℕ) → i < length from → to' ≡ set to i (getD from i 0) → Copying from to₀ to' (i + 1)
-  copy-more to' h e =
-      record {
-        inside = omega arith;
-        same = ap length e ∙ length-set to i (getD from i 0) ∙ t .same;
-        on = rw (e, add-one i) (ap (sets to i) (sym (drop-cons from i 0 h))) ∙ t .on;
-      }
-
-  pub copy-done : length from ≤ i → to ≡ sets to₀ 0 from
-  copy-done h = ap (sets to i) (sym (drop-of-length-le from {i = i} h)) ∙ t .on
+-- a message that is accepted, stored from its layout
+stored-leaves : (payload sheet sheet' : List ℕ) (start : State) (l : Layout Message) (o : Outcome Message) (bits entries : ℕ) → Walks fieldOf stepOf start l
+    → readL l (toBits payload) ≡ o → length payload ≤ longestPayload → sheetRoom ≤ length sheet → reader.Read bits entries ≡ readAnswerBy o
+    → (Finishes (runL l (toBits payload) 0 0 sheet) → Fills (runL l (toBits payload) 0 0 sheet) sheet') → sheet' ≡ sheetBy o sheet
+stored-leaves payload sheet sheet' start l (accepted v cs n) bits entries w e short room says fills =
+    let run : runL l (toBits payload) 0 0 sheet ≡ finished (0 + length cs) (0 + n) (sets sheet 0 cs)
+    = run-reads l (toBits payload) 0 0 sheet ∙ ap (λ (x : Outcome Message). endedOf x 0 0 sheet) e in
+    let f = fills (record { count = 0 + length cs; used = 0 + n; filled = sets sheet 0 cs; is = run }) in
+    let same : finished (f .count) (f .used) sheet' ≡ finished (0 + length cs) (0 + n) (sets sheet 0 cs) = sym (f .is) ∙ run in
+    let c : sheet' ≡ sets sheet 0 cs = cc same in
+    let few : length cs ≤ n = codes-few w (toBits payload) cs n e in
+    let there : n ≤ length (toBits payload) = write-read l (toBits payload) cs n (bits-toBits payload) e .1 in
+    c ∙ sets-eq cs sheet 0 (omega (arith, length-toBits payload)) ∙ simp zero-add
+stored-leaves payload sheet sheet' start l (refused why) bits entries w e short room says fills = let z : _≡_ {A = ℕ} 0 1 = cc in absurd (omega arith)
 
 -- ---- the calls' tests, in their order
 
@@ -270,8 +236,14 @@ bad-none bytes h = rw (eq-eqb bytes 0 h)
 pub bad-long : (bytes : ℕ) → (bytes ≡ 0 → ⊥) → ltb longestPayload bytes ≡ badLength bytes
 bad-long bytes h = rw (ne-eqb bytes 0 h)
 
-pub good-length : (bytes : ℕ) (b : Bool) → b ≡ badLength bytes → b ≡ false → bytes ≤ longestPayload
-good-length bytes b m n = good-some bytes (sym m ∙ n) .1
+pub good-length : (bytes : ℕ) → badLength bytes ≡ false → bytes ≤ longestPayload
+good-length bytes e = good-some bytes e .1
+
+pub is-good : (bytes : ℕ) (b : Bool) → b ≡ badLength bytes → b ≡ false → badLength bytes ≡ false
+is-good bytes b m n = sym m ∙ n
+
+pub is-known : (kind subtype : ℕ) (x : Start) (start : State) → x ≡ startOf kind subtype → x ≡ Known start → isKnown (startOf kind subtype) ≡ true
+is-known kind subtype x start e q = ap isKnown (sym e ∙ q)
 
 -- where a message starts, its type and subtype have a layout that the machine walks
 pub record Started (kind subtype : ℕ) (start : State) : Type 0 where
@@ -310,11 +282,25 @@ module _ (kind subtype : ℕ) (payload : List ℕ) where
       → reader.Refused (nowhere refusal.Length) ≡ judged kind subtype payload
   judge-length x start e q b m n = is-judged (refused (nowhere refusal.Length)) (judging-with kind subtype payload (started kind subtype x start e q .here) (sym m ∙ n))
 
-  pub judge-known : (x : Start) (start : State) → x ≡ startOf kind subtype → x ≡ Known start → (b : Bool) → b ≡ badLength (length payload) → b ≡ false
-      → (r : ReadAnswer) → ReadJudged payload start r → r ≡ judged kind subtype payload
-  judge-known x start e q b m n r w =
-      let k = started kind subtype x start e q in
-      w .answers (k .layout) (k .walks) ∙ is-judged (readL (k .layout) (toBits payload)) (judging-with kind subtype payload (k .here) (sym m ∙ n))
+  module _ (there : isKnown (startOf kind subtype) ≡ true) (good : badLength (length payload) ≡ false) where
+    -- where it starts, what the layout's reading says is the answer
+    judge-by : (r : ReadAnswer)
+        → ((start : State) → startOf kind subtype ≡ Known start → (l : Layout Message) → layoutFor kind subtype ≡ present l → Walks fieldOf stepOf start l
+        → r ≡ readAnswerBy (readL l (toBits payload)))
+        → r ≡ judged kind subtype payload
+    judge-by r f =
+        let s = start-there (startOf kind subtype) there in
+        let k = started kind subtype (startOf kind subtype) (s .0) refl (s .1) in
+        f (s .0) (s .1) (k .layout) (k .here) (k .walks) ∙ is-judged (readL (k .layout) (toBits payload)) (judging-with kind subtype payload (k .here) good)
+
+    pub judge-machine : (r : ReadAnswer) → StartedJudged kind subtype payload r → r ≡ judged kind subtype payload
+    judge-machine r w = judge-by r (λ start q l here walks. w .from start q .answers l walks)
+
+    pub judge-quick : (x : Quick) (bits entries : ℕ) → x ≡ quickOf kind subtype payload → x ≡ Reads bits entries → reader.Read bits entries ≡ judged kind subtype payload
+    judge-quick x bits entries e r =
+        judge-by (reader.Read bits entries) (λ start q l here walks.
+        judged-whole (readL l (toBits payload)) entries bits [] []
+        (sym (quick-reads kind subtype payload bits entries (sym e ∙ r) l here) ∙ run-reads l (toBits payload) 0 0 []))
 
 -- ---- `read`
 
@@ -344,9 +330,89 @@ module _ (kind subtype : ℕ) (payload sheet : List ℕ) where
     read-length x start e q b m n =
         meets (refused (nowhere refusal.Length)) (reading-with kind subtype payload sheet (le-ltb (length sheet) sheetRoom room) (started kind subtype x start e q .here) (sym m ∙ n))
 
-    pub read-known : (x : Start) (start : State) → x ≡ startOf kind subtype → x ≡ Known start → (b : Bool) → b ≡ badLength (length payload) → b ≡ false
-        → (r : ReadAnswer) (sheet' : List ℕ) → ReadWhole payload sheet start r sheet' → Met kind subtype payload sheet r sheet'
-    read-known x start e q b m n r sheet' w =
-        let k = started kind subtype x start e q in
-        let g = meets (readL (k .layout) (toBits payload)) (reading-with kind subtype payload sheet (le-ltb (length sheet) sheetRoom room) (k .here) (sym m ∙ n)) in
-        record { says = w .answers (k .layout) (k .walks) ∙ g .says; leaves = w .leaves (k .layout) (k .walks) ∙ g .leaves }
+    module _ (there : isKnown (startOf kind subtype) ≡ true) (good : badLength (length payload) ≡ false) (j : ReadAnswer) (is : j ≡ judged kind subtype payload) where
+      -- what the layout's reading comes to, if the judgement is its answer
+      meet : (r : ReadAnswer) (sheet' : List ℕ) → j ≡ r
+          → ((start : State) (l : Layout Message) → layoutFor kind subtype ≡ present l → Walks fieldOf stepOf start l → r ≡ readAnswerBy (readL l (toBits payload))
+          → sheet' ≡ sheetBy (readL l (toBits payload)) sheet)
+          → Met kind subtype payload sheet r sheet'
+      meet r sheet' e f =
+          let s = start-there (startOf kind subtype) there in
+          let k = started kind subtype (startOf kind subtype) (s .0) refl (s .1) in
+          let o : Outcome Message = readL (k .layout) (toBits payload) in
+          let says : r ≡ readAnswerBy o = sym e ∙ is ∙ sym (is-judged kind subtype payload o (judging-with kind subtype payload (k .here) good)) in
+          let g = meets o (reading-with kind subtype payload sheet (le-ltb (length sheet) sheetRoom room) (k .here) good) in
+          record { says = says ∙ g .says; leaves = f (s .0) (k .layout) (k .here) (k .walks) says ∙ g .leaves }
+
+      pub read-refused : (why : answer.Fault) → j ≡ reader.Refused why → Met kind subtype payload sheet (reader.Refused why) sheet
+      read-refused why e = meet (reader.Refused why) sheet e (λ start l here walks says. refused-leaves (readL l (toBits payload)) why sheet says)
+
+      pub read-stored : (sheet' : List ℕ) (bits entries : ℕ) → j ≡ reader.Read bits entries → Filled kind subtype payload sheet sheet'
+          → Met kind subtype payload sheet (reader.Read bits entries) sheet'
+      read-stored sheet' bits entries e p =
+          meet (reader.Read bits entries) sheet' e (λ start l here walks says.
+          stored-leaves payload sheet sheet' start l (readL l (toBits payload)) bits entries walks refl (good-length (length payload) good) room says (p .fills l here))
+
+-- ---- the codes of an accepted message
+
+subtype-known : (subtype : ℕ) (c : Constellation) → constellationFor subtype ≡ sub.Known c → constellationOf subtype ≡ present c
+subtype-known subtype c = go (eqb subtype 0) (eqb subtype 1) (eqb subtype 2) (eqb subtype 3) (eqb subtype 4)
+  where
+    go : (a b d e f : Bool)
+        → pick a (sub.Known Gps) (pick b (sub.Known Glonass) (pick d (sub.Known Galileo) (pick e (sub.Known BeiDou) (pick f (sub.Known Qzss) sub.Unknown)))) ≡ sub.Known c
+        → pick a (present Gps) (pick b (present Glonass) (pick d (present Galileo) (pick e (present BeiDou) (pick f (present Qzss) absent)))) ≡ present c
+    go true b d e f q = let same : Gps ≡ c = cc in ap present same
+    go false true d e f q = let same : Glonass ≡ c = cc in ap present same
+    go false false true e f q = let same : Galileo ≡ c = cc in ap present same
+    go false false false true f q = let same : BeiDou ≡ c = cc in ap present same
+    go false false false false true q = let same : Qzss ≡ c = cc in ap present same
+    go false false false false false q = let z : _≡_ {A = ℕ} 0 1 = cc in absurd (omega arith)
+
+pass-fills : (e : Ended) (pass : Pass) (sheet' : List ℕ) → endedBy pass sheet' ≡ e → Finishes e → Fills e sheet'
+pass-fills e (Whole entries bits) sheet' q f = record { count = entries; used = bits; is = sym q }
+pass-fills e (Fault why) sheet' q f =
+    let no : stopped why ≡ finished (f .count) (f .used) (f .filled) = q ∙ f .is in
+    let z : _≡_ {A = ℕ} 0 1 = cc in absurd (omega arith)
+
+module _ {payload sheet sheet' : List ℕ} where
+  pub filled-hpac : (subtype : ℕ) (x : Subtype) (c : Constellation) → x ≡ constellationFor subtype → x ≡ sub.Known c → HpacStored c payload sheet sheet'
+      → Filled 1 subtype payload sheet sheet'
+  filled-hpac subtype x c e q p =
+      let layout : layoutFor 1 subtype ≡ present (hpacLayout c) = ap (byConstellation hpacLayout) (subtype-known subtype c (sym e ∙ q)) in
+      record {
+        fills = λ l here f.
+            let both : present (hpacLayout c) ≡ present l = sym layout ∙ here in
+            let same : hpacLayout c ≡ l = cc both in
+            let run : runL (hpacLayout c) (toBits payload) 0 0 sheet ≡ runL l (toBits payload) 0 0 sheet = ap (λ (m : Layout Message). runL m (toBits payload) 0 0 sheet) same in
+            record {
+              count = p .count;
+              used = p .used;
+              is = sym run ∙ p .is (record { count = f .count; used = f .used; filled = f .filled; is = run ∙ f .is });
+            };
+      }
+
+  -- no subtype of HPAC is without a layout here
+  pub filled-none : (subtype : ℕ) (x : Subtype) → x ≡ constellationFor subtype → x ≡ sub.Unknown → Filled 1 subtype payload sheet sheet'
+  filled-none subtype x e q =
+      let none : startOf 1 subtype ≡ Unknown = ap hpacStart (sym e ∙ q) in
+      record {
+        fills = λ l here f.
+            let both : absent ≡ present l = sym (not-started 1 subtype (startOf 1 subtype) refl none) ∙ here in
+            let z : _≡_ {A = ℕ} 0 1 = cc in absurd (omega arith);
+      }
+
+  pub filled-pass : (kind subtype : ℕ) (pass : Pass) → isKnown (startOf kind subtype) ≡ true → StartedPass kind subtype payload sheet pass sheet'
+      → Filled kind subtype payload sheet sheet'
+  filled-pass kind subtype pass there p =
+      let s = start-there (startOf kind subtype) there in
+      let k = started kind subtype (startOf kind subtype) (s .0) refl (s .1) in
+      record {
+        fills = λ l here f.
+            let both : present (k .layout) ≡ present l = sym (k .here) ∙ here in
+            let same : k .layout ≡ l = cc both in
+            pass-fills (runL l (toBits payload) 0 0 sheet) pass sheet'
+            (p .from (s .0) (s .1) .ends (k .layout) (k .walks) ∙ ap (λ (m : Layout Message). runL m (toBits payload) 0 0 sheet) same) f;
+      }
+
+  pub filled-kind : (kind subtype : ℕ) → kind ≡ 1 → Filled 1 subtype payload sheet sheet' → Filled kind subtype payload sheet sheet'
+  filled-kind kind subtype e p = subst (λ (x : ℕ). Filled x subtype payload sheet sheet') (sym e) p

@@ -1,6 +1,8 @@
 pub mod Sheet
 pub mod Passes
 pub mod Walked
+pub mod Stores
+pub mod StoresHpac
 pub mod Determined
 pub mod Laws
 pub mod Theorems

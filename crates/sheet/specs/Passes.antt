@@ -1,23 +1,26 @@
 -- Serves proofs: what one pass of the code over a payload or a sheet must come to, by the layout that its start walks.
 use mathlib.Core.Path.{_≡_}
+use mathlib.Core.Bool.{Bool, true, false}
 use mathlib.Core.List.{List, _++_}
 use Prim.Native.Nat.{ℕ, _+_, _*_, _^_, _≤_, _<_}
 use lib.Dec.{ltb}
 use lib.ListN.{length, drop}
-use lib.Seq.{sets}
 use Rattle.sizes.specs.Sizes.{longestPayload}
 use Rattle.answer.specs.declared.Fault as answer
 use Rattle.bits.specs.Bits.{toBits}
-use Rattle.layout.specs.Layout.{Layout, Outcome, accepted, refused, readL, Written, written, unwritten, writeL}
+use Rattle.layout.specs.Layout.{Layout, readL, Written, written, unwritten, writeL}
 use Rattle.layout.specs.Run.{Ended, finished, stopped, runL}
+use Rattle.layout.specs.Parts.{present}
 use Rattle.layout.specs.Walks.{Walks}
 use Rattle.rows.specs.Puts.{Counted}
 use Rattle.message.specs.declared.State.{State}
-use Rattle.message.specs.Machine.{fieldOf, stepOf}
-use Rattle.message.specs.Messages.{Message}
-use Rattle.sheet.specs.Sheet.{readAnswerBy, sheetBy, bytesFor, thenLength, writeAnswerBy, outBy}
+use Rattle.message.specs.declared.Start.{Start}
+use Rattle.message.specs.declared.Start.the-variants.{Known, Unknown}
+use Rattle.message.specs.Machine.{fieldOf, stepOf, startOf}
+use Rattle.message.specs.Messages.{Message, layoutFor}
+use Rattle.sheet.specs.Stores.{Finishes}
+use Rattle.sheet.specs.Sheet.{readAnswerBy, bytesFor, thenLength, writeAnswerBy, outBy}
 use Rattle.sheet.specs.declared.ReadAnswer.{ReadAnswer}
-use Rattle.sheet.specs.declared.ReadAnswer.the-variants as reader
 use Rattle.sheet.specs.declared.WriteAnswer.{WriteAnswer}
 use Rattle.sheet.specs.declared.WriteAnswer.the-variants as writer
 use Rattle.sheet.specs.declared.Pass.{Pass}
@@ -44,29 +47,29 @@ pub record ReadPass (payload sheet : List ℕ) (start : State) (pass : Pass) (sh
   pub ends : ForLayout start (λ l. endedBy pass sheet' ≡ runL l (toBits payload) 0 0 sheet)
   pub few : entriesOf pass ≤ 8 * length payload
 
-abbrev pub entriesRead : ReadAnswer → ℕ
-entriesRead (reader.Read bits entries) = entries
-entriesRead (reader.Refused why) = 0
-
 -- a payload judged by the layout
 pub record ReadJudged (payload : List ℕ) (start : State) (answer : ReadAnswer) : Type 0 where
   pub answers : ForLayout start (λ l. answer ≡ readAnswerBy (readL l (toBits payload)))
-  pub few : entriesRead answer ≤ 8 * length payload
 
--- what is kept aside of an accepted message: its codes, as far as there is room
-pub data Aside (aside aside' : List ℕ) : Outcome Message → Type 0 where
-  codes : {message : Message} {cs : List ℕ} {n : ℕ} → aside' ≡ sets aside 0 cs → Aside aside aside' (accepted message cs n)
-  nothing : {why : answer.Fault} → Aside aside aside' (refused why)
+-- a type and subtype that has a start, and a pass and a judgement from there
+abbrev pub isKnown : Start → Bool
+isKnown (Known s) = true
+isKnown Unknown = false
 
--- a payload judged, and its codes kept aside
-pub record ReadKept (payload aside : List ℕ) (start : State) (answer : ReadAnswer) (aside' : List ℕ) : Type 0 where
-  pub judged : ReadJudged payload start answer
-  pub keeps : ForLayout start (λ l. Aside aside aside' (readL l (toBits payload)))
+pub record StartedPass (kind subtype : ℕ) (payload sheet : List ℕ) (pass : Pass) (sheet' : List ℕ) : Type 0 where
+  pub from : (start : State) → startOf kind subtype ≡ Known start → ReadPass payload sheet start pass sheet'
 
--- the whole reading by the layout, in one answer
-pub record ReadWhole (payload sheet : List ℕ) (start : State) (answer : ReadAnswer) (sheet' : List ℕ) : Type 0 where
-  pub answers : ForLayout start (λ l. answer ≡ readAnswerBy (readL l (toBits payload)))
-  pub leaves : ForLayout start (λ l. sheet' ≡ sheetBy (readL l (toBits payload)) sheet)
+pub record StartedJudged (kind subtype : ℕ) (payload : List ℕ) (answer : ReadAnswer) : Type 0 where
+  pub from : (start : State) → startOf kind subtype ≡ Known start → ReadJudged payload start answer
+
+-- an accepted payload stored by its layout: the codes are on the sheet
+pub record Fills (e : Ended) (sheet' : List ℕ) : Type 0 where
+  pub count : ℕ
+  pub used : ℕ
+  pub is : e ≡ finished count used sheet'
+
+pub record Filled (kind subtype : ℕ) (payload sheet sheet' : List ℕ) : Type 0 where
+  pub fills : (l : Layout Message) → layoutFor kind subtype ≡ present l → Finishes (runL l (toBits payload) 0 0 sheet) → Fills (runL l (toBits payload) 0 0 sheet) sheet'
 
 -- ---- writing
 

@@ -1,16 +1,18 @@
 // Payloads read into a sheet and written from one (document 01, "Payloads").
 ghost use mathlib.Core.Path.{_≡_};
+ghost use mathlib.Core.Bool.{true, false};
 ghost use Prim.Native.Nat.{_+_, _*_, _^_, _≤_, _<_};
 ghost use lib.ListN.{length};
-ghost use lib.Seq.{sets};
 ghost use Rattle.sizes.specs.Sizes.{longestPayload, sheetRoom};
 ghost use Rattle.bits.specs.Bits.{toBits};
 ghost use Rattle.sheet.specs.Sheet.{badLength, judged, readAnswer, sheetAfter, judgedSheet, writeAnswer, outAfter, numberOfRead, numberOfWritten};
 ghost use Rattle.answer.specs.Place.{faultAt};
+ghost use Rattle.message.specs.Machine.{startOf};
 ghost use Rattle.sheet.specs.declared.Pass.the-variants as pass;
-ghost use Rattle.sheet.specs.Passes.{ReadPass, ReadJudged, ReadKept, ReadWhole, WritePass, SheetJudged, SheetKept, WriteWhole};
+ghost use Rattle.sheet.specs.Passes.{ReadPass, isKnown, StartedPass, StartedJudged, Filled, WritePass, SheetJudged, SheetKept, WriteWhole};
 
 mod row;
+mod store;
 
 use answer::Fault;
 use answer::Place;
@@ -19,6 +21,8 @@ use layout::Field;
 use layout::Verdict;
 use message::Start;
 use message::State;
+use message::Subtype;
+use quick::Quick;
 use row::Ran;
 use row::read_row;
 use row::write_row;
@@ -121,73 +125,79 @@ fn read_pass(payload: &[u8], sheet: &mut [u64], start: State) -> Pass
     }
 }
 
-// A pass says whether the message is accepted, and keeps its codes aside as far as there is room.
-fn keep_from(payload: &[u8], aside: &mut [u64], start: State) -> ReadAnswer
+// A pass from the start of a type and subtype.
+fn pass_of(kind: u8, subtype: u8, payload: &[u8], sheet: &mut [u64]) -> Pass
     requires { ⌜ length (now payload) ≤ longestPayload ⌝ }
-    ensures { λ r. ⌜ ReadKept (now (payload .entry)) (now (aside .entry)) start r (now (aside .exit)) ⌝ }
+    ensures { λ r. ⌜ StartedPass kind subtype (now (payload .entry)) (now (sheet .entry)) r (now (sheet .exit)) ⌝ }
 {
-    match read_pass(payload, aside, start) {
+    match message::start_of(kind, subtype) {
+        Start::Unknown => Pass::Fault(Fault {
+            refusal: Refusal::UnknownType,
+            place: Place::Nowhere,
+        }),
+        Start::Known(start) => read_pass(payload, sheet, start),
+    }
+}
+
+// A pass without a sheet says whether the message is accepted, and where not.
+fn judge_from(kind: u8, subtype: u8, payload: &[u8]) -> ReadAnswer
+    requires { ⌜ length (now payload) ≤ longestPayload ⌝ }
+    ensures { λ r. ⌜ StartedJudged kind subtype (now (payload .entry)) r ⌝ }
+{
+    let mut none = [0u64; 1];
+    match pass_of(kind, subtype, payload, &mut none[..0]) {
         Pass::Fault(why) => ReadAnswer::Refused(why),
         Pass::Whole { entries, bits } => ReadAnswer::Read { bits, entries },
     }
 }
 
-fn judge_from(payload: &[u8], start: State) -> ReadAnswer
-    requires { ⌜ length (now payload) ≤ longestPayload ⌝ }
-    ensures { λ r. ⌜ ReadJudged (now (payload .entry)) start r ⌝ }
+// A payload of a known type and a good length: where the quick test says nothing of it, the machine judges it.
+fn judge_known(kind: u8, subtype: u8, payload: &[u8]) -> ReadAnswer
+    requires { ⌜ (isKnown (startOf kind subtype) ≡ true) × (badLength (length (now payload)) ≡ false) ⌝ }
+    ensures { λ r. ⌜ r ≡ judged kind subtype (now (payload .entry)) ⌝ }
 {
-    let mut none = [0u64; 1];
-    keep_from(payload, &mut none[..0], start)
-}
-
-// The codes come onto the sheet from its first entry on.
-fn copy_codes(codes: &[u64], sheet: &mut [u64])
-    ensures { λ _. ⌜ now (sheet .exit) ≡ sets (now (sheet .entry)) 0 (now (codes .entry)) ⌝ }
-{
-    let mut i: usize = 0;
-    while i < codes.len() {
-        rows::store(sheet, i, codes[i]);
-        i += 1;
+    match quick::judge(kind, subtype, payload) {
+        Quick::Unknown => judge_from(kind, subtype, payload),
+        Quick::Reads { bits, entries } => ReadAnswer::Read { bits, entries },
     }
 }
 
-// The message is judged before its codes come onto the sheet: a refusal alters nothing. Where they did not all have room aside, it is read a second time.
-fn read_by(payload: &[u8], sheet: &mut [u64], aside: &mut [u64], start: State) -> ReadAnswer
-    requires { ⌜ (length (now payload) ≤ longestPayload) × (sheetRoom ≤ length (now sheet)) ⌝ }
-    ensures { λ r. ⌜ ReadWhole (now (payload .entry)) (now (sheet .entry)) start r (now (sheet .exit)) ⌝ }
+// The codes of an accepted HPAC come onto the sheet.
+fn store_hpac(subtype: u8, payload: &[u8], sheet: &mut [u64])
+    ensures { λ _. ⌜ Filled 1 subtype (now (payload .entry)) (now (sheet .entry)) (now (sheet .exit)) ⌝ }
 {
-    let judged = keep_from(payload, aside, start);
+    match message::constellation_of(subtype) {
+        Subtype::Known(constellation) => store::hpac(constellation, payload, sheet),
+        Subtype::Unknown => {}
+    }
+}
+
+// The codes of an accepted message come onto the sheet: an HPAC's by positions, the others' by the machine.
+fn store_known(kind: u8, subtype: u8, payload: &[u8], sheet: &mut [u64])
+    requires { ⌜ (isKnown (startOf kind subtype) ≡ true) × (length (now payload) ≤ longestPayload) ⌝ }
+    ensures { λ _. ⌜ Filled kind subtype (now (payload .entry)) (now (sheet .entry)) (now (sheet .exit)) ⌝ }
+{
+    if kind == 1 {
+        store_hpac(subtype, payload, sheet);
+        return;
+    }
+    pass_of(kind, subtype, payload, sheet);
+}
+
+// The message is judged before its codes come onto the sheet: a refusal alters nothing.
+fn read_known(kind: u8, subtype: u8, payload: &[u8], sheet: &mut [u64]) -> ReadAnswer
+    requires { ⌜ (isKnown (startOf kind subtype) ≡ true) × (badLength (length (now payload)) ≡ false) × (sheetRoom ≤ length (now sheet)) ⌝ }
+    ensures { λ r. ⌜ r ≡ readAnswer kind subtype (now (payload .entry)) (now (sheet .entry)) ⌝ }
+    ensures { λ _. ⌜ now (sheet .exit) ≡ sheetAfter kind subtype (now (payload .entry)) (now (sheet .entry)) ⌝ }
+{
+    let judged = judge_known(kind, subtype, payload);
     match judged {
         ReadAnswer::Refused(why) => ReadAnswer::Refused(why),
         ReadAnswer::Read { bits, entries } => {
-            if entries <= aside.len() {
-                copy_codes(&aside[..entries], sheet);
-                return ReadAnswer::Read { bits, entries };
-            }
-            read_pass(payload, sheet, start);
+            store_known(kind, subtype, payload, sheet);
             ReadAnswer::Read { bits, entries }
         }
     }
-}
-
-// A payload of 64 bytes has no more than 512 entries.
-fn read_small(payload: &[u8], sheet: &mut [u64], start: State) -> ReadAnswer
-    requires { ⌜ (length (now payload) ≤ longestPayload) × (sheetRoom ≤ length (now sheet)) ⌝ }
-    ensures { λ r. ⌜ ReadWhole (now (payload .entry)) (now (sheet .entry)) start r (now (sheet .exit)) ⌝ }
-{
-    let mut aside = [0u64; 512];
-    read_by(payload, sheet, &mut aside[..], start)
-}
-
-fn read_whole(payload: &[u8], sheet: &mut [u64], start: State) -> ReadAnswer
-    requires { ⌜ (length (now payload) ≤ longestPayload) × (sheetRoom ≤ length (now sheet)) ⌝ }
-    ensures { λ r. ⌜ ReadWhole (now (payload .entry)) (now (sheet .entry)) start r (now (sheet .exit)) ⌝ }
-{
-    if payload.len() <= 64 {
-        return read_small(payload, sheet, start);
-    }
-    let mut aside = [0u64; 2048];
-    read_by(payload, sheet, &mut aside[..], start)
 }
 
 // What a payload of a type (TF002) and subtype (TF007) says, with no sheet to store it on. "UNKNOWN_TYPE, LENGTH, then the first fault in reading order".
@@ -206,7 +216,7 @@ pub fn judge(kind: u8, subtype: u8, payload: &[u8]) -> ReadAnswer
                     place: Place::Nowhere,
                 });
             }
-            judge_from(payload, start)
+            judge_known(kind, subtype, payload)
         }
     }
 }
@@ -234,7 +244,7 @@ pub fn read(kind: u8, subtype: u8, payload: &[u8], sheet: &mut [u64]) -> ReadAns
                     place: Place::Nowhere,
                 });
             }
-            read_whole(payload, sheet, start)
+            read_known(kind, subtype, payload, sheet)
         }
     }
 }

@@ -1,5 +1,5 @@
 -- The tests are those of `judging`, in its order.
-use Rattle.sheet.proofs.Reading.{judge-unknown, judge-length, judge-known, good-length}
+use Rattle.sheet.proofs.Reading.{judge-length, is-known, is-good, judge-unknown}
 use borrow.Author.Needs.{needs}
 use Rattle.sheet.proofs.judge.Statement.{statement}
 use Rattle.sheet.proofs.judge.Tie as tie
@@ -19,14 +19,14 @@ bad-length-requires c κs = search needs
 returns : tie.Need-returns
 returns c = search (judge-length, needs)
 
-judge-from-requires : tie.Need-judge-from-requires
-judge-from-requires c κs = search (good-length, needs)
+judge-known-requires : tie.Need-judge-known-requires
+judge-known-requires c κs = search (is-known, is-good, needs)
 
 returns-2 : tie.Need-returns-2
 returns-2 c = search (judge-unknown, needs)
 
 returns-3 : tie.Need-returns-3
-returns-3 c = search (judge-known, needs)
+returns-3 c = search needs
 
 pub judge-spec : {M : Type 1} → statement M
 judge-spec =
@@ -37,6 +37,6 @@ judge-spec =
     enum-known-start
     bad-length-requires
     returns
-    judge-from-requires
+    judge-known-requires
     returns-2
     returns-3)

@@ -1,5 +1,5 @@
 -- The tests are those of `reading`, in its order.
-use Rattle.sheet.proofs.Reading.{both, read-room, read-unknown, read-length, read-known, good-length}
+use Rattle.sheet.proofs.Reading.{both, read-room, read-length, is-known, is-good, read-unknown}
 use borrow.Author.Needs.{needs}
 use Rattle.sheet.proofs.read.Statement.{statement}
 use Rattle.sheet.proofs.read.Tie as tie
@@ -22,8 +22,8 @@ bad-length-requires c κs = search needs
 returns-2 : tie.Need-returns-2
 returns-2 c = both (search (read-length, needs))
 
-read-whole-requires : tie.Need-read-whole-requires
-read-whole-requires c κs = search (good-length, needs)
+read-known-requires : tie.Need-read-known-requires
+read-known-requires c κs = search (is-known, is-good, needs)
 
 returns-3 : tie.Need-returns-3
 returns-3 c = both (search (read-unknown, needs))
@@ -32,7 +32,7 @@ same-length : tie.Need-same-length
 same-length c = search needs
 
 returns-4 : tie.Need-returns-4
-returns-4 c = both (search (read-known, needs))
+returns-4 c = search needs
 
 pub read-spec : {M : Type 1} → statement M
 read-spec =
@@ -44,7 +44,7 @@ read-spec =
     enum-known-start
     bad-length-requires
     returns-2
-    read-whole-requires
+    read-known-requires
     returns-3
     same-length
     returns-4)
