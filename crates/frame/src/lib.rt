@@ -3,7 +3,7 @@ ghost use mathlib.Core.Path.{_≡_};
 ghost use mathlib.Core.Bool.{_&&_};
 ghost use mathlib.Core.List.{_++_};
 ghost use lib.Dec.{ltb};
-ghost use Prim.Native.Nat.{_+_, _-_, _*_, _^_, _<_, _≤_};
+ghost use Prim.Native.Nat.{_+_, _-_, _*_, _/_, _%_, _^_, _<_, _≤_};
 ghost use lib.ListN.{length, take, drop};
 ghost use Rattle.bits.specs.Bits.{bitsOf, field};
 ghost use Rattle.bits.specs.Part.{PartOf};
@@ -57,12 +57,6 @@ fn octet(x: u64) -> u8
     x as u8
 }
 
-fn count(x: u64) -> usize
-    ensures { λ r. ⌜ r ≡ x ⌝ }
-{
-    x as usize
-}
-
 // The number that the width bits from bit pos on say.
 fn number_at(s: &[u8], pos: usize, width: u32) -> u64
     requires { ⌜ (width ≤ 64) × (pos + width ≤ 8 * length (now s)) ⌝ }
@@ -71,12 +65,29 @@ fn number_at(s: &[u8], pos: usize, width: u32) -> u64
     bits::get(s, pos, width)
 }
 
-// The same of at most eight bits.
+// Some bits of a number: so many, above so many.
+fn part_of(x: u64, below: u32, width: u32) -> u64
+    requires { ⌜ (below < 64) × (width < 64) ⌝ }
+    ensures { λ r. ⌜ r ≡ x / 2 ^ below % 2 ^ width ⌝ }
+{
+    (x >> below) % (1 << width)
+}
+
+// The number that at most eight bits say, some at least: they lie in one byte or in two.
 fn small_at(s: &[u8], pos: usize, width: u32) -> u8
-    requires { ⌜ (width ≤ 8) × (pos + width ≤ 8 * length (now s)) ⌝ }
+    requires { ⌜ (1 ≤ width) × (width ≤ 8) × (pos + width ≤ 8 * length (now s)) ⌝ }
     ensures { λ r. ⌜ (r ≡ field (now (s .entry)) pos width) × (r < 2 ^ width) ⌝ }
 {
-    octet(number_at(s, pos, width))
+    let at = pos / 8;
+    let from = narrow(pos % 8);
+    if from + width <= 8 {
+        return octet(part_of(code_of(s[at]), 8 - from - width, width));
+    }
+    octet(part_of(
+        code_of(s[at]) * 256 + code_of(s[at + 1]),
+        16 - from - width,
+        width,
+    ))
 }
 
 fn wide(x: u8) -> usize
@@ -184,7 +195,8 @@ fn payload_length(bytes: &[u8]) -> usize
     requires { ⌜ 4 ≤ length (now bytes) ⌝ }
     ensures { λ r. ⌜ (r ≡ tf003 (now (bytes .entry))) × (r < 1024) ⌝ }
 {
-    count(number_at(bytes, 15, 10))
+    wide(small_at(bytes, 15, 1)) * 512
+        + (wide(small_at(bytes, 16, 8)) * 2 + wide(small_at(bytes, 24, 1)))
 }
 
 // TF004, and where it is set TF012 to TF015.
@@ -235,6 +247,15 @@ fn narrow(x: usize) -> u32
     x as u32
 }
 
+// The number that one to four bytes say, read as the last of eight.
+fn tail_at(bytes: &[u8], at: usize, size: usize) -> u64
+    requires { ⌜ (8 ≤ at) × (1 ≤ size) × (size ≤ 4) × (at + size ≤ length (now bytes)) × (at ≤ 1099) ⌝ }
+    ensures { λ r. ⌜ r ≡ field (now (bytes .entry)) (8 * at) (8 * size) ⌝ }
+{
+    let from = at + size - 8;
+    part_of(number_at(bytes, 8 * from, 64), 0, narrow(8 * size))
+}
+
 // The last tests: the whole frame is there, and TF018 is that of all from TF002 up to itself.
 fn check_whole(bytes: &[u8]) -> Checked
     requires { ⌜ (4 ≤ length (now bytes)) × (payloadAt (now bytes) ≤ length (now bytes)) ⌝ }
@@ -247,7 +268,7 @@ fn check_whole(bytes: &[u8]) -> Checked
         return Checked::Short(at + size);
     }
     let crc = checks::message_crc(check_type, &bytes[1..at]);
-    if crc != number_at(bytes, 8 * at, narrow(8 * size)) {
+    if crc != tail_at(bytes, at, size) {
         return Checked::Refused(Refusal::MessageCrc);
     }
     Checked::Accepted(frame_of(bytes))
@@ -350,7 +371,7 @@ pub enum Written {
 }
 
 fn code_of(x: u8) -> u64
-    ensures { λ r. ⌜ r ≡ x ⌝ }
+    ensures { λ r. ⌜ (r ≡ x) × (r < 256) ⌝ }
 {
     x as u64
 }

@@ -6,6 +6,7 @@ pub mod Feeding
 pub mod Turns
 pub mod Along
 pub mod Returns
+pub mod Skipping
 pub mod Tracking
 pub mod Loop
 pub mod Ending

@@ -1,11 +1,11 @@
 -- The loop of `feed`, in plain values; a turn of it is one of `feed_input` too, wherever the live bytes lie, and its invariant is that of `close`.
 use mathlib.Core.Path.{_≡_, refl, sym, ap, _∙_}
 use mathlib.Core.List.{List, []}
-use Prim.Native.Nat.{ℕ, _-_, _≤_, _<_}
-use native.Mathlib.Nat.{le-refl, sub-self}
+use Prim.Native.Nat.{ℕ, _+_, _-_, _≤_, _<_}
+use native.Mathlib.Nat.{le-refl}
 use native.Mathlib.Omega.{arith}
 use lib.ListN.{length, take, drop, drop-of-length-le}
-use lib.Seq.{length-take-le, slice-empty}
+use lib.Seq.{length-take-le, slice-empty, drop-drop}
 use Rattle.sizes.specs.Sizes.{longestFrame, mostNoise}
 use Rattle.answer.specs.declared.Refusal.{Refusal}
 use Rattle.frame.specs.declared.Frame.{Frame}
@@ -17,7 +17,7 @@ use Rattle.stream.specs.declared.Answer.{Answer}
 use Rattle.stream.specs.declared.Place.{Place}
 use Rattle.stream.specs.Tray.{Outcome, feed, freshTray, answerOf, laid}
 use Rattle.stream.specs.Sound.{laid-same, laid-again, length-laid, drop-laid}
-use Rattle.stream.specs.Walk.{shifted, Standing, plus, fedFrom, Onward, heldBy, Answered, liveAt, Wanting, Seen, Empty, noised, settled, shownAnswer}
+use Rattle.stream.specs.Walk.{shifted, Standing, plus, fedFrom, Onward, heldBy, Answered, liveAt, Wanting, Ends, Seen, Empty, noised, settled, shownAnswer}
 use Rattle.stream.proofs.Parts.{part-is}
 use Rattle.stream.proofs.Feeding.{feed-accept, feed-starved, feed-noise, feed-full}
 use Rattle.stream.proofs.Turns.{length-live, fed-at, back, behind-noise}
@@ -105,10 +105,6 @@ module _ (bytes₀ : List ℕ) (place₀ : Place) (input bytes : List ℕ) (plac
           → Answered (fedFrom input bytes₀ place₀) bytes₀ r now
       hungry-said wanted e n a = fed-starves input bytes place live-length (fedFrom input bytes₀ place₀) (t .on) v q bytes₀ now r wanted e n a here
 
-    pub is-wanting : (wanted : ℕ) → v ≡ Short wanted → (place .used ≡ length input → ⊥) → Wanting place bytes input wanted
-    is-wanting wanted e n =
-        record { short = verdict input bytes place live-length (fedFrom input bytes₀ place₀) (t .on) v q ∙ e; some-left = omega (arith, t .standing .within) }
-
     module _ (x : Refusal) (e : v ≡ Refused x) (h : place .start < place .held) (place′ : Place) (p : place′ ≡ noised place) where
       pub far-noised : (place′ .noise ≡ mostNoise → ⊥) → Far (fedFrom input) bytes₀ place₀ input bytes place′
       far-noised n =
@@ -126,31 +122,92 @@ module _ (bytes₀ : List ℕ) (place₀ : Place) (input bytes : List ℕ) (plac
           fed-fills input bytes place live-length (fedFrom input bytes₀ place₀) (t .on) v q x e place′ p n bytes₀ now r a
           (front (place′ .start) (noised-old place place′ p h) now s)
 
-  -- ---- no byte is live in the tray any more
+  -- ---- the live bytes came with this input
 
-  module _ (h : place .held ≤ place .start) where
-    none-live : liveAt place bytes ≡ []
-    none-live = drop-of-length-le (take (place .held) bytes) {i = place .start} (omega (arith, length-take-le (place .held) bytes (omega (arith, t .standing .within))))
+  module _ (g : Ends place bytes input) (h : place .held - place .start ≤ place .used) where
+    abbrev outside : Place
+    outside = record { start = place .used - (place .held - place .start); held = place .used; noise = place .noise; used = place .used }
 
-    pub sees : Seen (record { start = place .used; held = place .used; noise = place .noise; used = place .used }) input
-    sees = record { start-in = le-refl (place .used); held-used = refl; held-most = rw sub-self (omega arith); noise-less = t .standing .within .noise-less; used-in = t .standing .within .used-in }
+    live-same : liveAt outside input ≡ liveAt place bytes
+    live-same =
+        let k : place .held - place .used + (place .used - (place .held - place .start)) ≡ place .start = omega (arith, g .used-held, t .standing .within) in
+        ap (drop (place .used - (place .held - place .start))) (sym (g .ends))
+        ∙ drop-drop (place .used - (place .held - place .start)) (place .held - place .used) (take (place .held) bytes)
+        ∙ ap (λ n. drop n (take (place .held) bytes)) k
 
-    module _ (now : List ℕ) (s : now ≡ shifted bytes (place .held) (place .start)) where
+    pub sees : Seen outside input
+    sees =
+        record {
+          start-in = omega arith;
+          held-used = refl;
+          held-most = omega (arith, t .standing .within);
+          noise-less = t .standing .within .noise-less;
+          used-in = t .standing .within .used-in;
+        }
+
+    module _ (now : List ℕ) (s : now ≡ shifted bytes (place .held) (place .held)) where
       cleared : now ≡ laid bytes₀ []
-      cleared = front (place .start) (t .standing .within .start-in) now s ∙ ap (laid bytes₀) none-live
+      cleared = front (place .held) (le-refl (place .held)) now s ∙ ap (laid bytes₀) (slice-empty (place .held) bytes)
 
       pub is-empty : Empty now
       is-empty =
           rw cleared
           (record { room = omega (arith, length-laid bytes₀ [] (omega arith) (omega (arith, t .same, t .standing .within)), t .same, t .standing .within); padded = sym (laid-again bytes₀ [] (omega arith) []) })
 
-      pub rest-said : (r : Answer) (last : List ℕ)
-          → Answered (fedFrom input input (record { start = place .used; held = place .used; noise = place .noise; used = place .used })) now r last
-          → Answered (fedFrom input bytes₀ place₀) bytes₀ r last
+      pub rest-said : (r : Answer) (last : List ℕ) → Answered (fedFrom input input outside) now r last → Answered (fedFrom input bytes₀ place₀) bytes₀ r last
       rest-said r last c =
-          let e : fedFrom input input (record { start = place .used; held = place .used; noise = place .noise; used = place .used }) ≡ fedFrom input bytes₀ place₀
-          = fed-at input [] input _ (slice-empty (place .used) input) ∙ sym (fed-at bytes [] input place none-live) ∙ t .on in
+          let e : fedFrom input input outside ≡ fedFrom input bytes₀ place₀
+          = fed-at input (liveAt place bytes) input outside live-same ∙ sym (fed-at bytes (liveAt place bytes) input place refl) ∙ t .on in
           record {
             says = c .says ∙ ap (answerOf freshTray) e;
             leaves = c .leaves ∙ laid-same now bytes₀ _ (rw cleared (drop-laid bytes₀ [] (omega arith))) ∙ ap (λ o. laid bytes₀ (heldBy o)) e;
           }
+
+-- ---- the last bytes held are those of the input that were used
+
+pub held-there : (place : Place) (bytes input : List ℕ) → Standing place bytes input → place .held ≤ length bytes
+held-there place bytes input st = omega (arith, st .within)
+
+pub ends-first : (place : Place) (bytes input : List ℕ) → place .used ≡ 0 → place .held ≤ length bytes → Ends place bytes input
+ends-first place bytes input e h =
+    record {
+      used-held = omega arith;
+      ends = ap (λ n. drop (place .held - n) (take (place .held) bytes)) e ∙ drop-of-length-le (take (place .held) bytes) {i = place .held - 0} (omega (arith, length-take-le (place .held) bytes h)) ∙ ap (λ n. take n input) (sym e);
+    }
+
+pub ends-noised : (place : Place) (bytes input : List ℕ) → Ends place bytes input → (place′ : Place) → place′ ≡ noised place → Ends place′ bytes input
+ends-noised place bytes input g place′ p = rw p (record { used-held = g .used-held; ends = g .ends })
+
+pub some-live : (held start used : ℕ) → used < held - start → start < held
+some-live held start used h = omega arith
+
+-- SHORT, and there is input left
+pub is-wanting : (place : Place) (bytes input : List ℕ) (wanted : ℕ) (v : Checked) → v ≡ Short wanted → v ≡ checked (take (place .held - place .start) (drop (place .start) bytes))
+    → (place .used ≡ length input → ⊥) → place .used < place .held - place .start → Standing place bytes input → Ends place bytes input → Wanting place bytes input wanted
+is-wanting place bytes input wanted v e q n h st g =
+    record {
+      short = verdict input bytes place (length-live place bytes input st) (fedFrom input bytes place) refl v q ∙ e;
+      some-left = omega (arith, st .within);
+      ending = g;
+      older = h;
+    }
+
+-- ---- the invariant of `feed`
+
+pub record Fed (bytes₀ : List ℕ) (place₀ : Place) (input bytes : List ℕ) (place : Place) : Type 0 where
+  pub far : Far (fedFrom input) bytes₀ place₀ input bytes place
+  pub ending : Ends place bytes input
+
+pub fed-first : (bytes : List ℕ) (place : Place) (input : List ℕ) → Standing place bytes input → place .used ≡ 0 → Fed bytes place input bytes place
+fed-first bytes place input st e = record { far = far-first (fedFrom input) bytes place input st; ending = ends-first place bytes input e (held-there place bytes input st) }
+
+module _ (bytes₀ : List ℕ) (place₀ : Place) (input bytes : List ℕ) (place : Place) (t : Fed bytes₀ place₀ input bytes place) where
+  pub fed-onward : (place′ : Place) (bytes′ : List ℕ) → Onward (fedFrom input) place bytes input place′ bytes′ → Ends place′ bytes′ input → length bytes′ ≡ length bytes
+      → Fed bytes₀ place₀ input bytes′ place′
+  fed-onward place′ bytes′ o e l = record { far = far-onward (fedFrom input) bytes₀ place₀ input bytes place (t .far) place′ bytes′ o l; ending = e }
+
+  module _ (v : Checked) (q : v ≡ checked (take (place .held - place .start) (drop (place .start) bytes))) where
+    pub fed-noised : (x : Refusal) → v ≡ Refused x → place .used < place .held - place .start → (place′ : Place) → place′ ≡ noised place → (place′ .noise ≡ mostNoise → ⊥)
+        → Fed bytes₀ place₀ input bytes place′
+    fed-noised x e h place′ p n =
+        record { far = far-noised bytes₀ place₀ input bytes place (t .far) v q x e (omega arith) place′ p n; ending = ends-noised place bytes input (t .ending) place′ p }

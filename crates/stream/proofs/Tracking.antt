@@ -2,7 +2,7 @@
 use mathlib.Core.Path.{_≡_, refl, ap, sym, _∙_}
 use mathlib.Core.List.{List, [], _∷_, _++_}
 use Prim.Native.Nat.{ℕ, _+_, _-_, _≤_, _<_}
-use native.Mathlib.Nat.{zero-add, lt-of-lt-of-le}
+use native.Mathlib.Nat.{zero-add, lt-of-lt-of-le, lt-of-le-of-lt}
 use native.Mathlib.Omega.{arith}
 use lib.ListN.{length, take, drop}
 use lib.Seq.{take-length, length-slice}
@@ -57,6 +57,10 @@ pub record Track (bytes₀ : List ℕ) (place₀ : Place) (input bytes : List �
 
 pub track-first : (bytes : List ℕ) (place : Place) (input : List ℕ) → Seen place input → Empty bytes → Track bytes place input bytes place
 track-first bytes place input s e = record { seen = s; empty = e; same = refl; same-length = refl; on = refl }
+
+-- a step along the input
+pub track-along : (bytes₀ : List ℕ) (place₀ : Place) (input bytes : List ℕ) (place : Place) → Track bytes₀ place₀ input bytes place → (p : Place) → Along place input p → Track bytes₀ place₀ input bytes p
+track-along bytes₀ place₀ input bytes place t p a = record { seen = a .seen; empty = t .empty; same = t .same; same-length = t .same-length; on = a .on ∙ t .on }
 
 module _ (bytes₀ : List ℕ) (place₀ : Place) (input bytes : List ℕ) (place : Place) (t : Track bytes₀ place₀ input bytes place) (p : Place) (a : Along place input p)
     (v : Checked) (q : v ≡ checked (part input (p .start) (p .held))) where
@@ -130,6 +134,16 @@ module _ (bytes₀ : List ℕ) (place₀ : Place) (input bytes : List ℕ) (plac
             same-length = t .same-length;
             on = fed-goes-on input input p live-length (fedFrom input input place₀) on v q x e p′ s (w .noise-less) n;
           }
+
+      -- and from there along the input
+      pub seen-next : (p′ .noise ≡ mostNoise → ⊥) → Seen p′ input
+      seen-next n = track-next n .seen
+
+      pub track-skip : (p′ .noise ≡ mostNoise → ⊥) → (r : Place) → Along p′ input r → Track bytes₀ place₀ input bytes r
+      track-skip n r b = track-along bytes₀ place₀ input bytes p′ (track-next n) r b
+
+      pub less-skip : (r : Place) → Along p′ input r → toGo r input < toGo place input
+      less-skip r b = lt-of-le-of-lt (b .no-further) less-next
 
       pub most-said : p′ .noise ≡ mostNoise → (r : Answer) (now : List ℕ) → r ≡ settled p′ (Said.Noise mostNoise) 0 0 → now ≡ copied bytes (part input (p′ .start) (p .held))
           → Answered (fedFrom input input place₀) bytes₀ r now

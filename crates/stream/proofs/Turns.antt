@@ -5,7 +5,7 @@ use Prim.Native.Nat.{ℕ, zero, suc, _+_, _-_, _*_, _≤_, _<_, min}
 use native.Mathlib.Nat.{min-le-left, min-le-right, sub-zero, zero-sub, suc-sub-suc, suc-min-suc}
 use native.Mathlib.Omega.{arith}
 use lib.ListN.{length, take, drop, replicate, length-append, length-take, length-drop, length-replicate, replicate-append-replicate, drop-of-length-le}
-use lib.Seq.{drop-at, take-all, drop-append-le, drop-drop, length-take-le}
+use lib.Seq.{take-at, drop-at, take-add, take-all, drop-append-le, drop-drop, length-take-le}
 use mir.Val.{Fits}
 use mir.Syntax.{w64}
 use Rattle.sizes.specs.Sizes.{longestFrame, mostNoise}
@@ -14,7 +14,7 @@ use Rattle.stream.specs.declared.Place.{Place}
 use Rattle.stream.specs.Scan.{noise}
 use Rattle.stream.specs.Tray.{feed, laid}
 use Rattle.stream.specs.Sound.{take-laid, drop-laid, length-laid, laid-same, laid-again}
-use Rattle.stream.specs.Walk.{shifted, Standing, plus, fedFrom, Onward, liveAt, Wanting, noised}
+use Rattle.stream.specs.Walk.{shifted, Standing, plus, fedFrom, Onward, liveAt, Wanting, Ends, noised}
 use Rattle.stream.proofs.Parts.{length-part}
 use Rattle.stream.proofs.Feeding.{plus-plus, feed-block}
 
@@ -82,6 +82,15 @@ pub fed-at : (lies live input : List ℕ) (place : Place) → liveAt place lies 
 unfolding fedFrom
 fed-at lies live input place e = ap (λ l. plus (place .used) (feed (drop (place .used) input) l (place .noise))) e
 
+gap-le : (h u x : ℕ) → x ≡ h → h - u ≤ x
+gap-le h u x e = omega arith
+
+both-more : (h u c : ℕ) → u ≤ h → u + c ≤ h + c
+both-more h u c e = omega arith
+
+same-gap : (h u c : ℕ) → h + c - (u + c) ≡ h - u
+same-gap h u c = omega arith
+
 take-le : (n : ℕ) (l : List ℕ) → length (take n l) ≤ n
 take-le n l = rw length-take (min-le-left n (length l))
 
@@ -124,6 +133,22 @@ module _ (place : Place) (bytes input : List ℕ) (st : Standing place bytes inp
           beyond = rw q (drop-laid bytes L f);
           on = fed-at now L input _ t ∙ sym (fed-at bytes L input place refl);
           nearer = omega (arith, st .within, wants);
+        }
+
+    pub ends-shift : (now : List ℕ) → now ≡ shifted bytes (place .held) (place .start)
+        → Ends (record { start = 0; held = place .held - place .start; noise = place .noise; used = place .used }) now input
+    ends-shift now e =
+        let g = w .ending in
+        let h = w .older in
+        let L = liveAt place bytes in
+        let l : length L ≡ place .held - place .start = length-live in
+        let f : length L ≤ longestFrame = omega (arith, st .within) in
+        let q : now ≡ laid bytes L = e ∙ shifted-laid bytes (place .held) (st .within .held-most) (st .within .room) (st .padded) (place .start) (st .within .start-in) in
+        let t : take (place .held - place .start) now ≡ L = rw (q, ← l) (take-laid bytes L f) in
+        let k : place .start + (place .held - place .start - place .used) ≡ place .held - place .used = omega arith in
+        record {
+          used-held = omega arith;
+          ends = ap (drop (place .held - place .start - place .used)) t ∙ drop-drop (place .held - place .start - place .used) (place .start) (take (place .held) bytes) ∙ ap (λ n. drop n (take (place .held) bytes)) k ∙ g .ends;
         }
 
     module _ (count : ℕ) (h : place .start + wanted ≤ longestFrame) (q : count ≡ min (wanted - (place .held - place .start)) (length input - place .used)) where
@@ -172,13 +197,12 @@ module _ (place : Place) (bytes input : List ℕ) (st : Standing place bytes inp
           }
 
       -- as the copy leaves it, which fills the whole part
-      pub onward-taken : (part : List ℕ)
+      source : (part : List ℕ)
           → part
           ≡ take (length (take (place .used + count - place .used) (drop (place .used) input))) (take (place .used + count - place .used) (drop (place .used) input))
           ++ drop (length (take (place .used + count - place .used) (drop (place .used) input))) (take (place .held + count - place .held) (drop (place .held) bytes))
-          → Onward (fedFrom input) place bytes input (record { start = place .start; held = place .held + count; noise = place .noise; used = place .used + count })
-          (take (place .held) bytes ++ (part ++ drop (place .held + count - place .held) (drop (place .held) bytes)))
-      onward-taken part e =
+          → part ≡ take (place .used + count - place .used) (drop (place .used) input)
+      source part e =
           let f = count-fits in
           let src = take (place .used + count - place .used) (drop (place .used) input) in
           let dst = take (place .held + count - place .held) (drop (place .held) bytes) in
@@ -187,4 +211,39 @@ module _ (place : Place) (bytes input : List ℕ) (st : Standing place bytes inp
           let r : length (drop (place .used) input) ≡ length input - place .used = length-drop (place .used) input in
           let ls : length src ≡ count = ap (λ k. length (take k (drop (place .used) input))) a ∙ length-take-le count (drop (place .used) input) (omega (arith, f .2)) in
           let ld : length dst ≤ count = ap-le (ap (λ k. length (take k (drop (place .held) bytes))) b) (take-le count (drop (place .held) bytes)) in
-          onward-copy part (e ∙ ap (λ k. take k src ++ drop k dst) ls ∙ ap₂ (λ x y. x ++ y) (take-all count src (omega arith)) (drop-of-length-le dst {i = count} ld) ∙ append-nil src)
+          e ∙ ap (λ k. take k src ++ drop k dst) ls ∙ ap₂ (λ x y. x ++ y) (take-all count src (omega arith)) (drop-of-length-le dst {i = count} ld) ∙ append-nil src
+
+      pub onward-taken : (part : List ℕ)
+          → part
+          ≡ take (length (take (place .used + count - place .used) (drop (place .used) input))) (take (place .used + count - place .used) (drop (place .used) input))
+          ++ drop (length (take (place .used + count - place .used) (drop (place .used) input))) (take (place .held + count - place .held) (drop (place .held) bytes))
+          → Onward (fedFrom input) place bytes input (record { start = place .start; held = place .held + count; noise = place .noise; used = place .used + count })
+          (take (place .held) bytes ++ (part ++ drop (place .held + count - place .held) (drop (place .held) bytes)))
+      onward-taken part e = onward-copy part (source part e)
+
+      pub ends-taken : (part : List ℕ)
+          → part
+          ≡ take (length (take (place .used + count - place .used) (drop (place .used) input))) (take (place .used + count - place .used) (drop (place .used) input))
+          ++ drop (length (take (place .used + count - place .used) (drop (place .used) input))) (take (place .held + count - place .held) (drop (place .held) bytes))
+          → Ends (record { start = place .start; held = place .held + count; noise = place .noise; used = place .used + count })
+          (take (place .held) bytes ++ (part ++ drop (place .held + count - place .held) (drop (place .held) bytes))) input
+      ends-taken part e =
+          let g = w .ending in
+          let X = take (place .held) bytes in
+          let f = count-fits in
+          let r : length (drop (place .used) input) ≡ length input - place .used = length-drop (place .used) input in
+          let a : place .used + count - place .used ≡ count = omega arith in
+          let p : part ≡ take count (drop (place .used) input) = source part e ∙ ap (λ k. take k (drop (place .used) input)) a in
+          let lp : length part ≡ count = ap length p ∙ length-take-le count (drop (place .used) input) (omega (arith, f .2)) in
+          let lx : length X ≡ place .held = length-take-le (place .held) bytes (omega (arith, st .within)) in
+          let lxp : length (X ++ part) ≡ place .held + count = length-append X part ∙ omega arith in
+          let z : place .held + count - (place .used + count) ≡ place .held - place .used = same-gap (place .held) (place .used) count in
+          let rest = drop (place .held + count - place .held) (drop (place .held) bytes) in
+          let t : take (place .held + count) (X ++ (part ++ rest)) ≡ X ++ part =
+          ap (take (place .held + count)) (sym (append-assoc X part rest)) ∙ take-at (X ++ part) rest (place .held + count) lxp in
+          record {
+            used-held = both-more (place .held) (place .used) count (g .used-held);
+            ends =
+                ap₂ drop z t ∙ drop-append-le (place .held - place .used) X part (gap-le (place .held) (place .used) (length X) lx) ∙ ap₂ (λ x y. x ++ y) (g .ends) p
+                ∙ sym (take-add (place .used) count input);
+          }

@@ -2,12 +2,14 @@
 use mathlib.Core.Path.{_≡_}
 use mathlib.Core.List.{List, [], _++_}
 use mathlib.Core.Bool.{cond}
-use Prim.Native.Nat.{ℕ, _+_, _-_, _*_, _≤_, _<_, min}
-use lib.ListN.{length, take, drop, replicate}
+use Prim.Native.Nat.{ℕ, _+_, _-_, _*_, _%_, _≤_, _<_, min}
+use lib.ListN.{length, getD, take, drop, replicate}
 use lib.Dec.{ltb}
 use Rattle.sizes.specs.Sizes.{longestFrame, mostNoise}
 use Rattle.frame.specs.declared.Frame.{Frame}
 use Rattle.frame.specs.declared.Checked.the-variants.{Short}
+use Rattle.checks.specs.Crc.{frameCrc}
+use Rattle.frame.specs.Fields.{preamble}
 use Rattle.frame.specs.Check.{checked}
 use Rattle.stream.specs.declared.Tray.{Tray}
 use Rattle.stream.specs.declared.Said.{Said}
@@ -80,10 +82,17 @@ abbrev pub CloseTurn : List ℕ → Place → Turn → List ℕ → Type 0
 CloseTurn bytes place (turn.On place′) bytes′ = Onward closedFrom place bytes [] place′ bytes′
 CloseTurn bytes place (turn.Ended answer) bytes′ = Answered (closedFrom bytes place) bytes answer bytes′
 
--- SHORT, and there is input left
+-- the last bytes held are those of the input that were used
+pub record Ends (place : Place) (bytes input : List ℕ) : Type 0 where
+  pub used-held : place .used ≤ place .held
+  pub ends : drop (place .held - place .used) (take (place .held) bytes) ≡ take (place .used) input
+
+-- SHORT, and there is input left; some live byte came before it
 pub record Wanting (place : Place) (bytes input : List ℕ) (wanted : ℕ) : Type 0 where
   pub short : checked (liveAt place bytes) ≡ Short wanted
   pub some-left : place .used < length input
+  pub ending : Ends place bytes input
+  pub older : place .used < place .held - place .start
 
 -- a place whose live bytes lie in the input, up to those used
 pub record Seen (place : Place) (input : List ℕ) : Type 0 where
@@ -98,6 +107,14 @@ pub record Along (place : Place) (input : List ℕ) (place′ : Place) : Type 0 
   pub seen : Seen place′ input
   pub on : fedFrom input input place′ ≡ fedFrom input input place
   pub no-further : toGo place′ input ≤ toGo place input
+
+-- so many bytes from the first live one on tell that it is noise, which may be counted without being told
+pub data Told (place : Place) (input : List ℕ) : ℕ → Type 0 where
+  nothing : Told place input 0
+  plain : place .start < length input → place .noise + 1 < mostNoise → (getD input (place .start) 0 ≡ preamble → ⊥) → Told place input 1
+  wrong : place .start + 4 ≤ length input → place .noise + 1 < mostNoise → getD input (place .start) 0 ≡ preamble
+      → (frameCrc (getD input (place .start + 1) 0) (getD input (place .start + 2) 0) (getD input (place .start + 3) 0) ≡ getD input (place .start + 3) 0 % 16 → ⊥)
+      → Told place input 4
 
 -- where so many bytes are wanted, the input is used up to there
 abbrev pub reached : Place → List ℕ → ℕ → Place

@@ -6,7 +6,7 @@ ghost use lib.ListN.{length, take, drop, replicate};
 ghost use Rattle.sizes.specs.Sizes.{longestFrame, mostNoise};
 ghost use Rattle.stream.specs.Tray.{zeros, isFrame, sound, freshTray, numberOfSaid, refused, answerOf, callAnswer, callBytes, finishAnswer, finishBytes};
 ghost use Rattle.stream.specs.Driver.{Ready};
-ghost use Rattle.stream.specs.Walk.{shifted, Standing, fedFrom, closedFrom, Answered, CloseTurn, Wanting, Onward, Seen, Along, reached, Empty, noised, settled, shownAnswer, droppedPlace};
+ghost use Rattle.stream.specs.Walk.{shifted, Standing, fedFrom, closedFrom, Answered, CloseTurn, Wanting, Ends, Onward, Seen, Along, Told, reached, Empty, noised, settled, shownAnswer, droppedPlace};
 use answer::Refusal;
 use frame::Checked;
 use frame::Frame;
@@ -167,6 +167,7 @@ fn take_more(bytes: &mut [u8], place: Place, input: &[u8], wanted: usize) -> Pla
     requires { ⌜ Standing place (now bytes) (now input) ⌝ }
     requires { ⌜ Wanting place (now bytes) (now input) wanted ⌝ }
     ensures { λ r. ⌜ Onward (fedFrom (now (input .entry))) place (now (bytes .entry)) (now (input .entry)) r (now (bytes .exit)) ⌝ }
+    ensures { λ r. ⌜ Ends r (now (bytes .exit)) (now (input .entry)) ⌝ }
 {
     let start = place.start;
     let held = place.held;
@@ -281,6 +282,47 @@ fn ahead(place: Place, input: &[u8]) -> Place
     widen(pass(place, input), input)
 }
 
+// How many bytes from the first live one on tell, without a whole check, that it is noise: one that is no preamble, four with a wrong TF006. 0
+// where they do not, and where none is live, so that `pass` looks for a preamble.
+fn told_by(place: Place, input: &[u8]) -> usize
+    requires { ⌜ Seen place (now input) ⌝ }
+    ensures { λ r. ⌜ Told place (now (input .entry)) r ⌝ }
+{
+    let start = place.start;
+    if input.len() - start < 4 {
+        return 0;
+    }
+    if place.noise == sizes::MOST_NOISE - 1 {
+        return 0;
+    }
+    if input[start] != PREAMBLE {
+        if start == place.held {
+            return 0;
+        }
+        return 1;
+    }
+    let last = input[start + 3];
+    if checks::frame_crc(input[start + 1], input[start + 2], last) == last % 16 {
+        return 0;
+    }
+    4
+}
+
+// Behind noise, bytes that are told to be noise so are passed over, up to a count below 65,535.
+fn skip(place: Place, input: &[u8]) -> Place
+    requires { ⌜ Seen place (now input) ⌝ }
+    ensures { λ r. ⌜ Along place (now (input .entry)) r ⌝ }
+{
+    let mut place = place;
+    loop {
+        let wanted = told_by(place, input);
+        if wanted == 0 {
+            return place;
+        }
+        place = noisy(reach(place, input, wanted));
+    }
+}
+
 // The call from a place on where no byte is live in the tray: the live bytes lie in the input, and go into the tray with the answer.
 fn feed_input(bytes: &mut [u8], place: Place, input: &[u8]) -> Answer
     requires { ⌜ Seen place (now input) ⌝ }
@@ -311,18 +353,20 @@ fn feed_input(bytes: &mut [u8], place: Place, input: &[u8]) -> Answer
                     bytes::copy(&input[start..held], bytes);
                     return say(place, Said::Noise(sizes::MOST_NOISE), 0, 0);
                 }
+                place = skip(place, input);
             }
         }
     }
 }
 
-// The call from a place on while bytes are live in the tray, and then where none is.
+// The call from its start on while bytes are live in the tray that came before this input. When all that are live came with it, they are looked at
+// where they lie in it.
 fn feed(bytes: &mut [u8], place: Place, input: &[u8]) -> Answer
-    requires { ⌜ Standing place (now bytes) (now input) ⌝ }
+    requires { ⌜ Standing place (now bytes) (now input) × (place .used ≡ 0) ⌝ }
     ensures { λ r. ⌜ Answered (fedFrom (now (input .entry)) (now (bytes .entry)) place) (now (bytes .entry)) r (now (bytes .exit)) ⌝ }
 {
     let mut place = place;
-    while place.start < place.held {
+    while place.used < place.held - place.start {
         let start = place.start;
         let held = place.held;
         match frame::check(&bytes[start..held]) {
@@ -347,12 +391,12 @@ fn feed(bytes: &mut [u8], place: Place, input: &[u8]) -> Answer
             }
         }
     }
-    let start = place.start;
     let held = place.held;
-    shift(bytes, held, start);
+    let live = held - place.start;
+    shift(bytes, held, held);
     let used = place.used;
     let outside = Place {
-        start: used,
+        start: used - live,
         held: used,
         noise: place.noise,
         used: used,

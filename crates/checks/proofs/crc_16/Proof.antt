@@ -1,24 +1,26 @@
--- The table obeys its rule, which antt computes, and a register of 16 bits is the top of one of 32.
-use mathlib.Core.Path.{refl}
-use native.Mathlib.Omega.{arith}
-use Rattle.checks.specs.Crc.{shift, messageCrc}
-use Rattle.checks.specs.Steps.{shifts}
-use Rattle.checks.proofs.Rules.{is-table}
-use Rattle.checks.proofs.Turns.{top-code}
+-- The words leave the register of the definition (Turns.antt).
 use borrow.Author.Needs.{needs}
+use Rattle.checks.specs.Crc.{messageCrc}
+use Rattle.checks.proofs.Rules.{rule-16, start-16}
+use Rattle.checks.proofs.Turns.{crc-all}
 use Rattle.checks.proofs.crc_16.Statement.{statement}
 use Rattle.checks.proofs.crc_16.Tie as tie
 
-crc-by-requires : tie.Need-crc-by-requires
-unfolding shift shifts
-crc-by-requires c κs = is-table _ refl tt tt (omega arith)
+cast-head : tie.Need-cast-head
+cast-head c = search needs
 
-widened-requires : tie.Need-widened-requires
-widened-requires c κs = search needs
+head-requires : tie.Need-head-requires
+head-requires c κs = search needs
+
+words-16-requires : tie.Need-words-16-requires
+words-16-requires c κs = search needs
+
+left-16-requires : tie.Need-left-16-requires
+left-16-requires c κs = search needs
 
 returns : tie.Need-returns
 unfolding messageCrc
-returns c = top-code 16 16 0x1021 0 (c .before .crc-by .result) (c .widened .result) _ (omega arith) (c .before .crc-by .ensures) (c .widened .ensures)
+returns c = search (crc-all rule-16 0 0 start-16, needs)
 
 pub crc-16-spec : {M : Type 1} → statement M
-crc-16-spec = tie.close (tie.spec crc-by-requires widened-requires returns)
+crc-16-spec = tie.close (tie.spec cast-head head-requires words-16-requires left-16-requires returns)

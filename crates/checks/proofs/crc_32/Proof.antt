@@ -1,25 +1,26 @@
--- The table obeys its rule, which antt computes; the start is all ones, and the end inverted.
-use mathlib.Core.Path.{refl, ap, _∙_}
-use Prim.Native.Nat.{ℕ}
-use native.Mathlib.Omega.{arith}
-use lib.Bits.{bitXor}
-use Rattle.checks.specs.Crc.{shift, messageCrc}
-use Rattle.checks.specs.Steps.{shifts}
-use Rattle.checks.proofs.Rules.{is-table}
+-- The words leave the register, from a start that leaves all ones; the end is inverted (Turns.antt).
 use borrow.Author.Needs.{needs}
+use Rattle.checks.specs.Crc.{messageCrc}
+use Rattle.checks.proofs.Rules.{rule-32, start-32}
+use Rattle.checks.proofs.Turns.{crc-inverted}
 use Rattle.checks.proofs.crc_32.Statement.{statement}
 use Rattle.checks.proofs.crc_32.Tie as tie
 
-crc-by-requires : tie.Need-crc-by-requires
-unfolding shift shifts
-crc-by-requires c κs = is-table _ refl tt tt (omega arith)
+cast-head : tie.Need-cast-head
+cast-head c = search needs
 
-widened-requires : tie.Need-widened-requires
-widened-requires c κs = search needs
+head-requires : tie.Need-head-requires
+head-requires c κs = search needs
+
+words-32-requires : tie.Need-words-32-requires
+words-32-requires c κs = search needs
+
+left-32-requires : tie.Need-left-32-requires
+left-32-requires c κs = search needs
 
 returns : tie.Need-returns
 unfolding messageCrc
-returns c = c .widened .ensures ∙ ap (λ (x : ℕ). bitXor x 0xFFFFFFFF) (c .before .crc-by .ensures)
+returns c = search (crc-inverted rule-32 0x46AF6449 0xFFFFFFFF start-32, needs)
 
 pub crc-32-spec : {M : Type 1} → statement M
-crc-32-spec = tie.close (tie.spec crc-by-requires widened-requires returns)
+crc-32-spec = tie.close (tie.spec cast-head head-requires words-32-requires left-32-requires returns)

@@ -37,17 +37,8 @@ part-message-crc-end c = search needs
 message-crc-requires : tie.Need-message-crc-requires
 message-crc-requires c κs = search needs
 
-mul-number-at : tie.Need-mul-number-at
-mul-number-at c = search needs
-
-mul-narrow : tie.Need-mul-narrow
-mul-narrow c = search needs
-
-narrow-requires : tie.Need-narrow-requires
-narrow-requires c κs = search needs
-
-number-at-requires : tie.Need-number-at-requires
-number-at-requires c κs = search needs
+tail-at-requires : tie.Need-tail-at-requires
+tail-at-requires c κs = search needs
 
 returns-2 : tie.Need-returns-2
 returns-2 c = search (whole-bad, needs)
@@ -73,10 +64,7 @@ check-whole-spec =
     part-message-crc-start
     part-message-crc-end
     message-crc-requires
-    mul-number-at
-    mul-narrow
-    narrow-requires
-    number-at-requires
+    tail-at-requires
     returns-2
     frame-of-requires
     returns-3)

@@ -1,19 +1,22 @@
 -- What the call comes to from a place on is what it came to where the loop began; each return says that (Loop.antt).
 use borrow.Author.Needs.{needs}
-use Rattle.stream.specs.Walk.{toGo, fedFrom}
+use Rattle.stream.specs.Walk.{toGo}
 use Rattle.stream.proofs.Places.{noised-start, noised-old, noised-nearer}
-use Rattle.stream.proofs.Loop.{Far, far-first, far-onward, shown-said, is-wanting, hungry-said, far-noised, full-said, sees, is-empty, rest-said}
+use Rattle.stream.proofs.Loop.{Fed, fed-first, fed-onward, shown-said, is-wanting, hungry-said, fed-noised, full-said, sees, is-empty, rest-said, some-live}
 use Rattle.stream.proofs.feed.Statement.{statement}
 use Rattle.stream.proofs.feed.Tie as tie
 
 abbrev Inv-loop : tie.InvT-loop
-Inv-loop bytes₀ input place₀ bytes place = Far (fedFrom input) bytes₀ place₀ input bytes place
+Inv-loop bytes₀ input place₀ bytes place = Fed bytes₀ place₀ input bytes place
 
 abbrev μ-loop : tie.MeasureT-loop
 μ-loop bytes₀ input place₀ bytes place = toGo place input
 
 loop-holds : tie.Need-loop-holds Inv-loop μ-loop
-loop-holds c = search (far-first, needs)
+loop-holds c = search (fed-first, needs)
+
+sub-if1 : tie.Need-sub-if1 Inv-loop μ-loop
+sub-if1 c = search needs
 
 sub-check : tie.Need-sub-check Inv-loop μ-loop
 sub-check c = search needs
@@ -58,13 +61,13 @@ returns-2 : tie.Need-returns-2 Inv-loop μ-loop
 returns-2 c = search (hungry-said, needs)
 
 take-more-requires : tie.Need-take-more-requires Inv-loop μ-loop
-take-more-requires c κs = search (is-wanting, needs)
+take-more-requires c κs = (search needs, search (is-wanting, needs))
 
 loop-less : tie.Need-loop-less Inv-loop μ-loop
 loop-less c = search needs
 
 loop-again : tie.Need-loop-again Inv-loop μ-loop
-loop-again c = search (far-onward, needs)
+loop-again c = search (fed-onward, needs)
 
 enum-told : tie.Need-enum-told Inv-loop μ-loop
 enum-told c = search needs
@@ -73,25 +76,31 @@ noisy-requires : tie.Need-noisy-requires Inv-loop μ-loop
 noisy-requires c κs = search needs
 
 shift-requires-3 : tie.Need-shift-requires-3 Inv-loop μ-loop
-shift-requires-3 c κs = search (noised-old, needs)
+shift-requires-3 c κs = search (noised-old, some-live, needs)
 
 say-requires-2 : tie.Need-say-requires-2 Inv-loop μ-loop
-say-requires-2 c κs = search (noised-start, needs)
+say-requires-2 c κs = search (noised-start, some-live, needs)
 
 same-length-3 : tie.Need-same-length-3 Inv-loop μ-loop
 same-length-3 c = search needs
 
 returns-3 : tie.Need-returns-3 Inv-loop μ-loop
-returns-3 c = search (full-said, needs)
+returns-3 c = search (full-said, some-live, needs)
 
 loop-less-2 : tie.Need-loop-less-2 Inv-loop μ-loop
-loop-less-2 c = search (noised-nearer, needs)
+loop-less-2 c = search (noised-nearer, some-live, needs)
 
 loop-again-2 : tie.Need-loop-again-2 Inv-loop μ-loop
-loop-again-2 c = search (far-noised, needs)
+loop-again-2 c = search (fed-noised, needs)
+
+sub-live : tie.Need-sub-live Inv-loop μ-loop
+sub-live c = search needs
 
 shift-requires-4 : tie.Need-shift-requires-4 Inv-loop μ-loop
 shift-requires-4 c κs = search needs
+
+sub-t39 : tie.Need-sub-t39 Inv-loop μ-loop
+sub-t39 c = search needs
 
 feed-input-requires : tie.Need-feed-input-requires Inv-loop μ-loop
 feed-input-requires c κs = search (sees, is-empty, needs)
@@ -109,6 +118,7 @@ feed-spec =
     Inv-loop
     μ-loop
     loop-holds
+    sub-if1
     sub-check
     part-check-start
     part-check-end
@@ -134,7 +144,9 @@ feed-spec =
     returns-3
     loop-less-2
     loop-again-2
+    sub-live
     shift-requires-4
+    sub-t39
     feed-input-requires
     same-length-4
     returns-4)

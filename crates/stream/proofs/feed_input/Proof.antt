@@ -2,7 +2,7 @@
 use borrow.Author.Needs.{needs}
 use Rattle.stream.specs.Walk.{toGo}
 use Rattle.stream.proofs.Places.{noised-start, noised-old}
-use Rattle.stream.proofs.Tracking.{Track, track-first, copy-here, seen-said, spent-said, track-short, less-short, some-live, copy-next, less-next, track-next, most-said}
+use Rattle.stream.proofs.Tracking.{Track, track-first, copy-here, seen-said, spent-said, track-short, less-short, some-live, copy-next, seen-next, less-skip, track-skip, most-said}
 use Rattle.stream.proofs.feed_input.Statement.{statement}
 use Rattle.stream.proofs.feed_input.Tie as tie
 
@@ -114,11 +114,14 @@ same-length-3 c = search needs
 returns-3 : tie.Need-returns-3 Inv-loop μ-loop
 returns-3 c = search (most-said, needs)
 
+skip-requires : tie.Need-skip-requires Inv-loop μ-loop
+skip-requires c κs = search (seen-next, needs)
+
 loop-less-2 : tie.Need-loop-less-2 Inv-loop μ-loop
-loop-less-2 c = search (less-next, needs)
+loop-less-2 c = search (less-skip, needs)
 
 loop-again-2 : tie.Need-loop-again-2 Inv-loop μ-loop
-loop-again-2 c = search (track-next, needs)
+loop-again-2 c = search (track-skip, needs)
 
 pub feed-input-spec : {M : Type 1} → statement M
 feed-input-spec =
@@ -160,5 +163,6 @@ feed-input-spec =
     say-requires-2
     same-length-3
     returns-3
+    skip-requires
     loop-less-2
     loop-again-2)

@@ -1,6 +1,6 @@
 -- Either step goes on to the same outcome: the live bytes move to the front, or bytes of the input come behind them (Turns.antt).
 use borrow.Author.Needs.{needs}
-use Rattle.stream.proofs.Turns.{wanted-more, wanted-fits, onward-shift, onward-taken}
+use Rattle.stream.proofs.Turns.{wanted-more, wanted-fits, onward-shift, ends-shift, onward-taken, ends-taken}
 use Rattle.stream.proofs.take_more.Statement.{statement}
 use Rattle.stream.proofs.take_more.Tie as tie
 
@@ -17,7 +17,7 @@ same-length : tie.Need-same-length
 same-length c = search needs
 
 returns : tie.Need-returns
-returns c = search (onward-shift, needs)
+returns c = search (onward-shift, ends-shift, needs)
 
 sub-least : tie.Need-sub-least
 sub-least c = search needs
@@ -62,7 +62,7 @@ same-length-2 : tie.Need-same-length-2
 same-length-2 c = search needs
 
 returns-2 : tie.Need-returns-2
-returns-2 c = search (onward-taken, needs)
+returns-2 c = search (onward-taken, ends-taken, needs)
 
 pub take-more-spec : {M : Type 1} → statement M
 take-more-spec =
