@@ -9,10 +9,14 @@ use lib.Dec.{leb, ltb}
 use lib.ListN.{length, getD, take, drop, set}
 use lib.Seq.{getD-drop, sets, sets-eq}
 use borrow.Author.Tests.{lt-ltb, le-ltb, le-leb, lt-leb}
+use Rattle.area.specs.Laws.{not-off}
 use Rattle.area.specs.Area.{sf032, sf033, sf034, sf036, areaOff, isArea, numberAt, putAt}
 
 pub small-product : (x y : ℕ) → x < 256 → y < 256 → x * y < 2 ^ 64
 small-product x y h k = lt-of-le-of-lt (mul-le-mul {n₁ = x} {m₁ = y} {n₂ = 255} {m₂ = 255} (omega arith) (omega arith)) (omega arith)
+
+pub never-off : (a : ℕ) → 224 ≤ a / 268435456 % 2048 → false ≡ areaOff a
+never-off a h = sym (not-off a h)
 
 pub judged-off : (a p : ℕ) → p ≡ sf034 a * (sf036 a + 1) → ltb (a / 268435456 % 2048) p ≡ areaOff a
 unfolding areaOff

@@ -6,10 +6,10 @@ use Prim.Native.Nat.{ℕ, _+_, _-_, _*_, _/_, _%_, _^_, _≤_, _<_}
 use native.Mathlib.Nat.{mul-le-mul}
 use native.Mathlib.Omega.{arith}
 use lib.ListN.{length, take}
-use borrow.Author.Tests.{ltb-true}
+use borrow.Author.Tests.{le-ltb, ltb-true}
 use Rattle.bits.specs.Bits.{Bytes}
 use Rattle.bits.specs.Laws.{bytes-none, bytes-cons}
-use Rattle.area.specs.Area.{rows, columns, nodes, isArea, bytesOf, numberIn}
+use Rattle.area.specs.Area.{sf032, sf034, rows, columns, latitudeSpacing, nodes, areaOff, isArea, bytesOf, numberIn}
 
 pub bytes-area : (a : ℕ) → Bytes (bytesOf a)
 bytes-area a =
@@ -87,6 +87,13 @@ both-right false b e = absurd (false≢true e)
 pub area-lt : (a : ℕ) → isArea a ≡ true → a < 2 ^ 47
 unfolding isArea
 area-lt a e = ltb-true a (2 ^ 47) (both-left _ _ e)
+
+-- no grid reaches further south than 7 times 32 tenths of a degree
+pub not-off : (a : ℕ) → 224 ≤ sf032 a → areaOff a ≡ false
+unfolding areaOff
+not-off a h =
+    let m : sf034 a * latitudeSpacing a ≤ 224 = mul-le-mul {n₁ = sf034 a} {m₁ = latitudeSpacing a} {n₂ = 7} {m₂ = 32} (omega arith) (omega arith) in
+    le-ltb (sf032 a) (sf034 a * latitudeSpacing a) (omega arith)
 
 -- an area has one node or more, and at most 64
 pub nodes-some : (a : ℕ) → 1 ≤ nodes a

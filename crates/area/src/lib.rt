@@ -40,11 +40,15 @@ pub fn nodes(area: u64) -> u64
     product(area / 8192 % 8 + 1, area / 1024 % 8 + 1)
 }
 
-// AREA_OFF.
+// AREA_OFF. No grid is higher than 22.4 degrees: 7 times 3.2.
 pub fn is_off(area: u64) -> bool
     ensures { λ r. ⌜ r ≡ areaOff area ⌝ }
 {
-    area / 268435456 % 2048 < product(area / 8192 % 8, area / 32 % 32 + 1)
+    let latitude = area / 268435456 % 2048;
+    if 224 <= latitude {
+        return false;
+    }
+    latitude < product(area / 8192 % 8, area / 32 % 32 + 1)
 }
 
 // Whether a number is an area of a sound book.

@@ -2,29 +2,30 @@
 use mathlib.Core.Path.{_≡_, ap, ap₂, sym, _∙_, subst}
 use mathlib.Core.Bool.{Bool, true, false, cond}
 use mathlib.Core.List.{List}
-use Prim.Native.Nat.{ℕ, _+_, _-_, _*_, _/_, _^_, _≤_, _<_}
+use Prim.Native.Nat.{ℕ, _+_, _-_, _*_, _/_, _%_, _^_, _≤_, _<_}
 use native.Mathlib.Omega.{arith}
 use native.Mathlib.Numerals.{add-one}
 use lib.Dec.{eqb}
-use lib.ListN.{length, drop}
+use lib.ListN.{length}
 use borrow.Author.Tests.{lt-ltb, le-ltb, eq-eqb, ne-eqb}
 use Rattle.answer.specs.Place.{nowhere}
 use Rattle.answer.specs.declared.Refusal.the-variants.{AreaOff, Conflict, BookFull}
 use Rattle.bits.specs.Bits.{field, got}
-use Rattle.bits.specs.Laws.{got-there, field-lt}
+use Rattle.bits.specs.Laws.{got-there, field-lt, field-part}
 use Rattle.sizes.specs.Sizes.{mostAreas}
-use Rattle.area.specs.Area.{sf031, areaOff, numberIn, numberAt}
+use Rattle.area.specs.Area.{sf031, areaOff}
 use Rattle.book.specs.Book.{areasIn}
 use Rattle.book.specs.Take.{lookup, looked}
 use Rattle.book.specs.FindLaws.{looked-there, looked-none}
 use Rattle.book.specs.Payload.{blockCount, mostBlocks, blockStart, blockAt, blocksFrom}
 use Rattle.book.specs.TakeLaws.{orElse}
+use Rattle.book.specs.Search.{Below, below-up, lookup-below}
 use Rattle.book.specs.Judge.{judgeFound, judgeBlock}
 use Rattle.book.specs.declared.Found.{Found}
 use Rattle.book.specs.declared.Found.the-variants.{Area, Nothing}
 use Rattle.book.specs.declared.Judged.{Judged}
 use Rattle.book.specs.declared.Judged.the-variants.{Held, Refused}
-use Rattle.book.proofs.Reading.{areas-left, next-six, number-there}
+use Rattle.book.proofs.Reading.{areas-left}
 
 -- ---- the payload
 
@@ -62,37 +63,25 @@ module _ (s : List ℕ) (i : ℕ) (there : blockStart (i + 1) ≤ 8 * length s) 
   pub block-small : r < 2 ^ 47
   block-small = read-field s (blockStart i) 47 r e (omega arith) (omega arith) .1
 
+-- the last blocks, out of the last eight bytes
+module _ (s : List ℕ) (i : ℕ) (there : blockStart (i + 1) ≤ 8 * length s) (late : length s < (19 + 47 * i) / 8 + 8) (w : ℕ) (e : w ≡ got s (8 * length s - 64) 64) where
+  pub last-is : w / 2 ^ (17 - (19 + 47 * i - (8 * length s - 64))) % 140737488355328 ≡ blockAt s i
+  last-is =
+      let start : ℕ = 8 * length s - 64 in
+      let o : ℕ = blockStart i - start in
+      let m : ℕ = 17 - o in
+      let all : 64 ≡ o + (47 + m) = omega arith in
+      let here : start + o ≡ blockStart i = omega arith in
+      ap (λ w. w / 2 ^ m % 2 ^ 47) (read-field s start 64 w e (omega arith) (omega arith) .0 ∙ ap (λ k. field s start k) all)
+      ∙ sym (field-part s start o 47 m (omega arith))
+      ∙ ap (λ k. field s k 47) here
+
+  pub last-small : w / 2 ^ (17 - (19 + 47 * i - (8 * length s - 64))) % 140737488355328 < 2 ^ 47
+  last-small = omega arith
+
 -- ---- looking an ID up, among areas and among blocks
 
 module _ (s : List ℕ) (id n : ℕ) where
-  pub record Looking (i : ℕ) : Type 0 where
-    pub inside : i ≤ n
-    pub same : lookup id (areasIn (n - i) (drop (6 * i) s)) ≡ lookup id (areasIn n s)
-
-  pub look-start : Looking 0
-  look-start = record { inside = omega arith; same = ap (λ k. lookup id (areasIn k s)) {x = n - 0} {y = n} (omega arith) }
-
-  module _ (i : ℕ) (p : Looking i) where
-    pub look-none : n ≤ i → Nothing ≡ lookup id (areasIn n s)
-    unfolding lookup areasIn
-    look-none h = let e : n - i ≡ 0 = omega arith in ap (λ k. lookup id (areasIn k (drop (6 * i) s))) (sym e) ∙ p .same
-
-    module _ (h : i < n) (fits : 6 * n ≤ length s) (x d : ℕ) (ex : x ≡ numberAt s (6 * i)) (ed : d ≡ sf031 (x / 2)) where
-      opened : cond (eqb d id) (Area (x / 2)) (lookup id (areasIn (n - (i + 1)) (drop (6 * (i + 1)) s))) ≡ lookup id (areasIn n s)
-      unfolding lookup areasIn
-      opened =
-          let e : x ≡ numberIn (drop (6 * i) s) = number-there s n i x h fits ex in
-          ap (λ d. cond (eqb d id) (Area (x / 2)) (lookup id (areasIn (n - (i + 1)) (drop (6 * (i + 1)) s)))) ed
-          ∙ ap₂ (λ x z. cond (eqb (sf031 (x / 2)) id) (Area (x / 2)) (lookup id (areasIn (n - (i + 1)) z))) e (sym (next-six s i))
-          ∙ ap (λ k. lookup id (areasIn k (drop (6 * i) s))) (sym (areas-left n i h))
-          ∙ p .same
-
-      pub look-found : d ≡ id → Area (x / 2) ≡ lookup id (areasIn n s)
-      look-found e = rw (eq-eqb _ _ e) at opened
-
-      pub look-turn : (d ≡ id → ⊥) → Looking (i + 1)
-      look-turn k = record { inside = omega arith; same = rw (ne-eqb _ _ k) at opened }
-
   -- the bytes are too few, or they are there
   pub look-few : length s / 6 < n → Nothing ≡ looked id n s
   look-few h = sym (looked-none id n s (omega arith))
@@ -135,6 +124,11 @@ module _ (f g : Found) (v : Found) (e : v ≡ f) where
   pub known-before : v ≡ Nothing → (r : Found) → r ≡ g → r ≡ orElse f g
   known-before q r er = er ∙ ap (λ f. orElse f g) (sym q ∙ e)
 
+-- an ID that is above those of the blocks before is new to them
+pub known-new : (f : Found) (l : List ℕ) (id least w : ℕ) (v : Found) → v ≡ f → v ≡ Nothing → Below least l → w ≡ id → least ≤ w → Nothing ≡ orElse f (lookup id l)
+known-new f l id least w v e q p ew h =
+    sym (ap₂ orElse (sym e ∙ q) (lookup-below id l (below-up least id l (omega arith) p)))
+
 -- ---- one block
 
 module _ (a n : ℕ) (f : Found) where
@@ -150,12 +144,9 @@ module _ (a n : ℕ) (f : Found) where
   pub found-full : f ≡ Nothing → mostAreas ≤ n → Refused (nowhere BookFull) ≡ judgeFound a f n
   found-full e h = rw (e, le-ltb n mostAreas h)
 
-module _ (p l m : List ℕ) (i n x : ℕ) (ex : x ≡ blockAt p i) (b : Bool) (eb : b ≡ areaOff x) where
-  pub block-off : b ≡ true → Refused (nowhere AreaOff) ≡ judgeBlock (blockAt p i) (orElse (lookup (sf031 (blockAt p i)) l) (lookup (sf031 (blockAt p i)) m)) n
-  block-off h = let z : areaOff (blockAt p i) ≡ true = ap areaOff (sym ex) ∙ sym eb ∙ h in rw z
+module _ (a n : ℕ) (f : Found) (b : Bool) (eb : b ≡ areaOff a) where
+  pub block-off : b ≡ true → Refused (nowhere AreaOff) ≡ judgeBlock a f n
+  block-off h = let z : areaOff a ≡ true = sym eb ∙ h in rw z
 
-  pub block-on : b ≡ false → (d : ℕ) (f : Found) (r : Judged) → d ≡ sf031 x → f ≡ orElse (lookup d l) (lookup d m) → r ≡ judgeFound x f n
-      → r ≡ judgeBlock (blockAt p i) (orElse (lookup (sf031 (blockAt p i)) l) (lookup (sf031 (blockAt p i)) m)) n
-  block-on h d f r ed ef er =
-      let z : areaOff (blockAt p i) ≡ false = ap areaOff (sym ex) ∙ sym eb ∙ h in
-      rw z (er ∙ ap₂ (λ x f. judgeFound x f n) ex (ef ∙ ap (λ d. orElse (lookup d l) (lookup d m)) (ed ∙ ap sf031 ex)))
+  pub block-on : b ≡ false → (r : Judged) → r ≡ judgeFound a f n → r ≡ judgeBlock a f n
+  block-on h r er = let z : areaOff a ≡ false = sym eb ∙ h in rw z er

@@ -1,4 +1,5 @@
 pub mod Reading
+pub mod Searching
 pub mod Blocks
 pub mod Payloads
 pub mod Taking

@@ -1,6 +1,6 @@
 -- One lemma for each turn and each answer of the functions that read a book, in plain variables, premises worded as the code makes them. Assumes nothing.
 use mathlib.Core.Path.{_≡_, refl, ap, ap₂, sym, _∙_, subst}
-use mathlib.Core.Bool.{Bool, true, false, cond, not, _&&_, Bool·beq}
+use mathlib.Core.Bool.{Bool, true, false, cond, not, _&&_, Bool·beq, false≢true}
 use mathlib.Core.List.{List, []}
 use Prim.Native.Nat.{ℕ, zero, suc, _+_, _-_, _*_, _/_, _%_, _^_, _≤_, _<_}
 use native.Mathlib.Omega.{arith}
@@ -9,12 +9,16 @@ use lib.ListN.{length, getD, take, drop}
 use lib.Seq.{drop-drop, getD-drop}
 use borrow.Author.Tests.{lt-ltb, le-ltb, le-leb, lt-leb, eq-eqb, ne-eqb, not-true, not-false}
 use Rattle.sizes.specs.Sizes.{mostAreas, bookBytes}
-use Rattle.area.specs.Area.{sf031, isArea, numberIn, numberAt}
+use mir.Syntax.{w8}
+use mir.Val.{Fits}
+use Rattle.area.specs.Area.{sf031, sf032, sf033, areaOff, isArea, numberIn, numberAt}
+use Rattle.area.specs.Laws.{not-off}
 use Rattle.area.specs.declared.AreaId.{AreaId}
 use Rattle.book.specs.Book.{areaIn, headSound, areasSound, sound, placeOf, isHeld, found, foundAt}
 use Rattle.book.specs.Laws.{Sound, head-parts, sound-head, sound-room, sound-lists}
-use Rattle.book.specs.Judge.{Image}
+use Rattle.book.specs.Judge.{soundArea, Image}
 use Rattle.bits.specs.Bits.{Bytes}
+use Rattle.bits.specs.Laws.{bytes-drop}
 use Rattle.book.specs.declared.Book.{Book}
 
 -- ---- the head
@@ -76,37 +80,128 @@ judging-end s n i least p h =
     let e : n - i ≡ 0 = omega arith in
     ap (λ k. areasSound k least (drop (6 * i) s)) (sym e) ∙ p .same
 
-module _ (s : List ℕ) (n i least x d w : ℕ) (p : Judging s n i least) (h : i < n) (fits : 6 * n ≤ length s) (ex : x ≡ numberAt s (6 * i)) (ed : d ≡ sf031 (x / 2)) (ew : w ≡ d) where
-  opened : areasSound n 0 s ≡ (eqb (x % 2) 0 && (leb least w && (isArea (x / 2) && areasSound (n - (i + 1)) (suc w) (drop (6 * (i + 1)) s))))
+-- an area's ID is its first byte
+pub first-byte : (s : List ℕ) → Bytes s → sf031 (areaIn s) ≡ getD s 0 0
+first-byte s b = omega (arith, b .byte 0, b .byte 1, b .byte 2, b .byte 3, b .byte 4, b .byte 5)
+
+both-fail : (a b c r : Bool) → (a && (b && c)) ≡ false → (a && (b && (c && r))) ≡ false
+both-fail false b c r e = refl
+both-fail true false c r e = refl
+both-fail true true false r e = refl
+both-fail true true true r e = absurd (false≢true (sym e))
+
+both-hold : (a b c r : Bool) → (a && (b && c)) ≡ true → (a && (b && (c && r))) ≡ r
+both-hold false b c r e = absurd (false≢true e)
+both-hold true false c r e = absurd (false≢true e)
+both-hold true true false r e = absurd (false≢true e)
+both-hold true true true r e = refl
+
+module _ (s : List ℕ) (n i least : ℕ) (p : Judging s n i least) (h : i < n) (b : Bool) (eb : b ≡ soundArea least (numberIn (drop (6 * i) s))) where
+  abbrev at : List ℕ
+  at = drop (6 * i) s
+
+  opened : areasSound n 0 s ≡ (eqb (numberIn at % 2) 0 && (leb least (sf031 (areaIn at)) && (isArea (areaIn at) && areasSound (n - (i + 1)) (suc (sf031 (areaIn at))) (drop 6 at))))
   unfolding areasSound
-  opened =
-      let e : numberIn (drop (6 * i) s) ≡ x = sym (number-there s n i x h fits ex) in
-      let f : sf031 (areaIn (drop (6 * i) s)) ≡ w = ap (λ x. sf031 (x / 2)) e ∙ sym (ew ∙ ed) in
-      sym (p .same)
-      ∙ ap (λ k. areasSound k least (drop (6 * i) s)) (areas-left n i h)
-      ∙ ap₂ (λ y z. eqb (y % 2) 0 && (leb least z && (isArea (y / 2) && areasSound (n - (i + 1)) (suc z) (drop 6 (drop (6 * i) s))))) e f
-      ∙ ap (λ z. eqb (x % 2) 0 && (leb least w && (isArea (x / 2) && areasSound (n - (i + 1)) (suc w) z))) (next-six s i)
+  opened = sym (p .same) ∙ ap (λ k. areasSound k least at) (areas-left n i h)
 
-  pub judged-odd : (x % 2 ≡ 0 → ⊥) → false ≡ areasSound n 0 s
-  judged-odd k = rw opened (rw (ne-eqb _ _ k))
+  pub judged-bad : not b ≡ true → false ≡ areasSound n 0 s
+  unfolding soundArea
+  judged-bad k = sym (opened ∙ both-fail (eqb (numberIn at % 2) 0) (leb least (sf031 (areaIn at))) (isArea (areaIn at)) (areasSound (n - (i + 1)) (suc (sf031 (areaIn at))) (drop 6 at)) (sym eb ∙ not-true b k))
 
-  module _ (even : x % 2 ≡ 0) where
-    pub judged-low : w < least → false ≡ areasSound n 0 s
-    judged-low k = rw opened (rw (eq-eqb _ _ even, lt-leb _ _ k))
+  pub judged-good : not b ≡ false → (w : ℕ) → w ≡ getD s (6 * i) 0 → w < 256 → ((j : ℕ) → Fits w8 (getD s j 0)) → Judging s n (i + 1) (w + 1)
+  unfolding soundArea
+  judged-good k w ew l known =
+      let id : sf031 (areaIn at) ≡ w
+      = first-byte at (bytes-drop (6 * i) (record { byte = λ j. known j .fits })) ∙ getD-drop (6 * i) s 0 0
+      ∙ ap (λ k. getD s k 0) {x = 6 * i + 0} {y = 6 * i} (omega arith) ∙ sym ew in
+      let up : suc (sf031 (areaIn at)) ≡ w + 1 = omega arith in
+      record {
+        inside = omega arith;
+        small = omega arith;
+        same = ap₂ (λ k z. areasSound (n - (i + 1)) k z) (sym up) (sym (next-six s i))
+            ∙ sym (opened ∙ both-hold (eqb (numberIn at % 2) 0) (leb least (sf031 (areaIn at))) (isArea (areaIn at)) (areasSound (n - (i + 1)) (suc (sf031 (areaIn at))) (drop 6 at)) (sym eb ∙ not-false b k));
+      }
 
-    module _ (up : least ≤ w) (b : Bool) (eb : b ≡ isArea (x / 2)) where
-      pub judged-bad : not b ≡ true → false ≡ areasSound n 0 s
-      judged-bad k = let z : isArea (x / 2) ≡ false = sym eb ∙ not-true b k in rw opened (rw (eq-eqb _ _ even, le-leb _ _ up, z))
+-- ---- one area by its bytes
 
-      pub judged-good : not b ≡ false → w < 256 → Judging s n (i + 1) (w + 1)
-      judged-good k l =
-          let z : isArea (x / 2) ≡ true = sym eb ∙ not-false b k in
-          let g : w + 1 ≡ suc w = omega arith in
-          record {
-            inside = omega arith;
-            small = omega arith;
-            same = sym (rw (eq-eqb _ _ even, le-leb _ _ up, z, sym g) at opened);
-          }
+-- what the first four of six bytes say of the area
+record Start (x start last : ℕ) : Type 0 where
+  odd : x % 2 ≡ last % 2
+  id : sf031 (x / 2) ≡ start / 16777216
+  latitude : sf032 (x / 2) ≡ start / 8192 % 2048
+  longitude : sf033 (x / 2) ≡ start / 2 % 0x1000
+  small : x / 2 < 2 ^ 47
+
+starts : (start e f : ℕ) → start < 2 ^ 32 → e < 256 → f < 256 → Start ((start * 256 + e) * 256 + f) start f
+starts start e f h k l = record { odd = omega arith; id = omega arith; latitude = omega arith; longitude = omega arith; small = omega arith }
+
+module _ (s : List ℕ) (at least start : ℕ) (known : (j : ℕ) → Fits w8 (getD s j 0))
+    (es : start ≡ ((getD s at 0 * 256 + getD s (at + 1) 0) * 256 + getD s (at + 2) 0) * 256 + getD s (at + 3) 0) where
+  abbrev x : ℕ
+  x = numberIn (drop at s)
+
+  byte : (j : ℕ) → getD s j 0 < 256
+  byte j = known j .fits
+
+  is-start : Start x start (getD s (at + 5) 0)
+  is-start =
+      let g : (j : ℕ) → getD s (at + j) 0 ≡ getD (drop at s) j 0 = λ j. sym (getD-drop at s j 0) in
+      let g₀ : getD s at 0 ≡ getD (drop at s) 0 0 = ap (λ j. getD s j 0) {x = at} {y = at + 0} (omega arith) ∙ g 0 in
+      let e : start ≡ ((getD (drop at s) 0 0 * 256 + getD (drop at s) 1 0) * 256 + getD (drop at s) 2 0) * 256 + getD (drop at s) 3 0
+      = es ∙ ap₂ (λ a b. ((a * 256 + b) * 256 + getD s (at + 2) 0) * 256 + getD s (at + 3) 0) g₀ (g 1)
+      ∙ ap₂ (λ a b. ((getD (drop at s) 0 0 * 256 + getD (drop at s) 1 0) * 256 + a) * 256 + b) (g 2) (g 3) in
+      let y : Start ((start * 256 + getD s (at + 4) 0) * 256 + getD s (at + 5) 0) start (getD s (at + 5) 0)
+      = starts start (getD s (at + 4) 0) (getD s (at + 5) 0) (omega (arith, es, byte at, byte (at + 1), byte (at + 2), byte (at + 3))) (byte (at + 4)) (byte (at + 5)) in
+      let five : ℕ = (((getD (drop at s) 0 0 * 256 + getD (drop at s) 1 0) * 256 + getD (drop at s) 2 0) * 256 + getD (drop at s) 3 0) * 256 + getD (drop at s) 4 0 in
+      subst (λ x. Start x start (getD s (at + 5) 0)) (ap₂ (λ a b. (a * 256 + b) * 256 + getD s (at + 5) 0) e (g 4) ∙ ap (λ b. five * 256 + b) (g 5)) y
+
+  pub bytes-odd : (getD s (at + 5) 0 % 2 ≡ 0 → ⊥) → false ≡ soundArea least x
+  unfolding soundArea
+  bytes-odd k = let z : eqb (x % 2) 0 ≡ false = ne-eqb _ _ (λ q. k (sym (is-start .odd) ∙ q)) in rw z
+
+  module _ (even : getD s (at + 5) 0 % 2 ≡ 0) where
+    is-even : eqb (x % 2) 0 ≡ true
+    is-even = eq-eqb _ _ (is-start .odd ∙ even)
+
+    pub bytes-low : start / 16777216 < least → false ≡ soundArea least x
+    unfolding soundArea
+    bytes-low k = let z : leb least (sf031 (x / 2)) ≡ false = lt-leb _ _ (subst (λ d. d < least) (sym (is-start .id)) k) in rw (is-even, z)
+
+    module _ (up : least ≤ start / 16777216) where
+      in-order : leb least (sf031 (x / 2)) ≡ true
+      in-order = le-leb _ _ (subst (λ d. least ≤ d) (sym (is-start .id)) up)
+
+      fits : ltb (x / 2) (2 ^ 47) ≡ true
+      fits = lt-ltb _ _ (is-start .small)
+
+      pub bytes-latitude : 1800 < start / 8192 % 2048 → false ≡ soundArea least x
+      unfolding soundArea isArea
+      bytes-latitude k = let z : leb (sf032 (x / 2)) 1800 ≡ false = lt-leb _ _ (subst (λ d. 1800 < d) (sym (is-start .latitude)) k) in rw (is-even, in-order, fits, z)
+
+      module _ (south : start / 8192 % 2048 ≤ 1800) where
+        latitude-in : leb (sf032 (x / 2)) 1800 ≡ true
+        latitude-in = le-leb _ _ (subst (λ d. d ≤ 1800) (sym (is-start .latitude)) south)
+
+        pub bytes-longitude : 3600 < start / 2 % 0x1000 → false ≡ soundArea least x
+        unfolding soundArea isArea
+        bytes-longitude k = let z : leb (sf033 (x / 2)) 3600 ≡ false = lt-leb _ _ (subst (λ d. 3600 < d) (sym (is-start .longitude)) k) in rw (is-even, in-order, fits, latitude-in, z)
+
+        module _ (west : start / 2 % 0x1000 ≤ 3600) where
+          longitude-in : leb (sf033 (x / 2)) 3600 ≡ true
+          longitude-in = le-leb _ _ (subst (λ d. d ≤ 3600) (sym (is-start .longitude)) west)
+
+          pub bytes-north : 224 ≤ start / 8192 % 2048 → true ≡ soundArea least x
+          unfolding soundArea isArea
+          bytes-north k =
+              let z : areaOff (x / 2) ≡ false = not-off (x / 2) (subst (λ d. 224 ≤ d) (sym (is-start .latitude)) k) in
+              rw (is-even, in-order, fits, latitude-in, longitude-in, z)
+
+          pub bytes-rest : at + 6 ≤ length s → (m : ℕ) → m ≡ numberAt s at → (b : Bool) → b ≡ areaOff (m / 2) → not b ≡ soundArea least x
+          unfolding soundArea isArea
+          bytes-rest h m em b eb =
+              let e : m ≡ x = em ∙ ap (λ b. cond b x 0) (le-leb (at + 6) (length s) h) in
+              let z : areaOff (x / 2) ≡ b = sym (eb ∙ ap (λ m. areaOff (m / 2)) e) in
+              rw (is-even, in-order, fits, latitude-in, longitude-in, z)
 
 -- ---- the whole book
 

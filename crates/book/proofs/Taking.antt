@@ -7,7 +7,7 @@ use native.Mathlib.Omega.{arith}
 use native.Mathlib.Numerals.{add-one}
 use lib.Dec.{leb, ltb, eqb}
 use lib.ListN.{length, getD, take, drop, length-append, length-drop, take-append-drop, drop-of-length-le}
-use lib.Seq.{drop-cons, drop-drop, drop-at, take-at}
+use lib.Seq.{drop-cons, drop-drop, drop-at, take-at, length-take-le}
 use borrow.Author.Tests.{lt-ltb, le-ltb, le-leb, eq-eqb, ne-eqb}
 use Rattle.answer.specs.declared.Fault as answer
 use mir.Syntax.{w8}
@@ -19,8 +19,9 @@ use Rattle.book.specs.Book.{bookOf, areasIn, bytesOfAll, sound}
 use Rattle.book.specs.Laws.{Ascending, length-areas, length-bytes, bytes-join, areas-bytes, small-at}
 use Rattle.book.specs.Payload.{aiouOf, blockCount, blockAt, blocksFrom, blocksOf, takeBits}
 use Rattle.book.specs.Take.{lookup, insert, Outcome, taken, refused, andThen, takeBlock, takeAll, before, answerOf, leftBy}
-use Rattle.book.specs.TakeLaws.{orElse, or-assoc, or-nothing, lookup-append, Took, took, lookup-block, length-insert, ascending-insert}
-use Rattle.book.specs.Judge.{judgedBy, isTaken, judgeBlock, judge-is, Image}
+use Rattle.book.specs.TakeLaws.{orElse, or-assoc, or-nothing, lookup-append, Took, took, took-all, all-same, lookup-block, ascending-block, length-block, block-grows, length-insert}
+use Rattle.book.specs.Search.{Below, below-up, below-snoc, take-insert, Passed, Reached}
+use Rattle.book.specs.Judge.{judgedBy, isTaken, judgeBlock, judge-is, grownBy, grown, took-grown, Image}
 use Rattle.book.specs.declared.Book.{Book}
 use Rattle.book.specs.declared.Found.{Found}
 use Rattle.book.specs.declared.Found.the-variants.{Area, Nothing}
@@ -45,6 +46,16 @@ unfolding blocksFrom
 blocks-snoc zero j p = ap (λ k. blockAt p k ∷ []) {x = j} {y = j + 0} (omega arith)
 blocks-snoc (suc i) j p =
     ap (λ l. blockAt p j ∷ l) (blocks-snoc i (suc j) p ∙ ap (λ k. blocksFrom i (suc j) p ++ (blockAt p k ∷ [])) {x = suc j + i} {y = j + suc i} (omega arith))
+
+-- one block more has an ID below the next least one
+pub blocks-below : (p : List ℕ) (i x d least up : ℕ) → Below least (blocksFrom i 0 p) → x ≡ blockAt p i → d ≡ sf031 x → least ≤ up → d < up → Below up (blocksFrom (i + 1) 0 p)
+blocks-below p i x d least up q ex ed h k =
+    subst (λ l. Below up l) (ap (λ j. blocksFrom i 0 p ++ (blockAt p j ∷ [])) {x = i} {y = 0 + i} (omega arith) ∙ sym (blocks-snoc i 0 p) ∙ ap (λ j. blocksFrom j 0 p) (sym (add-one i)))
+    (below-snoc up (blockAt p i) (blocksFrom i 0 p) (below-up least up (blocksFrom i 0 p) h q) (subst (λ y. y < up) (ed ∙ ap sf031 ex) k))
+
+pub no-blocks : (p : List ℕ) (least : ℕ) → Below least (blocksFrom 0 0 p)
+unfolding blocksFrom
+no-blocks p least = Below.none
 
 -- ---- judging
 
@@ -86,11 +97,12 @@ unfolding takeAll
 judge-end s p count n i held q h =
     ap Held (sym (q .many)) ∙ ap judgedBy (ap (λ l. takeAll l (q .areas)) (sym (blocks-end n i p h)) ∙ q .ends)
 
-module _ (s p : List ℕ) (count n i held : ℕ) (q : JudgingBlocks s p count n i held) (h : i < n) (v : Judged)
-    (e : v ≡ judgeBlock (blockAt p i) (orElse (lookup (sf031 (blockAt p i)) (areasIn count s)) (lookup (sf031 (blockAt p i)) (blocksFrom i 0 p))) held) where
+module _ (s p : List ℕ) (count n i held : ℕ) (q : JudgingBlocks s p count n i held) (h : i < n) (x : ℕ) (ex : x ≡ blockAt p i) (d : ℕ) (ed : d ≡ sf031 x)
+    (f : Found) (ef : f ≡ orElse (lookup d (areasIn count s)) (lookup d (blocksFrom i 0 p))) (v : Judged) (e : v ≡ judgeBlock x f held) where
   judged : v ≡ judgedBy (takeBlock (blockAt p i) (q .areas))
   judged =
-      e ∙ ap₂ (λ f n. judgeBlock (blockAt p i) f n) (sym (q .looks (sf031 (blockAt p i)))) (sym (q .many))
+      e ∙ ap₂ (λ x f. judgeBlock x f held) ex (ef ∙ sym (q .looks d) ∙ ap (λ d. lookup d (q .areas)) (ed ∙ ap sf031 ex))
+      ∙ ap (λ n. judgeBlock (blockAt p i) (lookup (sf031 (blockAt p i)) (q .areas)) n) (sym (q .many))
       ∙ sym (judge-is (blockAt p i) (q .areas))
 
   opened : andThen (takeBlock (blockAt p i) (q .areas)) (λ l. takeAll (blocksFrom (n - (i + 1)) (i + 1) p) l) ≡ takeAll (blocksOf p) (areasIn count s)
@@ -175,15 +187,23 @@ pub record Inserting (s : List ℕ) (n a i c : ℕ) (b : List ℕ) : Type 0 wher
   pub rest : down ++ carry c (drop i (areasIn n s)) ≡ carry a (areasIn n s)
   pub small : c < 2 ^ 47
 
-pub insert-start : (s : List ℕ) (n a : ℕ) → Image n s → a < 2 ^ 47 → Inserting s n a 0 a s
-unfolding bytesOfAll
-insert-start s n a p h =
+-- areas with a smaller ID are passed
+carry-passed : (a at : ℕ) (l : List ℕ) → Below (sf031 a) (take at l) → at ≤ length l → take at l ++ carry a (drop at l) ≡ carry a l
+unfolding carry
+carry-passed a zero l p h = refl
+carry-passed a (suc at) [] p h = absurd (omega arith)
+carry-passed a (suc at) (b ∷ l) (Below.more k p) h = rw (le-ltb (sf031 a) (sf031 b) (omega arith)) (ap (λ l. b ∷ l) (carry-passed a at l p (omega arith)))
+
+pub insert-start : (s : List ℕ) (n a at : ℕ) → Image n s → a < 2 ^ 47 → Passed (sf031 a) n s at → Inserting s n a at a s
+insert-start s n a at p h q =
+    let l : List ℕ = areasIn n s in
     record {
-      down = [];
-      inside = omega arith;
-      many = refl;
-      bytes = sym (take-append-drop (6 * n) s) ∙ ap (λ l. l ++ drop (6 * n) s) (p .image);
-      rest = refl;
+      down = take at l;
+      inside = q .inside;
+      many = length-take-le at l (omega (arith, length-areas n s, q .inside));
+      bytes = sym (take-append-drop (6 * n) s) ∙ ap (λ b. b ++ drop (6 * n) s) (p .image ∙ ap bytesOfAll (sym (take-append-drop at l)) ∙ bytes-join (take at l) (drop at l))
+          ∙ append-assoc (bytesOfAll (take at l)) (bytesOfAll (drop at l)) (drop (6 * n) s);
+      rest = carry-passed a at l (q .below) (omega (arith, length-areas n s, q .inside));
       small = h;
     }
 
@@ -265,6 +285,53 @@ module _ (s : List ℕ) (n a i c : ℕ) (b : List ℕ) (p : Image n s) (fits : 6
           small = q .small;
         }
 
+-- ---- a block that may be held already
+
+take-grown : (a r : ℕ) (l : List ℕ) → Below (sf031 a) (take r l) → r ≤ length l → take r (grown a l) ≡ take r l
+unfolding grown
+take-grown a r l p h = go (lookup (sf031 a) l)
+  where
+    go : (f : Found) → take r (grownBy a l f) ≡ take r l
+    go (Area b) = refl
+    go Nothing = take-insert a r l p h
+
+module _ (b : List ℕ) (n x d : ℕ) (v : Found) (ed : d ≡ sf031 x) (ev : v ≡ lookup d (areasIn n b)) where
+  asked : v ≡ lookup (sf031 x) (areasIn n b)
+  asked = ev ∙ ap (λ d. lookup d (areasIn n b)) ed
+
+  module _ (y : ℕ) (q : v ≡ Area y) where
+    held-stays : areasIn n b ≡ grown x (areasIn n b)
+    unfolding grown
+    held-stays = ap (grownBy x (areasIn n b)) (sym q ∙ asked)
+
+    pub add-same : n ≡ length (grown x (areasIn n b))
+    add-same = sym (length-areas n b) ∙ ap length held-stays
+
+    pub add-kept : Image n b → b ≡ leftBy (taken (grown x (areasIn n b))) b
+    add-kept p =
+        sym (take-append-drop (6 * n) b)
+        ∙ ap₂ (λ l k. l ++ drop (6 * k) b) (p .image) (sym (length-areas n b))
+        ∙ ap (λ l. bytesOfAll l ++ drop (6 * length l) b) held-stays
+
+  module _ (q : v ≡ Nothing) where
+    new-put : insert x (areasIn n b) ≡ grown x (areasIn n b)
+    unfolding grown
+    new-put = ap (grownBy x (areasIn n b)) (sym q ∙ asked)
+
+    pub add-more : n + 1 ≡ length (grown x (areasIn n b))
+    add-more = omega (arith, length-areas n b, length-insert x (areasIn n b)) ∙ ap length new-put
+
+    pub add-room : length (grown x (areasIn n b)) ≤ mostAreas → n < mostAreas
+    add-room h = omega (arith, add-more)
+
+    pub add-fits : length (grown x (areasIn n b)) ≤ mostAreas → bookBytes ≤ length b → 6 * n + 6 ≤ length b
+    add-fits h k = omega (arith, add-more)
+
+    pub add-put : (z : List ℕ) → z ≡ bytesOfAll (insert x (areasIn n b)) ++ drop (6 * n + 6) b → z ≡ leftBy (taken (grown x (areasIn n b))) b
+    add-put z ez =
+        let e : 6 * n + 6 ≡ 6 * length (grown x (areasIn n b)) = omega (arith, add-more) in
+        ez ∙ ap₂ (λ l k. bytesOfAll l ++ drop k b) new-put e
+
 -- ---- all new areas
 
 -- the first of the blocks was taken, and then the rest
@@ -326,6 +393,9 @@ module _ (s p : List ℕ) (count n i held : ℕ) (b : List ℕ) (q : Filling s p
       ap length (q .bytes) ∙ length-append (bytesOfAll (q .areas)) (drop (6 * held) s)
       ∙ omega (arith, length-bytes (q .areas), length-drop (6 * held) s, q .many, q .few, q .long)
 
+  pub fill-long : bookBytes ≤ length b
+  fill-long = omega (arith, fill-length, q .long)
+
   pub fill-fits : 6 * held ≤ length b
   fill-fits = omega (arith, fill-length, q .few, q .long)
 
@@ -347,54 +417,62 @@ module _ (s p : List ℕ) (count n i held : ℕ) (b : List ℕ) (q : Filling s p
       let e : taken (q .areas) ≡ taken (q .final) = ap (λ l. takeAll l (q .areas)) (sym (blocks-end n i p h)) ∙ q .ends in
       q .bytes ∙ ap (λ k. bytesOfAll (q .areas) ++ drop (6 * k) s) (sym (q .many)) ∙ ap (λ o. leftBy o s) (e ∙ sym (q .all))
 
-  module _ (h : i < n) (x : ℕ) (ex : x ≡ blockAt p i) (d : ℕ) (ed : d ≡ sf031 x) (v : Found) (ev : v ≡ lookup d (areasIn held b)) where
+  module _ (h : i < n) (x : ℕ) (ex : x ≡ blockAt p i) where
     opened-fill : First (blockAt p i) (blocksFrom (n - (i + 1)) (i + 1) p) (q .areas) (q .final)
     opened-fill = first-of _ _ _ _ (ap (λ l. takeAll l (q .areas)) (sym (blocks-next n i p h)) ∙ q .ends)
 
-    asked : v ≡ lookup (sf031 (blockAt p i)) (q .areas)
-    asked = ev ∙ ap₂ lookup (ed ∙ ap sf031 ex) areas-are
+    grown-is : grown x (areasIn held b) ≡ opened-fill .next
+    grown-is = ap₂ grown ex areas-are ∙ sym (took-grown (blockAt p i) (q .areas) (opened-fill .next) (opened-fill .first))
 
-    pub fill-held : (y : ℕ) → v ≡ Area y → Filling s p count n (i + 1) held b
-    fill-held y z = go (opened-fill .next) (opened-fill .first) (opened-fill .rest)
-      where
-        go : (m : List ℕ) → Took (blockAt p i) (q .areas) m → takeAll (blocksFrom (n - (i + 1)) (i + 1) p) m ≡ taken (q .final) → Filling s p count n (i + 1) held b
-        go m (Took.held o e) r =
-            record { areas = q .areas; final = q .final; inside = omega arith; ends = r; all = q .all; many = q .many; few = q .few; long = q .long; ascending = q .ascending; bytes = q .bytes }
-        go m (Took.new o e k) r = let w : Area y ≡ Nothing = sym z ∙ asked ∙ e in let w′ : _≡_ {A = ℕ} 0 1 = cc in absurd (omega arith)
+    next-few : length (opened-fill .next) ≤ mostAreas
+    next-few = length-block (blockAt p i) (q .areas) (opened-fill .next) (opened-fill .first) (subst (λ k. k ≤ mostAreas) (sym (q .many)) (q .few))
 
-    -- there is a place for a new one
-    pub fill-room : v ≡ Nothing → held < mostAreas
-    fill-room z = go (opened-fill .next) (opened-fill .first)
-      where
-        go : (m : List ℕ) → Took (blockAt p i) (q .areas) m → held < mostAreas
-        go m (Took.held o e) = let w : Nothing ≡ Area (blockAt p i) = sym z ∙ asked ∙ e in let w′ : _≡_ {A = ℕ} 0 1 = cc in absurd (omega arith)
-        go m (Took.new o e k) = subst (λ k. k < mostAreas) (q .many) k
+    next-ascending : x < 2 ^ 47 → Ascending 0 (opened-fill .next)
+    next-ascending small = ascending-block (blockAt p i) (q .areas) (opened-fill .next) (subst (λ x. x < 2 ^ 47) ex small) (opened-fill .first) (q .ascending)
 
-    pub fill-more : v ≡ Nothing → 6 * held + 6 ≤ length b
-    fill-more z = omega (arith, fill-room z, fill-length, q .long)
+    -- there is a place for it
+    pub fill-room : length (grown x (areasIn held b)) ≤ mostAreas
+    fill-room = subst (λ l. length l ≤ mostAreas) (sym grown-is) next-few
 
-    pub fill-new : v ≡ Nothing → x < 2 ^ 47 → (z : List ℕ) → z ≡ bytesOfAll (insert x (areasIn held b)) ++ drop (6 * held + 6) b → Filling s p count n (i + 1) (held + 1) z
-    fill-new z small b′ eb = go (opened-fill .next) (opened-fill .first) (opened-fill .rest)
-      where
-        go : (m : List ℕ) → Took (blockAt p i) (q .areas) m → takeAll (blocksFrom (n - (i + 1)) (i + 1) p) m ≡ taken (q .final) → Filling s p count n (i + 1) (held + 1) b′
-        go m (Took.held o e) r = let w : Nothing ≡ Area (blockAt p i) = sym z ∙ asked ∙ e in let w′ : _≡_ {A = ℕ} 0 1 = cc in absurd (omega arith)
-        go m (Took.new o e k) r =
-            let len : length (bytesOfAll (q .areas)) ≡ 6 * held = length-bytes (q .areas) ∙ ap (λ k. 6 * k) (q .many) in
-            let back : drop (6 * held + 6) b ≡ drop (6 * (held + 1)) s
-            = sym (drop-drop 6 (6 * held) b) ∙ ap (λ l. drop 6 (drop (6 * held) l)) (q .bytes) ∙ ap (drop 6) (drop-at (bytesOfAll (q .areas)) (drop (6 * held) s) (6 * held) len)
-            ∙ drop-drop 6 (6 * held) s ∙ ap (λ k. drop k s) {x = 6 * held + 6} {y = 6 * (held + 1)} (omega arith) in
-            record {
-              areas = insert (blockAt p i) (q .areas);
-              final = q .final;
-              inside = omega arith;
-              ends = r;
-              all = q .all;
-              many = length-insert (blockAt p i) (q .areas) ∙ omega (arith, q .many);
-              few = omega (arith, subst (λ k. k < mostAreas) (q .many) k);
-              long = q .long;
-              ascending = ascending-insert (blockAt p i) (q .areas) 0 (subst (λ x. x < 2 ^ 47) ex small) (omega arith) e (q .ascending);
-              bytes = eb ∙ ap₂ (λ l t. bytesOfAll l ++ t) (ap₂ insert ex areas-are) back;
-            }
+    module _ (small : x < 2 ^ 47) (m : ℕ) (em : m ≡ length (grown x (areasIn held b))) (z : List ℕ) (ez : z ≡ leftBy (taken (grown x (areasIn held b))) b) where
+      pub fill-turn : Filling s p count n (i + 1) m z
+      fill-turn =
+          let next : List ℕ = opened-fill .next in
+          let many : length next ≡ m = sym (em ∙ ap length grown-is) in
+          let more : held ≤ m = subst (λ k. k ≤ m) (q .many) (subst (λ k. length (q .areas) ≤ k) many (block-grows (blockAt p i) (q .areas) next (opened-fill .first))) in
+          let len : length (bytesOfAll (q .areas)) ≡ 6 * held = length-bytes (q .areas) ∙ ap (λ k. 6 * k) (q .many) in
+          let back : drop (6 * m) b ≡ drop (6 * m) s
+          = ap (λ k. drop k b) {x = 6 * m} {y = 6 * held + 6 * (m - held)} (omega arith) ∙ sym (drop-drop (6 * (m - held)) (6 * held) b)
+          ∙ ap (λ l. drop (6 * (m - held)) (drop (6 * held) l)) (q .bytes)
+          ∙ ap (drop (6 * (m - held))) (drop-at (bytesOfAll (q .areas)) (drop (6 * held) s) (6 * held) len)
+          ∙ drop-drop (6 * (m - held)) (6 * held) s ∙ ap (λ k. drop k s) {x = 6 * held + 6 * (m - held)} {y = 6 * m} (omega arith) in
+          record {
+            areas = next;
+            final = q .final;
+            inside = omega arith;
+            ends = opened-fill .rest;
+            all = q .all;
+            many = many;
+            few = subst (λ k. k ≤ mostAreas) many next-few;
+            long = q .long;
+            ascending = next-ascending small;
+            bytes = ez ∙ ap (λ l. bytesOfAll l ++ drop (6 * length l) b) grown-is ∙ ap (λ k. bytesOfAll next ++ drop (6 * k) b) many ∙ ap (λ t. bytesOfAll next ++ t) back;
+          }
+
+      -- the areas before the place that was reached are those that were there
+      pub fill-place : (d : ℕ) → d ≡ sf031 x → (r up : ℕ) → Reached d held b r → d < up → Passed up m z r
+      fill-place d ed r up q′ k =
+          let l : List ℕ = areasIn held b in
+          let e : areasIn m z ≡ grown x l
+          = ap₂ areasIn em ez ∙ areas-bytes (grown x l) (drop (6 * length (grown x l)) b) 0 (subst (λ l. Ascending 0 l) (sym grown-is) (next-ascending small)) in
+          let same : take r (grown x l) ≡ take r l
+          = take-grown x r l (subst (λ d. Below d (take r l)) ed (q′ .below)) (omega (arith, length-areas held b, q′ .inside)) in
+          let more : held ≤ m
+          = subst (λ k. k ≤ m) (q .many) (subst (λ k. length (q .areas) ≤ k) (sym (em ∙ ap length grown-is)) (block-grows (blockAt p i) (q .areas) (opened-fill .next) (opened-fill .first))) in
+          record {
+            inside = omega (arith, q′ .inside);
+            below = subst (λ m. Below up m) (sym (ap (take r) e ∙ same)) (below-up d up (take r l) (omega arith) (q′ .below));
+          }
 
 -- ---- a GAD
 
@@ -435,6 +513,9 @@ module _ (book : Book) (s p : List ℕ) (w : sound book s ≡ true) (aiou n : �
       go true = sound-image book s w (record { byte = λ i. known i .fits })
       go false = record { ascending = Ascending.none; image = refl }
 
+  pub count-ascending : ((i : ℕ) → Fits w8 (getD s i 0)) → Ascending 0 (areasIn n s)
+  count-ascending known = count-image known .ascending
+
   module _ (v : Judged) (ev : v ≡ judgedBy (takeAll (blocksOf p) (areasIn n s))) where
     refusal-is : (r : answer.Fault) → v ≡ Refused r → refused r ≡ takeBits book s p
     refusal-is r q = sym (is-refused _ r (sym q ∙ ev)) ∙ sym outcome-is
@@ -453,6 +534,16 @@ module _ (book : Book) (s p : List ℕ) (w : sound book s ≡ true) (aiou n : �
     take-held m q r er =
         let w : IsHeld (takeAll (blocksOf p) (areasIn n s)) m = is-held _ m (sym q ∙ ev) in
         ap Taken.Holds er ∙ ap₂ (λ a m. Taken.Holds (bookOf a m)) ea (sym (w .many)) ∙ ap (λ o. answerOf o (aiouOf p)) (sym (w .is) ∙ sym outcome-is)
+
+    -- as many areas as before are the same ones
+    pub left-same : (m : ℕ) → v ≡ Held m → m ≡ n → ((i : ℕ) → Fits w8 (getD s i 0)) → s ≡ leftBy (takeBits book s p) s
+    left-same m q e known =
+        let w : IsHeld (takeAll (blocksOf p) (areasIn n s)) m = is-held _ m (sym q ∙ ev) in
+        let same : w .list ≡ areasIn n s
+        = all-same (blocksOf p) (areasIn n s) (w .list) (took-all (blocksOf p) (areasIn n s) (w .list) (w .is)) (w .many ∙ e ∙ sym (length-areas n s)) in
+        sym (take-append-drop (6 * n) s)
+        ∙ ap₂ (λ x k. x ++ drop (6 * k) s) (count-image known .image ∙ ap bytesOfAll (sym same)) (sym (w .many ∙ e))
+        ∙ ap (λ o. leftBy o s) (sym (w .is) ∙ sym outcome-is)
 
   pub left-held : (z : List ℕ) → z ≡ leftBy (takeAll (blocksOf p) (areasIn n s)) s → z ≡ leftBy (takeBits book s p) s
   left-held z ez = ez ∙ ap (λ o. leftBy o s) (sym outcome-is)

@@ -3,6 +3,7 @@ pub mod Take
 pub mod Laws
 pub mod FindLaws
 pub mod TakeLaws
+pub mod Search
 pub mod Payload
 pub mod TakenLaws
 pub mod Judge

@@ -153,9 +153,9 @@ pub length-block : (a : ℕ) (l m : List ℕ) → Took a l m → length l ≤ mo
 length-block a l m (Took.held q e) p = p
 length-block a l m (Took.new q e k) p = omega (arith, length-insert a l)
 
-grows : (a : ℕ) (l m : List ℕ) → Took a l m → length l ≤ length m
-grows a l m (Took.held q e) = omega arith
-grows a l m (Took.new q e k) = omega (arith, length-insert a l)
+pub block-grows : (a : ℕ) (l m : List ℕ) → Took a l m → length l ≤ length m
+block-grows a l m (Took.held q e) = omega arith
+block-grows a l m (Took.new q e k) = omega (arith, length-insert a l)
 
 -- ---- all blocks
 
@@ -230,10 +230,19 @@ first-area a l m (Took.new q e k) = omega (arith, length-insert a l)
 
 all-grow : (blocks l n : List ℕ) → TookAll blocks l n → length l ≤ length n
 all-grow [] l n TookAll.none = omega arith
-all-grow (a ∷ rest) l n (TookAll.more {m = m} t ts) = omega (arith, grows a l m t, all-grow rest m n ts)
+all-grow (a ∷ rest) l n (TookAll.more {m = m} t ts) = omega (arith, block-grows a l m t, all-grow rest m n ts)
 
 pub some-area : (a : ℕ) (blocks l n : List ℕ) → TookAll (a ∷ blocks) l n → 1 ≤ length n
 some-area a blocks l n (TookAll.more {m = m} t ts) = omega (arith, first-area a l m t, all-grow blocks m n ts)
+
+-- blocks that leave as many areas as there were have changed nothing
+pub all-same : (blocks l n : List ℕ) → TookAll blocks l n → length n ≡ length l → n ≡ l
+all-same [] l n TookAll.none e = refl
+all-same (a ∷ rest) l n (TookAll.more {m = m} t ts) e = go m t ts (λ q. all-same rest m n ts q)
+  where
+    go : (m : List ℕ) → Took a l m → TookAll rest m n → (length n ≡ length m → n ≡ m) → n ≡ l
+    go m (Took.held q f) ts ih = ih e
+    go m (Took.new q f k) ts ih = absurd (omega (arith, length-insert a l, all-grow rest (insert a l) n ts))
 
 -- blocks that are held already change nothing
 pub retake : (blocks l n : List ℕ) → TookAll blocks l n → (x : List ℕ) → ((i : ℕ) → i < length blocks → lookup (sf031 (getD blocks i 0)) x ≡ Area (getD blocks i 0))

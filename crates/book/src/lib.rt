@@ -4,15 +4,17 @@ ghost use mathlib.Core.Bool.{true, cond};
 ghost use mathlib.Core.List.{_++_};
 ghost use Prim.Native.Nat.{_+_, _*_, _^_, _<_, _≤_};
 ghost use lib.Dec.{eqb};
-ghost use lib.ListN.{length, drop};
+ghost use lib.ListN.{length, getD, drop};
 ghost use Rattle.sizes.specs.Sizes.{mostAreas, bookBytes};
 ghost use Rattle.bits.specs.Part.{PartOf};
-ghost use Rattle.area.specs.Area.{sf031};
+ghost use Rattle.area.specs.Area.{sf031, numberIn};
 ghost use Rattle.book.specs.Book.{bookOf, noBook, areasIn, bytesOfAll, headSound, areasSound, sound, placeOf, found, foundAt};
-ghost use Rattle.book.specs.Take.{lookup, looked, insert, takeAll, answerOf, leftBy, takenOf, bytesAfter, numberOfTaken};
+ghost use Rattle.book.specs.Take.{lookup, looked, insert, taken, takeAll, answerOf, leftBy, takenOf, bytesAfter, numberOfTaken};
 ghost use Rattle.book.specs.Payload.{mostBlocks, aiouOf, blockCount, blockStart, blockAt, blocksFrom, blocksOf, takeBits};
+ghost use Rattle.book.specs.Laws.{Ascending};
 ghost use Rattle.book.specs.TakeLaws.{orElse};
-ghost use Rattle.book.specs.Judge.{judgedBy, isTaken, judgeFound, judgeBlock, Image};
+ghost use Rattle.book.specs.Search.{Below, Passed, Reached};
+ghost use Rattle.book.specs.Judge.{soundArea, judgedBy, isTaken, judgeFound, judgeBlock, grown, Image};
 use answer::Fault;
 use answer::Place;
 use answer::Refusal;
@@ -83,6 +85,39 @@ pub fn head_is_sound(book: Book) -> bool
     count <= sizes::MOST_AREAS
 }
 
+// The number that four bytes say: of an area its ID, its latitude, its longitude and a bit more. A compiler makes one load of it.
+fn four(bytes: &[u8], at: usize) -> usize
+    requires { ⌜ at + 4 ≤ length (now bytes) ⌝ }
+    ensures { λ r. ⌜ r ≡ ((getD (now (bytes .entry)) at 0 * 256 + getD (now (bytes .entry)) (at + 1) 0) * 256 + getD (now (bytes .entry)) (at + 2) 0) * 256 + getD (now (bytes .entry)) (at + 3) 0 ⌝ }
+{
+    ((wide(bytes[at]) * 256 + wide(bytes[at + 1])) * 256 + wide(bytes[at + 2])) * 256
+        + wide(bytes[at + 3])
+}
+
+// Whether the six bytes from at on are an area's, whose ID is `least` or more. No grid is higher than 22.4 degrees, so that few areas need a look at theirs.
+fn is_sound_at(bytes: &[u8], at: usize, least: usize) -> bool
+    requires { ⌜ at + 6 ≤ length (now bytes) ⌝ }
+    ensures { λ r. ⌜ r ≡ soundArea least (numberIn (drop at (now (bytes .entry)))) ⌝ }
+{
+    let start = four(bytes, at);
+    if bytes[at + 5] % 2 != 0 {
+        return false;
+    }
+    if start / 16777216 < least {
+        return false;
+    }
+    if 1800 < start / 8192 % 2048 {
+        return false;
+    }
+    if 3600 < start / 2 % 0x1000 {
+        return false;
+    }
+    if 224 <= start / 8192 % 2048 {
+        return true;
+    }
+    !area::is_off(area::number_at(bytes, at) / 2)
+}
+
 fn areas_are_sound(bytes: &[u8], count: usize) -> bool
     requires { ⌜ (6 * count ≤ length (now bytes)) × (count ≤ 256) ⌝ }
     ensures { λ r. ⌜ r ≡ areasSound count 0 (now (bytes .entry)) ⌝ }
@@ -90,18 +125,10 @@ fn areas_are_sound(bytes: &[u8], count: usize) -> bool
     let mut least: usize = 0;
     let mut i: usize = 0;
     while i < count {
-        let number = area::number_at(bytes, 6 * i);
-        let id = wide(area::id(number / 2));
-        if number % 2 != 0 {
+        if !is_sound_at(bytes, 6 * i, least) {
             return false;
         }
-        if id < least {
-            return false;
-        }
-        if !area::is_area(number / 2) {
-            return false;
-        }
-        least = id + 1;
+        least = wide(bytes[6 * i]) + 1;
         i += 1;
     }
     true
@@ -183,12 +210,17 @@ fn block_count(payload: &[u8]) -> usize
     count(bits::get(payload, 14, 5) + 1)
 }
 
-// A block's area.
+// A block's area, out of one word: the eight bytes from its first on, or the payload's last eight.
 fn block(payload: &[u8], i: usize) -> u64
     requires { ⌜ (i < mostBlocks) × (blockStart (i + 1) ≤ 8 * length (now payload)) ⌝ }
     ensures { λ r. ⌜ (r ≡ blockAt (now (payload .entry)) i) × (r < 2 ^ 47) ⌝ }
 {
-    bits::get(payload, 19 + 47 * i, 47)
+    let pos = 19 + 47 * i;
+    if pos / 8 + 8 <= payload.len() {
+        return bits::get(payload, pos, 47);
+    }
+    let start = 8 * payload.len() - 64;
+    (bits::get(payload, start, 64) >> (17 - (pos - start))) % 140737488355328
 }
 
 // The area with this ID among the first `count` in a book's bytes. Bytes that are too few for them hold none.
@@ -206,15 +238,62 @@ fn look_in(bytes: &[u8], count: usize, id: u8) -> Found
     requires { ⌜ 6 * count ≤ length (now bytes) ⌝ }
     ensures { λ r. ⌜ r ≡ lookup id (areasIn count (now (bytes .entry))) ⌝ }
 {
-    let mut i: usize = 0;
+    let i = place(bytes, count, id);
+    if i < count {
+        return Found::Area(area::number_at(bytes, 6 * i) / 2);
+    }
+    Found::Nothing
+}
+
+// How many areas have a smaller ID, counted on from a place before which all have.
+fn reach(bytes: &[u8], count: usize, from: usize, id: u8) -> usize
+    requires { ⌜ (6 * count ≤ length (now bytes)) × Passed id count (now bytes) from ⌝ }
+    ensures { λ r. ⌜ Reached id count (now (bytes .entry)) r ⌝ }
+{
+    let mut i = from;
     while i < count {
-        let area = area::number_at(bytes, 6 * i) / 2;
-        if area::id(area) == id {
-            return Found::Area(area);
+        if id <= bytes[6 * i] {
+            return i;
         }
         i += 1;
     }
-    Found::Nothing
+    count
+}
+
+// The same for the next block's ID. One that is above all before it goes on from the last one's place; another is sought anew.
+fn seek(bytes: &[u8], count: usize, at: usize, least: usize, id: u8) -> usize
+    requires { ⌜ (6 * count ≤ length (now bytes)) × Passed least count (now bytes) at ⌝ }
+    ensures { λ r. ⌜ Reached id count (now (bytes .entry)) r ⌝ }
+{
+    if wide(id) < least {
+        return reach(bytes, count, 0, id);
+    }
+    reach(bytes, count, at, id)
+}
+
+// One more than all IDs so far and this one.
+fn past(least: usize, id: u8) -> usize
+    requires { ⌜ least ≤ 256 ⌝ }
+    ensures { λ r. ⌜ (r ≤ 256) × (least ≤ r) × (id < r) ⌝ }
+{
+    if wide(id) < least {
+        return least;
+    }
+    wide(id) + 1
+}
+
+// The area with this ID among ascending ones, of which so many have a smaller ID.
+fn look_at(bytes: &[u8], count: usize, at: usize, id: u8) -> Found
+    requires { ⌜ (6 * count ≤ length (now bytes)) × Ascending 0 (areasIn count (now bytes)) × Reached id count (now bytes) at ⌝ }
+    ensures { λ r. ⌜ r ≡ lookup id (areasIn count (now (bytes .entry))) ⌝ }
+{
+    if count <= at {
+        return Found::Nothing;
+    }
+    if bytes[6 * at] != id {
+        return Found::Nothing;
+    }
+    Found::Area(area::number_at(bytes, 6 * at) / 2)
 }
 
 // The area with this ID among the first n blocks.
@@ -233,14 +312,28 @@ fn look_before(payload: &[u8], n: usize, id: u8) -> Found
     Found::Nothing
 }
 
-// The same in the book, and then among the first n blocks.
-fn known(bytes: &[u8], count: usize, payload: &[u8], n: usize, id: u8) -> Found
-    requires { ⌜ (6 * count ≤ length (now bytes)) × (n ≤ mostBlocks) × (blockStart n ≤ 8 * length (now payload)) ⌝ }
+// The same in the book, where so many areas have a smaller ID, and then among the first n blocks. Those have IDs below `least`.
+fn known(
+    bytes: &[u8],
+    count: usize,
+    payload: &[u8],
+    n: usize,
+    at: usize,
+    least: usize,
+    id: u8,
+) -> Found
+    requires { ⌜ (6 * count ≤ length (now bytes)) × Ascending 0 (areasIn count (now bytes)) × Reached id count (now bytes) at ⌝ }
+    requires { ⌜ (n ≤ mostBlocks) × (blockStart n ≤ 8 * length (now payload)) × Below least (blocksFrom n 0 (now payload)) ⌝ }
     ensures { λ r. ⌜ r ≡ orElse (lookup id (areasIn count (now (bytes .entry)))) (lookup id (blocksFrom n 0 (now (payload .entry)))) ⌝ }
 {
-    match look_in(bytes, count, id) {
+    match look_at(bytes, count, at, id) {
         Found::Area(area) => Found::Area(area),
-        Found::Nothing => look_before(payload, n, id),
+        Found::Nothing => {
+            if least <= wide(id) {
+                return Found::Nothing;
+            }
+            look_before(payload, n, id)
+        }
     }
 }
 
@@ -272,33 +365,38 @@ fn judge_found(area: u64, found: Found, held: usize) -> Judged
     }
 }
 
-// Block i against the book and the blocks before it, with which the book would hold so many areas.
-fn judge_block(bytes: &[u8], count: usize, payload: &[u8], i: usize, held: usize) -> Judged
-    requires { ⌜ (6 * count ≤ length (now bytes)) × (i < mostBlocks) × (blockStart (i + 1) ≤ 8 * length (now payload)) ⌝ }
-    ensures { λ r. ⌜ r ≡ judgeBlock (blockAt (now (payload .entry)) i) (orElse (lookup (sf031 (blockAt (now (payload .entry)) i)) (areasIn count (now (bytes .entry)))) (lookup (sf031 (blockAt (now (payload .entry)) i)) (blocksFrom i 0 (now (payload .entry))))) held ⌝ }
+// The same with AREA_OFF before it.
+fn judge_block(area: u64, found: Found, held: usize) -> Judged
+    ensures { λ r. ⌜ r ≡ judgeBlock area found held ⌝ }
 {
-    let area = block(payload, i);
     if area::is_off(area) {
         return Judged::Refused(Fault {
             refusal: Refusal::AreaOff,
             place: Place::Nowhere,
         });
     }
-    judge_found(area, known(bytes, count, payload, i, area::id(area)), held)
+    judge_found(area, found, held)
 }
 
 // All blocks, each against the book with the earlier ones added: how many areas it would hold then, or the first refusal.
 fn judge(bytes: &[u8], count: usize, payload: &[u8]) -> Judged
-    requires { ⌜ (6 * count ≤ length (now bytes)) × (blockStart (blockCount (now payload)) ≤ 8 * length (now payload)) ⌝ }
+    requires { ⌜ (6 * count ≤ length (now bytes)) × Ascending 0 (areasIn count (now bytes)) × (blockStart (blockCount (now payload)) ≤ 8 * length (now payload)) ⌝ }
     ensures { λ r. ⌜ r ≡ judgedBy (takeAll (blocksOf (now (payload .entry))) (areasIn count (now (bytes .entry)))) ⌝ }
 {
     let n = block_count(payload);
     let mut held = count;
+    let mut at: usize = 0;
+    let mut least: usize = 0;
     let mut i: usize = 0;
     while i < n {
-        match judge_block(bytes, count, payload, i, held) {
-            Judged::Held(next) => {
-                held = next;
+        let area = block(payload, i);
+        let id = area::id(area);
+        let next = seek(bytes, count, at, least, id);
+        match judge_block(area, known(bytes, count, payload, i, next, least, id), held) {
+            Judged::Held(more) => {
+                held = more;
+                at = next;
+                least = past(least, id);
                 i += 1;
             }
             Judged::Refused(refusal) => {
@@ -309,13 +407,15 @@ fn judge(bytes: &[u8], count: usize, payload: &[u8]) -> Judged
     Judged::Held(held)
 }
 
-// A new area takes its place among the book's: the one with the smaller ID is put down, the other is carried on.
-fn insert(bytes: &mut [u8], count: usize, area: u64)
+// A new area takes its place among the book's, of which so many have a smaller ID: of the others the one with the smaller ID is put down, the other is
+// carried on.
+fn insert(bytes: &mut [u8], count: usize, at: usize, area: u64)
     requires { ⌜ Image count (now bytes) × (count < mostAreas) × (6 * count + 6 ≤ length (now bytes)) × (area < 2 ^ 47) ⌝ }
+    requires { ⌜ Passed (sf031 area) count (now bytes) at ⌝ }
     ensures { λ _. ⌜ now (bytes .exit) ≡ bytesOfAll (insert area (areasIn count (now (bytes .entry)))) ++ drop (6 * count + 6) (now (bytes .entry)) ⌝ }
 {
     let mut carried = area;
-    let mut i: usize = 0;
+    let mut i = at;
     while i < count {
         let next = area::number_at(bytes, 6 * i) / 2;
         if area::id(carried) < area::id(next) {
@@ -329,6 +429,22 @@ fn insert(bytes: &mut [u8], count: usize, area: u64)
     area::put_at(bytes, 6 * count, carried);
 }
 
+// The same for a block that may be held already: how many areas there are then.
+fn add(bytes: &mut [u8], held: usize, at: usize, area: u64) -> usize
+    requires { ⌜ Image held (now bytes) × (held ≤ mostAreas) × (bookBytes ≤ length (now bytes)) × (area < 2 ^ 47) ⌝ }
+    requires { ⌜ Reached (sf031 area) held (now bytes) at × (length (grown area (areasIn held (now bytes))) ≤ mostAreas) ⌝ }
+    ensures { λ r. ⌜ r ≡ length (grown area (areasIn held (now (bytes .entry)))) ⌝ }
+    ensures { λ _. ⌜ now (bytes .exit) ≡ leftBy (taken (grown area (areasIn held (now (bytes .entry))))) (now (bytes .entry)) ⌝ }
+{
+    match look_at(bytes, held, at, area::id(area)) {
+        Found::Area(_) => held,
+        Found::Nothing => {
+            insert(bytes, held, at, area);
+            held + 1
+        }
+    }
+}
+
 // Each block that is not held yet takes its place. They have all been judged: the message is taken.
 fn insert_all(bytes: &mut [u8], count: usize, payload: &[u8])
     requires { ⌜ Image count (now bytes) × (count ≤ mostAreas) × (bookBytes ≤ length (now bytes)) × (blockStart (blockCount (now payload)) ≤ 8 * length (now payload)) ⌝ }
@@ -337,19 +453,17 @@ fn insert_all(bytes: &mut [u8], count: usize, payload: &[u8])
 {
     let n = block_count(payload);
     let mut held = count;
+    let mut at: usize = 0;
+    let mut least: usize = 0;
     let mut i: usize = 0;
     while i < n {
         let area = block(payload, i);
-        match look_in(bytes, held, area::id(area)) {
-            Found::Area(_) => {
-                i += 1;
-            }
-            Found::Nothing => {
-                insert(bytes, held, area);
-                held += 1;
-                i += 1;
-            }
-        }
+        let id = area::id(area);
+        let next = seek(bytes, held, at, least, id);
+        held = add(bytes, held, next, area);
+        at = next;
+        least = past(least, id);
+        i += 1;
     }
 }
 
@@ -374,6 +488,9 @@ fn take_blocks(book: Book, bytes: &mut [u8], payload: &[u8]) -> Taken
     match judge(bytes, count, payload) {
         Judged::Refused(refusal) => Taken::Refused(refusal),
         Judged::Held(held) => {
+            if held == count {
+                return Taken::Holds(book_of(aiou, held));
+            }
             insert_all(bytes, count, payload);
             Taken::Holds(book_of(aiou, held))
         }

@@ -1,6 +1,6 @@
 -- `areas_are_sound`: the areas that are left are sound from the next ID on exactly when all are.
 use Prim.Native.Nat.{_-_}
-use Rattle.book.proofs.Reading.{Judging, judging-start, judging-end, judged-odd, judged-low, judged-bad, judged-good}
+use Rattle.book.proofs.Reading.{Judging, judging-start, judging-end, judged-bad, judged-good}
 use borrow.Author.Needs.{needs}
 use Rattle.book.proofs.areas_are_sound.Statement.{statement}
 use Rattle.book.proofs.areas_are_sound.Tie as tie
@@ -14,29 +14,23 @@ abbrev μ-loop : tie.MeasureT-loop
 loop-holds : tie.Need-loop-holds Inv-loop μ-loop
 loop-holds c = search (judging-start, needs)
 
-mul-number-at : tie.Need-mul-number-at Inv-loop μ-loop
-mul-number-at c = search needs
+mul-is-sound-at : tie.Need-mul-is-sound-at Inv-loop μ-loop
+mul-is-sound-at c = search needs
 
-number-at-requires : tie.Need-number-at-requires Inv-loop μ-loop
-number-at-requires c κs = search needs
+is-sound-at-requires : tie.Need-is-sound-at-requires Inv-loop μ-loop
+is-sound-at-requires c κs = search needs
 
-id-requires : tie.Need-id-requires Inv-loop μ-loop
-id-requires c κs = search needs
+returns : tie.Need-returns Inv-loop μ-loop
+returns c = search (judged-bad, needs)
+
+mul-wide : tie.Need-mul-wide Inv-loop μ-loop
+mul-wide c = search needs
+
+shared-slice-read-wide : tie.Need-shared-slice-read-wide Inv-loop μ-loop
+shared-slice-read-wide c = search needs
 
 wide-requires : tie.Need-wide-requires Inv-loop μ-loop
 wide-requires c κs = search needs
-
-returns : tie.Need-returns Inv-loop μ-loop
-returns c = search (judged-odd, needs)
-
-returns-2 : tie.Need-returns-2 Inv-loop μ-loop
-returns-2 c = search (judged-low, needs)
-
-is-area-requires : tie.Need-is-area-requires Inv-loop μ-loop
-is-area-requires c κs = search needs
-
-returns-3 : tie.Need-returns-3 Inv-loop μ-loop
-returns-3 c = search (judged-bad, needs)
 
 add-least : tie.Need-add-least Inv-loop μ-loop
 add-least c = search needs
@@ -50,8 +44,8 @@ loop-less c = search needs
 loop-again : tie.Need-loop-again Inv-loop μ-loop
 loop-again c = search (judged-good, needs)
 
-returns-4 : tie.Need-returns-4 Inv-loop μ-loop
-returns-4 c = search (judging-end, needs)
+returns-2 : tie.Need-returns-2 Inv-loop μ-loop
+returns-2 c = search (judging-end, needs)
 
 pub areas-are-sound-spec : {M : Type 1} → statement M
 areas-are-sound-spec =
@@ -60,16 +54,14 @@ areas-are-sound-spec =
     Inv-loop
     μ-loop
     loop-holds
-    mul-number-at
-    number-at-requires
-    id-requires
-    wide-requires
+    mul-is-sound-at
+    is-sound-at-requires
     returns
-    returns-2
-    is-area-requires
-    returns-3
+    mul-wide
+    shared-slice-read-wide
+    wide-requires
     add-least
     add-i
     loop-less
     loop-again
-    returns-4)
+    returns-2)

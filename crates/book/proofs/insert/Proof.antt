@@ -6,10 +6,10 @@ use Rattle.book.proofs.insert.Statement.{statement}
 use Rattle.book.proofs.insert.Tie as tie
 
 abbrev Inv-loop : tie.InvT-loop
-Inv-loop bytes₀ count area carried₀ i₀ bytes carried i = Inserting bytes₀ count area i carried bytes
+Inv-loop bytes₀ count at area carried₀ i₀ bytes carried i = Inserting bytes₀ count area i carried bytes
 
 abbrev μ-loop : tie.MeasureT-loop
-μ-loop bytes₀ count area carried₀ i₀ bytes carried i = count - i
+μ-loop bytes₀ count at area carried₀ i₀ bytes carried i = count - i
 
 loop-holds : tie.Need-loop-holds Inv-loop μ-loop
 loop-holds c = search (insert-start, needs)

@@ -1,21 +1,23 @@
--- `insert_all`: the areas held so far lie in the bytes, and the blocks that are left are taken from them (Taking.antt).
-use Prim.Native.Nat.{_-_}
-use Rattle.book.proofs.Taking.{Filling, fill-start, fill-length, fill-fits, fill-image, fill-end, fill-held, fill-room, fill-more, fill-new}
+-- `insert_all`: the areas held so far lie in the bytes, and the blocks that are left are taken from them (Taking.antt); those passed have IDs below `least`.
+use Prim.Native.Nat.{_-_, _≤_}
+use Rattle.book.specs.Search.{Passed}
+use Rattle.book.proofs.Searching.{seek-anew, reached-as}
+use Rattle.book.proofs.Taking.{Filling, fill-start, fill-length, fill-long, fill-fits, fill-image, fill-room, fill-end, fill-turn, fill-place}
 use borrow.Author.Needs.{needs}
 use Rattle.book.proofs.insert_all.Statement.{statement}
 use Rattle.book.proofs.insert_all.Tie as tie
 
 abbrev Inv-loop : tie.InvT-loop
-Inv-loop bytes₀ count payload n held₀ i₀ bytes held i = Filling bytes₀ payload count n i held bytes
+Inv-loop bytes₀ count payload n held₀ at₀ least₀ i₀ bytes held at least i = Filling bytes₀ payload count n i held bytes × Passed least held bytes at × (least ≤ 256)
 
 abbrev μ-loop : tie.MeasureT-loop
-μ-loop bytes₀ count payload n held₀ i₀ bytes held i = n - i
+μ-loop bytes₀ count payload n held₀ at₀ least₀ i₀ bytes held at least i = n - i
 
 block-count-requires : tie.Need-block-count-requires Inv-loop μ-loop
 block-count-requires c κs = search needs
 
 loop-holds : tie.Need-loop-holds Inv-loop μ-loop
-loop-holds c = search (fill-start, needs)
+loop-holds c = search (fill-start, seek-anew, needs)
 
 block-requires : tie.Need-block-requires Inv-loop μ-loop
 block-requires c κs = search needs
@@ -23,11 +25,14 @@ block-requires c κs = search needs
 id-requires : tie.Need-id-requires Inv-loop μ-loop
 id-requires c κs = search needs
 
-look-in-requires : tie.Need-look-in-requires Inv-loop μ-loop
-look-in-requires c κs = search (fill-fits, needs)
+seek-requires : tie.Need-seek-requires Inv-loop μ-loop
+seek-requires c κs = search (fill-fits, needs)
 
-enum-told : tie.Need-enum-told Inv-loop μ-loop
-enum-told c = search needs
+add-requires : tie.Need-add-requires Inv-loop μ-loop
+add-requires c κs = ((search (fill-image, needs), search needs, search (fill-long, needs), search needs), (search (reached-as, needs), search (fill-room, needs)))
+
+past-requires : tie.Need-past-requires Inv-loop μ-loop
+past-requires c κs = search needs
 
 add-i : tie.Need-add-i Inv-loop μ-loop
 add-i c = search needs
@@ -36,26 +41,7 @@ loop-less : tie.Need-loop-less Inv-loop μ-loop
 loop-less c = search needs
 
 loop-again : tie.Need-loop-again Inv-loop μ-loop
-loop-again c = search (fill-held, needs)
-
-enum-told-2 : tie.Need-enum-told-2 Inv-loop μ-loop
-enum-told-2 c = search needs
-
-insert-requires : tie.Need-insert-requires Inv-loop μ-loop
-insert-requires c κs =
-    (search (fill-image, needs), search (fill-room, needs), search (fill-more, needs), search needs)
-
-add-held : tie.Need-add-held Inv-loop μ-loop
-add-held c = search needs
-
-add-i-2 : tie.Need-add-i-2 Inv-loop μ-loop
-add-i-2 c = search needs
-
-loop-less-2 : tie.Need-loop-less-2 Inv-loop μ-loop
-loop-less-2 c = search needs
-
-loop-again-2 : tie.Need-loop-again-2 Inv-loop μ-loop
-loop-again-2 c = search (fill-new, needs)
+loop-again c = (search (fill-turn, needs), search (fill-place, needs), search needs)
 
 same-length : tie.Need-same-length Inv-loop μ-loop
 same-length c = search (fill-length, needs)
@@ -73,16 +59,11 @@ insert-all-spec =
     loop-holds
     block-requires
     id-requires
-    look-in-requires
-    enum-told
+    seek-requires
+    add-requires
+    past-requires
     add-i
     loop-less
     loop-again
-    enum-told-2
-    insert-requires
-    add-held
-    add-i-2
-    loop-less-2
-    loop-again-2
     same-length
     returns)
