@@ -4,6 +4,7 @@ pub mod Judging
 pub mod Places
 pub mod Feeding
 pub mod Turns
+pub mod Seeking
 pub mod Along
 pub mod Returns
 pub mod Skipping

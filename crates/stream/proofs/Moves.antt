@@ -1,17 +1,18 @@
 -- The turns of the small loops, in plain values: bytes that are all zero, bytes that are cleared, bytes that move to the front.
-use mathlib.Core.Path.{_≡_, refl, sym, ap, _∙_, subst}
+use mathlib.Core.Path.{_≡_, refl, sym, ap, ap₂, _∙_, subst}
 use mathlib.Core.List.{List, [], _∷_, _++_, append-nil}
-use mathlib.Core.Bool.{_&&_, and-assoc, and-true}
-use Prim.Native.Nat.{ℕ, zero, suc, _+_, _-_, _≤_, _<_}
+use mathlib.Core.Bool.{Bool, true, false, not, _&&_, and-assoc, and-true}
+use Prim.Native.Nat.{ℕ, zero, suc, _+_, _-_, _%_, _≤_, _<_}
 use native.Mathlib.Nat.{not-suc-le-zero, le-of-suc-le-suc, add-comm}
 use native.Mathlib.Numerals.{add-one}
 use native.Mathlib.Omega.{arith}
-use lib.ListN.{length, getD, set, take, drop, replicate, length-drop, length-set, length-replicate, getD-replicate, drop-of-length-le}
-use lib.Seq.{length-take-le, getD-append-add, getD-drop, drop-cons, take-length}
+use lib.ListN.{length, getD, set, take, drop, replicate, length-drop, length-set, length-replicate, getD-replicate, drop-of-length-le, take-append-drop}
+use lib.Seq.{length-take-le, getD-append-add, getD-drop, drop-cons, take-length, take-all, drop-drop}
 use lib.Bits.{bitOr, or-zero-l, or-add-and, and-le-r}
 use lib.Dec.{eqb, eqb·suc-zero}
-use borrow.Author.Tests.{ne-eqb}
+use borrow.Author.Tests.{ne-eqb, not-true, not-false}
 use Rattle.stream.specs.Tray.{zeros}
+use Rattle.stream.proofs.Parts.{part-is}
 
 -- ---- all zero
 
@@ -41,6 +42,43 @@ pub join-done : (bytes : List ℕ) (joined i : ℕ) → Joining bytes joined i �
 unfolding zeros
 join-done bytes joined i v h =
     sym (ap (λ l. eqb joined 0 && zeros l) (drop-of-length-le bytes {i = i} h) ∙ and-true (eqb joined 0)) ∙ v .on
+
+zeros-append : (xs ys : List ℕ) → zeros (xs ++ ys) ≡ (zeros xs && zeros ys)
+unfolding zeros
+zeros-append [] ys = refl
+zeros-append (x ∷ xs) ys = ap (λ b. eqb x 0 && b) (zeros-append xs ys) ∙ sym (and-assoc (eqb x 0) (zeros xs) (zeros ys))
+
+zeros-parts : (n : ℕ) (bytes : List ℕ) → zeros bytes ≡ (zeros (take n bytes) && zeros (drop n bytes))
+zeros-parts n bytes = ap zeros (sym (take-append-drop n bytes)) ∙ zeros-append (take n bytes) (drop n bytes)
+
+zeros-last : (b c : Bool) → (b && c) ≡ true → c ≡ true
+zeros-last true c e = e
+zeros-last false c e = let z : _≡_ {A = ℕ} 0 1 = cc in absurd (omega arith)
+
+-- ---- whole blocks, and the last block's bytes
+
+pub blocks-in : (bytes : List ℕ) → length (take (length bytes - length bytes % 32) bytes) ≡ length bytes - length bytes % 32
+blocks-in bytes = length-take-le (length bytes - length bytes % 32) bytes (omega arith)
+
+module _ (bytes : List ℕ) (b : Bool) (e : b ≡ zeros (take (length bytes - length bytes % 32) bytes)) where
+  pub blocks-not : not b ≡ true → false ≡ zeros bytes
+  blocks-not n = sym (zeros-parts (length bytes - length bytes % 32) bytes ∙ ap (λ x. x && zeros (drop (length bytes - length bytes % 32) bytes)) (sym e ∙ not-true b n))
+
+  pub blocks-last : not b ≡ false → 32 ≤ length bytes → (r : Bool) → r ≡ zeros (take (length bytes - (length bytes - 32)) (drop (length bytes - 32) bytes)) → r ≡ zeros bytes
+  blocks-last n h r q =
+      let size : ℕ = length bytes in
+      let whole : ℕ = size - size % 32 in
+      let rest : ℕ = size - 32 in
+      let near : rest + (whole - rest) ≡ whole = omega arith in
+      let first : zeros (take whole bytes) ≡ true = sym e ∙ not-false b n in
+      let inner : zeros (drop rest (take whole bytes)) ≡ true
+      = zeros-last (zeros (take rest (take whole bytes))) (zeros (drop rest (take whole bytes))) (sym (zeros-parts rest (take whole bytes)) ∙ first) in
+      let last : zeros (drop rest bytes) ≡ zeros (drop whole bytes)
+      = zeros-parts (whole - rest) (drop rest bytes)
+      ∙ ap₂ (λ x y. zeros x && zeros y) (part-is bytes rest whole) (drop-drop (whole - rest) rest bytes ∙ ap (λ (x : ℕ). drop x bytes) near)
+      ∙ ap (λ x. x && zeros (drop whole bytes)) inner in
+      let all : take (size - rest) (drop rest bytes) ≡ drop rest bytes = take-all (size - rest) (drop rest bytes) (omega (arith, length-drop rest bytes)) in
+      q ∙ ap zeros all ∙ last ∙ sym (zeros-parts whole bytes ∙ ap (λ x. x && zeros (drop whole bytes)) first)
 
 -- ---- a loop that writes g over d from the front: after i turns it is `take i g ++ drop i d`
 

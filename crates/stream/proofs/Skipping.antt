@@ -1,20 +1,19 @@
 -- Noise behind noise, told by its first byte or by four, in plain values: what the call comes to stays the same.
 use mathlib.Core.Path.{_≡_, refl, sym, ap, ap₂, _∙_, subst}
-use mathlib.Core.List.{List, [], _∷_}
+use mathlib.Core.List.{List}
 use mathlib.Core.Bool.{Bool, true, false, cond}
-use Prim.Native.Nat.{ℕ, zero, suc, _+_, _-_, _%_, _≤_, _<_, min}
-use native.Mathlib.Nat.{le-min, min-le-left, min-le-right, lt-of-lt-of-le}
+use Prim.Native.Nat.{ℕ, suc, _+_, _-_, _%_, _≤_, _<_, min}
+use native.Mathlib.Nat.{le-min, lt-of-lt-of-le}
 use native.Mathlib.Omega.{arith}
 use lib.ListN.{length, getD, take, drop}
-use lib.Seq.{drop-cons, getD-take, getD-drop, length-slice}
+use lib.Seq.{drop-cons, getD-take, getD-drop}
 use lib.Dec.{ltb}
 use borrow.Author.Tests.{ltb-true}
 use mir.Syntax.{w8}
 use mir.Val.{Fits}
-use Rattle.sizes.specs.Sizes.{longestFrame, mostNoise}
+use Rattle.sizes.specs.Sizes.{mostNoise}
 use Rattle.answer.specs.declared.Refusal.{Refusal}
 use Rattle.answer.specs.declared.Refusal.the-variants.{Preamble, FrameCrc}
-use Rattle.bits.specs.Bits.{Bytes}
 use Rattle.bits.specs.Laws.{bytes-take, bytes-drop}
 use Rattle.checks.specs.Crc.{frameCrc}
 use Rattle.frame.specs.Fields.{preamble}

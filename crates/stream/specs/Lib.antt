@@ -13,3 +13,4 @@ pub mod Sound
 pub mod Steps
 pub mod Driving
 pub mod Walk
+pub mod Marks

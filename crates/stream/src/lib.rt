@@ -5,7 +5,9 @@ ghost use Prim.Native.Nat.{ℕ, _+_, _-_, _≤_, _<_, min};
 ghost use lib.ListN.{length, take, drop, replicate};
 ghost use Rattle.sizes.specs.Sizes.{longestFrame, mostNoise};
 ghost use Rattle.stream.specs.Tray.{zeros, isFrame, sound, freshTray, numberOfSaid, refused, answerOf, callAnswer, callBytes, finishAnswer, finishBytes};
+ghost use Rattle.bytes.specs.Bytes.{indexOf, slice};
 ghost use Rattle.stream.specs.Driver.{Ready};
+ghost use Rattle.stream.specs.Marks.{marked, marks};
 ghost use Rattle.stream.specs.Walk.{shifted, Standing, fedFrom, closedFrom, Answered, CloseTurn, Wanting, Ends, Onward, Seen, Along, Told, reached, Empty, noised, settled, shownAnswer, droppedPlace};
 use answer::Refusal;
 use frame::Checked;
@@ -13,6 +15,12 @@ use frame::Frame;
 
 // The first byte of a frame.
 const PREAMBLE: u8 = 0x73;
+
+// So many bytes are looked at together where a preamble is sought: some loads of the processor's, and few enough to look through one by one where there is one.
+const WINDOW: usize = 64;
+
+// And so many where all must be zero: what the compiler's loop takes a turn.
+const BLOCK: usize = 32;
 
 // The tray beside its lent bytes: how many are held, the length of the frame last shown, the noise not yet told.
 pub struct Tray {
@@ -57,8 +65,8 @@ pub fn fresh() -> Tray
     }
 }
 
-// All bytes are checked at, with no way out on the way, so that many are checked at together.
-fn all_zero(bytes: &[u8]) -> bool
+// All bytes are looked at, with no way out on the way, so that many are looked at together.
+fn are_zero(bytes: &[u8]) -> bool
     ensures { λ r. ⌜ r ≡ zeros (now (bytes .entry)) ⌝ }
 {
     let mut joined: u8 = 0;
@@ -68,6 +76,21 @@ fn all_zero(bytes: &[u8]) -> bool
         i += 1;
     }
     joined == 0
+}
+
+// Whole blocks, and then the last block's bytes, some of them once more: a part of a block left over would be looked at a byte at a time.
+fn all_zero(bytes: &[u8]) -> bool
+    ensures { λ r. ⌜ r ≡ zeros (now (bytes .entry)) ⌝ }
+{
+    let size = bytes.len();
+    if size < BLOCK {
+        return are_zero(bytes);
+    }
+    let whole = size - size % BLOCK;
+    if !are_zero(&bytes[..whole]) {
+        return false;
+    }
+    are_zero(&bytes[size - BLOCK..])
 }
 
 // A frame of so many bytes was accepted.
@@ -221,6 +244,43 @@ fn show(place: Place, frame: Frame) -> Answer
     say(place, Said::Frame(frame), frame.length, 0)
 }
 
+// 1 for a preamble, 0 for any other byte.
+fn mark(byte: u8) -> u8
+    ensures { λ r. ⌜ r ≡ marked byte ⌝ }
+{
+    if byte == PREAMBLE { 1 } else { 0 }
+}
+
+// Whether none is a preamble. All bytes are looked at, with no way out on the way, so that many are looked at together.
+fn is_clear(bytes: &[u8]) -> bool
+    ensures { λ r. ⌜ r ≡ zeros (marks (now (bytes .entry))) ⌝ }
+{
+    let mut joined: u8 = 0;
+    let mut i = 0;
+    while i < bytes.len() {
+        joined = joined | mark(bytes[i]);
+        i += 1;
+    }
+    joined == 0
+}
+
+// Where the first preamble is, from one byte on and up to another; the other where there is none. Windows without one are passed over as a whole.
+fn find_preamble(input: &[u8], from: usize, to: usize) -> usize
+    requires { ⌜ (from ≤ to) × (to ≤ length (now input)) ⌝ }
+    ensures { λ r. ⌜ r ≡ from + indexOf 0x73 (slice from to (now (input .entry))) ⌝ }
+    ensures { λ r. ⌜ r ≤ to ⌝ }
+{
+    let mut at = from;
+    while WINDOW <= to - at {
+        let next = at + WINDOW;
+        if !is_clear(&input[at..next]) {
+            return bytes::scan::find(input, at, to, PREAMBLE);
+        }
+        at = next;
+    }
+    bytes::scan::find(input, at, to, PREAMBLE)
+}
+
 // Where no byte is live, bytes that are no preamble are noise without a check, up to a count below 65,535.
 fn pass(place: Place, input: &[u8]) -> Place
     requires { ⌜ Seen place (now input) ⌝ }
@@ -232,7 +292,7 @@ fn pass(place: Place, input: &[u8]) -> Place
     let used = place.used;
     let limit = (sizes::MOST_NOISE - 1 - place.noise) as usize;
     let end = used + least(limit, input.len() - used);
-    let found = bytes::scan::find(input, used, end, PREAMBLE);
+    let found = find_preamble(input, used, end);
     Place {
         start: found,
         held: found,

@@ -1,44 +1,54 @@
--- The bytes joined by or are zero exactly where each is: what is joined so far and the bytes left say what all the bytes say.
+-- The whole blocks and the last block's bytes are all of them.
+use Rattle.stream.proofs.Moves.{blocks-in, blocks-not, blocks-last}
 use borrow.Author.Needs.{needs}
-use Prim.Native.Nat.{_-_}
-use lib.ListN.{length}
-use Rattle.stream.proofs.Moves.{Joining, join-first, join-more, join-done}
 use Rattle.stream.proofs.all_zero.Statement.{statement}
 use Rattle.stream.proofs.all_zero.Tie as tie
 
-abbrev Inv-loop : tie.InvT-loop
-Inv-loop bytes joined₀ i₀ joined i = Joining bytes joined i
+are-zero-requires : tie.Need-are-zero-requires
+are-zero-requires c κs = search needs
 
-abbrev μ-loop : tie.MeasureT-loop
-μ-loop bytes joined₀ i₀ joined i = length bytes - i
+returns : tie.Need-returns
+returns c = search needs
 
-loop-holds : tie.Need-loop-holds Inv-loop μ-loop
-loop-holds c = search (join-first, needs)
+sub-whole : tie.Need-sub-whole
+sub-whole c = search needs
 
-shared-slice-read-joined : tie.Need-shared-slice-read-joined Inv-loop μ-loop
-shared-slice-read-joined c = search needs
+slice-aggregate-are-zero : tie.Need-slice-aggregate-are-zero
+slice-aggregate-are-zero c = search (blocks-in, needs)
 
-add-i : tie.Need-add-i Inv-loop μ-loop
-add-i c = search needs
+are-zero-requires-2 : tie.Need-are-zero-requires-2
+are-zero-requires-2 c κs = search needs
 
-loop-less : tie.Need-loop-less Inv-loop μ-loop
-loop-less c = search needs
+returns-2 : tie.Need-returns-2
+returns-2 c = search (blocks-not, needs)
 
-loop-again : tie.Need-loop-again Inv-loop μ-loop
-loop-again c = search (join-more, needs)
+sub-are-zero : tie.Need-sub-are-zero
+sub-are-zero c = search needs
 
-returns : tie.Need-returns Inv-loop μ-loop
-returns c = search (join-done, needs)
+part-are-zero-start : tie.Need-part-are-zero-start
+part-are-zero-start c = search needs
+
+part-are-zero-end : tie.Need-part-are-zero-end
+part-are-zero-end c = search needs
+
+are-zero-requires-3 : tie.Need-are-zero-requires-3
+are-zero-requires-3 c κs = search needs
+
+returns-3 : tie.Need-returns-3
+returns-3 c = search (blocks-last, needs)
 
 pub all-zero-spec : {M : Type 1} → statement M
 all-zero-spec =
     tie.close
     (tie.spec
-    Inv-loop
-    μ-loop
-    loop-holds
-    shared-slice-read-joined
-    add-i
-    loop-less
-    loop-again
-    returns)
+    are-zero-requires
+    returns
+    sub-whole
+    slice-aggregate-are-zero
+    are-zero-requires-2
+    returns-2
+    sub-are-zero
+    part-are-zero-start
+    part-are-zero-end
+    are-zero-requires-3
+    returns-3)

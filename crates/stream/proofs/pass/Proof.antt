@@ -25,8 +25,8 @@ least-requires c κs = search needs
 add-end : tie.Need-add-end
 add-end c = search needs
 
-find-requires : tie.Need-find-requires
-find-requires c κs = search needs
+find-preamble-requires : tie.Need-find-preamble-requires
+find-preamble-requires c κs = search needs
 
 sub-t10 : tie.Need-sub-t10
 sub-t10 c = search needs
@@ -51,7 +51,7 @@ pass-spec =
     sub-least
     least-requires
     add-end
-    find-requires
+    find-preamble-requires
     sub-t10
     cast-t8
     add-t9
