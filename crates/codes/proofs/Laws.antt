@@ -1,5 +1,5 @@
 -- Laws that serve the proofs of the code, and are proved.
-use mathlib.Core.Path.{_≡_, refl, ap, sym, _∙_}
+use mathlib.Core.Path.{_≡_, refl, ap, sym}
 use mathlib.Core.List.{List, [], _∷_}
 use Prim.Native.Nat.{ℕ, zero, suc, _-_, _*_, _%_, _^_, _≤_, _<_}
 use native.Mathlib.Omega.{arith}
@@ -12,12 +12,6 @@ use Rattle.codes.specs.Tables.{rowOf, maskSizes, maskSize, biasMaskSizes
 use Rattle.codes.specs.Sizes.{mask-word, bias-word}
 
 -- ---- the tables of sizes
-
--- an element that is there is the same by any default
-default : (l : List ℕ) (i d e : ℕ) → i < length l → getD l i d ≡ getD l i e
-default [] i d e h = absurd (omega arith)
-default (x ∷ l) zero d e h = refl
-default (x ∷ l) (suc i) d e h = default l i d e (omega arith)
 
 mask-row : (c : Constellation) → length (getD maskSizes (rowOf c) []) ≡ 4
 unfolding maskSizes
@@ -35,19 +29,9 @@ bias-row Galileo = refl
 bias-row BeiDou = refl
 bias-row Qzss = refl
 
-pub mask-at : (c : Constellation) (size row : ℕ) → row ≡ rowOf c → size < 4 → getD (getD maskSizes row []) size 0 ≡ maskSize c size
-unfolding maskSize
-mask-at c size row e h =
-    ap (λ r. getD (getD maskSizes r []) size 0) e ∙ default (getD maskSizes (rowOf c) []) size 0 64 (omega (arith, mask-row c))
-
 pub mask-past : (c : Constellation) (size : ℕ) → 4 ≤ size → 64 ≡ maskSize c size
 unfolding maskSize
 mask-past c size h = sym (List·getD-eq-default (getD maskSizes (rowOf c) []) 64 (omega (arith, mask-row c)))
-
-pub bias-at : (c : Constellation) (size row : ℕ) → row ≡ rowOf c → size < 2 → getD (getD biasMaskSizes row []) size 0 ≡ biasSize c size
-unfolding biasSize
-bias-at c size row e h =
-    ap (λ r. getD (getD biasMaskSizes r []) size 0) e ∙ default (getD biasMaskSizes (rowOf c) []) size 0 15 (omega (arith, bias-row c))
 
 pub bias-past : (c : Constellation) (size : ℕ) → 2 ≤ size → 15 ≡ biasSize c size
 unfolding biasSize

@@ -1,4 +1,5 @@
 pub mod Tables
+pub mod Bytes
 pub mod Fields
 pub mod Sizes
 pub mod Listing

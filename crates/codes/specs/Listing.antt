@@ -1,14 +1,14 @@
 -- Serves proofs, and is proved: the satellites of a mask as the code lists them.
-use mathlib.Core.Path.{_≡_, refl, ap, ap₂, sym, _∙_, subst}
+use mathlib.Core.Path.{_≡_, refl, ap, ap₂, sym, _∙_}
 use mathlib.Core.Bool.{Bool, true, false}
 use mathlib.Core.List.{List, [], _∷_, _++_, append-assoc, append-nil}
 use Prim.Native.Nat.{ℕ, zero, suc, _+_, _-_, _*_, _/_, _%_, _^_, _≤_, _<_}
 use native.Mathlib.Omega.{arith}
 use native.Mathlib.Numerals.{add-one}
 use borrow.Author.Tests.{eq-eqb, ne-eqb, lt-ltb, le-ltb}
-use lib.Dec.{eqb, ltb}
+use lib.Dec.{eqb}
 use lib.ListN.{length, getD, set, replicate, length-append, List·getD-append}
-use lib.Seq.{set-at, getD-append-seam}
+use lib.Seq.{set-at}
 use Rattle.layout.specs.Layout.{pick}
 use Rattle.codes.specs.declared.Constellation.{Constellation}
 use Rattle.codes.specs.declared.Constellation.the-variants.{Gps, Glonass, Galileo, BeiDou, Qzss}
@@ -131,11 +131,3 @@ at-none ms more s e h =
 
 pub count-is : (ms : List ℕ) (s : Satellites) → s ≡ listed ms → s .count ≡ length ms
 count-is ms s e = ap (λ (x : Satellites). x .count) e
-
--- the satellite at hand, with those before it and those after it
-pub at-behind : (ps ms : List ℕ) (m : ℕ) → satelliteAt (ps ++ (m ∷ ms)) (length ms) ≡ m
-at-behind ps ms m =
-    let n : length (ps ++ (m ∷ ms)) ≡ length ps + suc (length ms) = length-append ps (m ∷ ms) in
-    let less : length ms < length (ps ++ (m ∷ ms)) = omega arith in
-    let place : length (ps ++ (m ∷ ms)) - 1 - length ms ≡ length ps = omega arith in
-    rw (lt-ltb (length ms) (length (ps ++ (m ∷ ms))) less, place) (getD-append-seam ps m ms 0)

@@ -2,7 +2,7 @@
 use mathlib.Core.Path.{_≡_, refl}
 use mathlib.Core.Bool.{Bool, true, false}
 use mathlib.Core.List.{List, [], _∷_}
-use Prim.Native.Nat.{ℕ, zero, suc, _-_, _^_, _≤_, _<_}
+use Prim.Native.Nat.{ℕ, zero, suc, _≤_, _<_}
 use native.Mathlib.Omega.{arith}
 use borrow.Author.Tests.{ltb-true, leb-true}
 use lib.Dec.{T, ltb, leb, lit<, lit≤}
@@ -14,7 +14,7 @@ use Rattle.layout.specs.Walks.{Numbered, Fine, fine, fine-free}
 use Rattle.fields.specs.Fields.{table, find, lineOf, sf}
 use Rattle.codes.specs.declared.Constellation.{Constellation}
 use Rattle.codes.specs.declared.Constellation.the-variants.{Gps, Glonass, Galileo, BeiDou, Qzss}
-use Rattle.codes.specs.Tables.{rowOf, maskSf, maskSizes, maskSize, biasMaskSizes, biasSize}
+use Rattle.codes.specs.Tables.{maskSf, maskSizes, maskSize, biasMaskSizes, biasSize}
 use Rattle.codes.specs.Fields.{maskField}
 
 -- 1 to 64

@@ -6,7 +6,7 @@ use Prim.Native.Nat.{ℕ, zero, suc, _+_, _-_, _*_, _/_, _%_, _^_, _≤_, _<_}
 use native.Mathlib.Nat.{add-zero, mod-lt, div-eq-of-lt, pow-suc}
 use native.Mathlib.Omega.{arith}
 use borrow.Author.Tests.{eq-eqb, ne-eqb}
-use lib.Dec.{eqb, lit<}
+use lib.Dec.{eqb}
 use lib.ListN.{length}
 use lib.Count.{ones, ones-cat, leadingZeros, leading-of-zero, leading-le, leading-top}
 use lib.Pow.{pow-pos, high, low, split, mod-pow-add, shl-shr, shl-lt, shr-lt}

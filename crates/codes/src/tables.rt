@@ -1,37 +1,39 @@
 // The sizes of masks and the fields of masks.
 ghost use mathlib.Core.Path.{_≡_};
-ghost use Prim.Native.Nat.{_+_, _%_, _<_};
+ghost use Prim.Native.Nat.{_+_, _%_};
 ghost use Rattle.layout.specs.Parts.{free};
 ghost use Rattle.fields.specs.Fields.{sf};
 ghost use Rattle.codes.specs.Fields.{maskField};
-ghost use Rattle.codes.specs.Tables.{rowOf, maskSize, biasSize, firstSatellite, maskSf};
+ghost use Rattle.codes.specs.Bytes.{maskBytes, biasBytes};
+ghost use Rattle.codes.specs.Tables.{maskSize, biasSize, firstSatellite, maskSf};
 use crate::Constellation;
 use crate::masks::full_width;
 use crate::masks::mask_bits;
 use layout::Field;
 
-// "Mask sizes for size codes 0 to 3"
-const MASK_SIZES: [[u32; 4]; 5] = [
-    [32, 44, 56, 64],
-    [24, 36, 48, 63],
-    [36, 45, 54, 64],
-    [37, 46, 55, 64],
-    [10, 40, 48, 64],
-];
-
-// "Bias masks", for size codes 0 and 1
-const BIAS_MASK_SIZES: [[u32; 2]; 5] = [[6, 11], [5, 9], [8, 15], [8, 15], [6, 11]];
-
-// The subtype, which is the row in each table.
-fn row_of(constellation: Constellation) -> usize
-    ensures { λ r. ⌜ (r ≡ rowOf constellation) × (r < 5) ⌝ }
+// "Mask sizes for size codes 0 to 3", a byte each, that of code 0 the last. A number, and no array, which would be laid out on the stack at each call.
+fn mask_sizes(constellation: Constellation) -> u64
+    ensures { λ r. ⌜ r ≡ maskBytes constellation ⌝ }
 {
     match constellation {
-        Constellation::Gps => 0,
-        Constellation::Glonass => 1,
-        Constellation::Galileo => 2,
-        Constellation::BeiDou => 3,
-        Constellation::Qzss => 4,
+        Constellation::Gps => 0x40_38_2C_20,
+        Constellation::Glonass => 0x3F_30_24_18,
+        Constellation::Galileo => 0x40_36_2D_24,
+        Constellation::BeiDou => 0x40_37_2E_25,
+        Constellation::Qzss => 0x40_30_28_0A,
+    }
+}
+
+// "Bias masks", for size codes 0 and 1, likewise.
+fn bias_sizes(constellation: Constellation) -> u64
+    ensures { λ r. ⌜ r ≡ biasBytes constellation ⌝ }
+{
+    match constellation {
+        Constellation::Gps => 0x0B_06,
+        Constellation::Glonass => 0x09_05,
+        Constellation::Galileo => 0x0F_08,
+        Constellation::BeiDou => 0x0F_08,
+        Constellation::Qzss => 0x0B_06,
     }
 }
 
@@ -39,26 +41,22 @@ fn row_of(constellation: Constellation) -> usize
 pub fn mask_size(constellation: Constellation, size: u64) -> u32
     ensures { λ r. ⌜ r ≡ maskSize constellation size ⌝ }
 {
-    let row = row_of(constellation);
     if size < 4 {
-        let column = size as usize;
-        MASK_SIZES[row][column]
-    } else {
-        64
+        let sizes = mask_sizes(constellation);
+        return ((sizes >> (8 * size)) % 256) as u32;
     }
+    64
 }
 
 // The bits of a bias mask. A size code has one bit.
 pub fn bias_size(constellation: Constellation, size: u64) -> u32
     ensures { λ r. ⌜ r ≡ biasSize constellation size ⌝ }
 {
-    let row = row_of(constellation);
     if size < 2 {
-        let column = size as usize;
-        BIAS_MASK_SIZES[row][column]
-    } else {
-        15
+        let sizes = bias_sizes(constellation);
+        return ((sizes >> (8 * size)) % 256) as u32;
     }
+    15
 }
 
 // The satellite number of mask position 0.

@@ -6,6 +6,9 @@ ghost use Prim.Native.Nat.{_<_};
 ghost use lib.ListN.{getD};
 ghost use Rattle.fields.specs.Fields.{noLine, lineOf, fieldOf, sf};
 ghost use Rattle.fields.specs.Columns.{struct, numbersOf};
+
+pub mod packed;
+
 use answer::Refusal;
 use layout::Field;
 use layout::up_to;
@@ -206,7 +209,7 @@ fn no_numbers() -> Numbers
 }
 
 // The field SF `number`; a field without bits where there is none. By `match`, since that becomes a table in the program's
-// constants, which an array does not: every cell of a row comes here.
+// constants, which an array does not: every field that a machine names comes here.
 pub fn sf(number: u64) -> Field
     ensures { λ r. ⌜ r ≡ sf number ⌝ }
 {

@@ -1,5 +1,5 @@
 -- Mirror: for_bpac.rt, a BPAC judged by positions. It serves proofs, and BpacReads.antt proves what it finds.
-use mathlib.Core.Path.{_≡_, refl, ap, ap₂, sym, _∙_}
+use mathlib.Core.Path.{_≡_, refl, ap, sym, _∙_}
 use mathlib.Core.Bool.{Bool, true, false}
 use mathlib.Core.List.{List}
 use Prim.Native.Nat.{ℕ, zero, suc, _+_, _-_, _*_, _/_, _%_, _^_, _≤_, _<_}
@@ -14,7 +14,7 @@ use Rattle.layout.specs.Tests.{one-less}
 use Rattle.quick.specs.Passes.{got-small}
 use Rattle.quick.specs.declared.Quick.{Quick}
 use Rattle.quick.specs.declared.behind.Behind.{Behind}
-use Rattle.quick.specs.Behind.{nowhere, to, after, repeated, readsTo}
+use Rattle.quick.specs.Behind.{nowhere, to, repeated, readsTo}
 
 -- SF073, SF074 and SF080 of the 43 bits of an area's head
 unfoldable pub headFits : (head : ℕ) → Bool

@@ -2,7 +2,7 @@
 use mathlib.Core.Path.{_≡_, refl, ap, ap₂, sym, _∙_, subst}
 use mathlib.Core.Bool.{Bool, true, false, false≢true}
 use mathlib.Core.List.{List, [], _∷_, _++_}
-use Prim.Native.Nat.{ℕ, zero, suc, _+_, _-_, _*_, _/_, _%_, _^_, _≤_, _<_}
+use Prim.Native.Nat.{ℕ, zero, suc, _+_, _-_, _*_, _/_, _%_, _≤_, _<_}
 use native.Mathlib.Numerals.{add-one}
 use native.Mathlib.Omega.{arith}
 use borrow.Author.Tests.{eqb-true, eqb-false, ltb-false}
@@ -10,7 +10,6 @@ use lib.Count.{ones}
 use lib.Dec.{eqb, ltb, lit≤}
 use lib.ListN.{length}
 use Rattle.bits.specs.Bits.{toBits, got}
-use Rattle.layout.specs.declared.Field.{Field}
 use Rattle.layout.specs.Layout.{Layout, field, pick}
 use Rattle.layout.specs.Parts.{free, times}
 use Rattle.layout.specs.Run.{finished, runL}
@@ -19,11 +18,10 @@ use Rattle.bpac.specs.Bpac as bpac
 use Rattle.message.specs.Messages.{Message, bpacMessage, bpacLayout}
 use Rattle.quick.specs.Passes.{Full, Has, Passes, runFrom, run-field, has-full, taken-full, got-small, got-part, passes-end, passes-field, passes-with, passes-as, passes-then, times-none, times-more, passes-whole}
 use Rattle.quick.specs.Codes.{full, full-free, ranged, has-up-to}
-use Rattle.quick.specs.declared.Quick.{Quick}
-use Rattle.quick.specs.declared.Quick.the-variants.{Reads, Unknown}
+use Rattle.quick.specs.declared.Quick.the-variants.{Reads}
 use Rattle.quick.specs.declared.behind.Behind.{Behind}
-use Rattle.quick.specs.Behind.{nowhere, to, after, repeated, readsTo}
-use Rattle.quick.specs.Passed.{Passed, Some, some-after, passed-if, passed-after, passes-from, passes-wide, has-wide, has-below, Whole, reads-whole}
+use Rattle.quick.specs.Behind.{repeated}
+use Rattle.quick.specs.Passed.{Passed, Some, some-after, passed-if, passed-after, passes-from, passes-wide, has-wide, has-below, reads-whole}
 use Rattle.quick.specs.Bpac.{headFits, lastNode, setIn, vtecsEnd, vtecsBehind, nodesBehind, areaBehind, bpacOf}
 
 -- ---- VTEC blocks

@@ -1,25 +1,23 @@
 -- Serves proofs, and is proved: a GAD that for_gad.rt passes reads by its layout, to that bit and in so many entries.
-use mathlib.Core.Path.{_≡_, refl, ap, ap₂, sym, _∙_, subst}
+use mathlib.Core.Path.{_≡_, refl, ap, ap₂, _∙_, subst}
 use mathlib.Core.Bool.{Bool, true, false, false≢true}
 use mathlib.Core.List.{List, []}
-use Prim.Native.Nat.{ℕ, zero, suc, _+_, _-_, _*_, _/_, _%_, _≤_, _<_}
+use Prim.Native.Nat.{ℕ, zero, suc, _+_, _*_, _/_, _%_, _≤_}
 use native.Mathlib.Numerals.{add-one}
 use native.Mathlib.Omega.{arith}
 use borrow.Author.Tests.{ltb-false, leb-true}
 use lib.Dec.{ltb, leb, lit≤}
 use lib.ListN.{length}
 use Rattle.bits.specs.Bits.{toBits, got}
-use Rattle.layout.specs.declared.Field.{Field}
-use Rattle.layout.specs.Layout.{Layout, field, pick}
+use Rattle.layout.specs.Layout.{pick}
 use Rattle.layout.specs.Parts.{times}
 use Rattle.layout.specs.Run.{finished, runL}
 use Rattle.fields.specs.Fields.{table, find, lineOf, sf}
-use Rattle.gad.specs.Gad.{Block, block, gad}
-use Rattle.message.specs.Messages.{Message, gadMessage, gadLayout}
-use Rattle.quick.specs.Passes.{Full, Has, Passes, has-full, taken-up-to, got-part, passes-end, passes-field, passes-with, passes-as, times-none, times-more, passes-whole}
+use Rattle.gad.specs.Gad.{block, gad}
+use Rattle.message.specs.Messages.{gadMessage, gadLayout}
+use Rattle.quick.specs.Passes.{Passes, has-full, got-part, passes-end, passes-field, passes-with, passes-as, times-none, times-more, passes-whole}
 use Rattle.quick.specs.Codes.{both, unless, where-fit, full, ranged, has-up-to}
-use Rattle.quick.specs.declared.Quick.{Quick}
-use Rattle.quick.specs.declared.Quick.the-variants.{Reads, Unknown}
+use Rattle.quick.specs.declared.Quick.the-variants.{Reads}
 use Rattle.quick.specs.Gad.{blockFits, blocksFit, gadBy, gadOf}
 
 -- what the tests of a block say

@@ -3,7 +3,7 @@ use mathlib.Core.Path.{_≡_, refl, ap, ap₂, sym, _∙_, subst}
 use mathlib.Core.Bool.{Bool, true, false}
 use mathlib.Core.List.{List, [], _∷_}
 use Prim.Native.Nat.{ℕ, zero, suc, _+_, _-_, _*_, _/_, _%_, _^_, _≤_, _<_}
-use native.Mathlib.Nat.{zero-mul, suc-mul, mul-comm, add-comm, div-one}
+use native.Mathlib.Nat.{zero-mul, suc-mul, mul-comm, div-one}
 use native.Mathlib.Numerals.{add-one}
 use native.Mathlib.Omega.{arith}
 use borrow.Author.Tests.{eqb-true, eqb-false, ltb-false, le-leb, lt-leb}
@@ -11,12 +11,11 @@ use lib.Bits.{bitAnd, and-mask}
 use lib.Count.{ones}
 use lib.Dec.{eqb, ltb, leb, lit≤}
 use lib.ListN.{length}
-use lib.Pow.{pow-pos, shr-mod}
+use lib.Pow.{shr-mod}
 use Rattle.bits.specs.Bits.{toBits, got}
 use Rattle.layout.specs.declared.Field.{Field}
-use Rattle.layout.specs.declared.Verdict.the-variants.{Taken}
-use Rattle.layout.specs.Layout.{Layout, field, pick, judge}
-use Rattle.layout.specs.Parts.{Part, absent, present, optional, times, each}
+use Rattle.layout.specs.Layout.{Layout, field, pick}
+use Rattle.layout.specs.Parts.{absent, present, optional, times, each}
 use Rattle.layout.specs.Run.{finished, runL}
 use Rattle.fields.specs.Fields.{table, find, lineOf, sf}
 use Rattle.codes.specs.declared.Constellation.{Constellation}
@@ -24,15 +23,14 @@ use Rattle.codes.specs.declared.Constellation.the-variants.{Gps, Glonass, Galil
 use Rattle.codes.specs.Tables.{maskSf, maskSize, firstSatellite}
 use Rattle.codes.specs.Fields.{maskField, satellitesOf}
 use Rattle.codes.specs.Sizes.{mask-word, mask-size-width}
-use Rattle.hpac.specs.Hpac.{Slopes, Polynomial, Grid, Ionosphere, Area, Hpac, slopes, polynomial, grid, troposphereConstant, troposphereLinear, troposphereProduct, troposphereResidual, troposphere, ionosphereConstant, ionosphereLinear, ionosphereProduct, ionosphereResidual, slant, ionosphere, area, hpac}
+use Rattle.hpac.specs.Hpac.{Slopes, Ionosphere, Area, slopes, polynomial, grid, troposphereConstant, troposphereLinear, troposphereProduct, troposphereResidual, troposphere, ionosphereConstant, ionosphereLinear, ionosphereProduct, ionosphereResidual, slant, ionosphere, area, hpac}
 use Rattle.message.specs.Messages.{Message, hpacMessage, hpacLayout}
-use Rattle.quick.specs.declared.Quick.{Quick}
-use Rattle.quick.specs.declared.Quick.the-variants.{Reads, Unknown}
+use Rattle.quick.specs.declared.Quick.the-variants.{Reads}
 use Rattle.quick.specs.declared.for_hpac.Behind.{Behind}
 use Rattle.quick.specs.Passes.{Full, Has, Passes, has-full, taken-up-to, taken-full, got-small, got-part, passes-end, passes-field, passes-then, passes-with, passes-as, passes-optional, passes-stretch, times-none, times-more, each-none, each-more, passes-whole}
 use Rattle.quick.specs.Codes.{unless, Ranged, ranged, full}
 use Rattle.quick.specs.Passed.{passes-wide, passes-from}
-use Rattle.quick.specs.Counted.{satellites-counted}
+use Rattle.codes.specs.Stepping.{counted}
 use Rattle.quick.specs.Hpac.{oneEnd, threeEnd, linearEnd, productEnd, tPolynomialEnd, iPolynomialEnd, coefficientCount, gridEntries, slantEnd, slantsEnd, nowhere, satellitesBehind, ionosphereBehind, tGridBehind, troposphereBehind, ionosphereAfter, areaBehind, areasBehind, readsBy, hpacQuick}
 
 -- ---- tests that a part which passes has met
@@ -346,12 +344,12 @@ module _ {A : Type 0} (c : Constellation) (payload : List ℕ) (pos blocks point
       let many : ℕ = 2 + coefficientCount equation + gridEntries (leb 2 blocks) points in
       let s : satellitesBehind payload start mask equation (leb 2 blocks) points .end ≡ 0 → ⊥ = λ z. h (ap (λ (x : Behind). x .end) (sym q) ∙ z) in
       let p = beyond (eqb mask 0) (record { end = slantsEnd payload (ones mask) start equation (leb 2 blocks) points; entries = 3 + ones mask * many }) s in
-      let counted : length ms ≡ ones mask = satellites-counted (firstSatellite c) width mask (got-small payload (pos + 5) width) in
+      let all-set : length ms ≡ ones mask = counted (firstSatellite c) width mask (got-small payload (pos + 5) width) in
       let end : ℕ = slantsEnd payload (ones mask) start equation (leb 2 blocks) points in
       let slants : Passes {A = A} payload (each ms (slant blocks points equation)) start end (ones mask * many)
-      = subst (λ (x : ℕ). Passes {A = A} payload (each ms (slant blocks points equation)) start (slantsEnd payload x start equation (leb 2 blocks) points) (x * many)) counted
+      = subst (λ (x : ℕ). Passes {A = A} payload (each ms (slant blocks points equation)) start (slantsEnd payload x start equation (leb 2 blocks) points) (x * many)) all-set
       (slants-pass payload equation blocks points m ms start
-      (λ z. p .some (ap (λ (x : ℕ). slantsEnd payload x start equation (leb 2 blocks) points) (sym counted) ∙ z))) in
+      (λ z. p .some (ap (λ (x : ℕ). slantsEnd payload x start equation (leb 2 blocks) points) (sym all-set) ∙ z))) in
       let long : start ≤ end = slants .onward in
       let five : pos + 3 + 2 ≡ pos + 5 = omega arith in
       subst (λ d. Goes {A = A} payload (ionosphere c blocks points) pos d) (p .is ∙ q)

@@ -2,7 +2,6 @@ pub mod Passes
 pub mod Codes
 pub mod Behind
 pub mod Passed
-pub mod Counted
 pub mod Gad
 pub mod GadReads
 pub mod Ocb

@@ -1,13 +1,12 @@
 -- Mirror: for_ocb.rt, an OCB judged by positions. It serves proofs, and OcbReads.antt proves what it finds.
-use mathlib.Core.Path.{_≡_, refl, ap, sym, _∙_}
+use mathlib.Core.Path.{_≡_}
 use mathlib.Core.Bool.{Bool, true, false}
 use mathlib.Core.List.{List}
-use Prim.Native.Nat.{ℕ, zero, suc, _+_, _-_, _*_, _/_, _%_, _≤_, _<_}
+use Prim.Native.Nat.{ℕ, _+_, _*_, _/_, _%_, _≤_, _<_}
 use native.Mathlib.Omega.{arith}
-use borrow.Author.Tests.{eq-eqb, ne-eqb, lt-ltb, le-ltb, le-leb, lt-leb}
+use borrow.Author.Tests.{eq-eqb, ne-eqb, le-leb, lt-leb}
 use lib.Count.{ones}
-use lib.Dec.{eqb, ltb, leb}
-use lib.ListN.{length}
+use lib.Dec.{eqb, leb}
 use Rattle.bits.specs.Bits.{got}
 use Rattle.layout.specs.Layout.{pick}
 use Rattle.codes.specs.declared.Constellation.{Constellation}
@@ -15,7 +14,7 @@ use Rattle.codes.specs.declared.Constellation.the-variants.{Gps, Glonass, Galil
 use Rattle.codes.specs.Tables.{maskSize, biasSize}
 use Rattle.codes.specs.Sizes.{mask-word, bias-word}
 use Rattle.quick.specs.declared.Quick.{Quick}
-use Rattle.quick.specs.declared.Quick.the-variants.{Reads, Unknown}
+use Rattle.quick.specs.declared.Quick.the-variants.{Unknown}
 use Rattle.quick.specs.declared.behind.Behind.{Behind}
 use Rattle.quick.specs.declared.for_ocb.Mask.{Mask}
 use Rattle.quick.specs.Behind.{nowhere, to, after, repeated, without, readsTo}

@@ -2,16 +2,15 @@
 use mathlib.Core.Path.{_≡_, refl, ap, ap₂, sym, _∙_, subst}
 use mathlib.Core.Bool.{Bool, true, false, false≢true}
 use mathlib.Core.List.{List, [], _∷_}
-use Prim.Native.Nat.{ℕ, zero, suc, _+_, _-_, _*_, _/_, _%_, _^_, _≤_, _<_}
+use Prim.Native.Nat.{ℕ, zero, suc, _+_, _*_, _/_, _%_, _^_, _≤_, _<_}
 use native.Mathlib.Omega.{arith}
 use borrow.Author.Tests.{eqb-true, eqb-false, leb-true}
 use lib.Count.{ones}
 use lib.Dec.{eqb, leb, lit≤}
 use lib.ListN.{length}
 use Rattle.bits.specs.Bits.{toBits, got}
-use Rattle.layout.specs.declared.Field.{Field}
 use Rattle.layout.specs.Layout.{Layout, field, pick}
-use Rattle.layout.specs.Parts.{free, Part, optional, times, each}
+use Rattle.layout.specs.Parts.{Part, optional, times, each}
 use Rattle.layout.specs.Run.{finished, runL}
 use Rattle.fields.specs.Fields.{table, find, lineOf, sf}
 use Rattle.codes.specs.declared.Constellation.{Constellation}
@@ -22,14 +21,13 @@ use Rattle.codes.specs.Fields.{maskField, satellitesOf}
 use Rattle.ocb.specs.Tables.{ephemerisSf, iodeSf, phaseSf, codeSf}
 use Rattle.ocb.specs.Ocb as ocb
 use Rattle.message.specs.Messages.{Message, ocbMessage, ocbLayout}
-use Rattle.quick.specs.Passes.{Full, Has, Passes, has-full, taken-up-to, taken-extra, got-small, got-part, passes-end, passes-field, passes-with, passes-as, passes-then, times-none, times-more, each-none, each-more, passes-whole}
+use Rattle.quick.specs.Passes.{Full, Has, Passes, has-full, taken-up-to, taken-extra, got-small, got-part, passes-end, passes-field, passes-with, passes-as, times-none, times-more, each-none, passes-whole}
 use Rattle.quick.specs.Codes.{full, full-free, ranged, unless}
-use Rattle.quick.specs.declared.Quick.{Quick}
-use Rattle.quick.specs.declared.Quick.the-variants.{Reads, Unknown}
+use Rattle.quick.specs.declared.Quick.the-variants.{Reads}
 use Rattle.quick.specs.declared.behind.Behind.{Behind}
-use Rattle.quick.specs.Behind.{nowhere, to, after, repeated, without, readsTo}
-use Rattle.quick.specs.Passed.{Passed, Some, some-if, some-unless, some-after, passed-if, passed-unless, passed-optional, passed-after, passes-from, passes-wide, has-wide, has-below, Whole, reads-whole}
-use Rattle.quick.specs.Counted.{satellites-counted}
+use Rattle.quick.specs.Behind.{to, after, repeated, without}
+use Rattle.quick.specs.Passed.{Passed, Some, some-after, passed-if, passed-unless, passed-optional, passed-after, passes-from, passes-wide, has-wide, has-below, reads-whole}
+use Rattle.codes.specs.Stepping.{counted}
 use Rattle.quick.specs.Ocb.{ephemerisWidth, iodeWidth, threeFit, yawFits, yawIf, orbitBehind, clockBehind, biasMask, phasesAfter, codesAfter, phasesBehind, codesBehind, biasIf, clockIf, orbitIf, blocksBehind, satelliteBehind, ocbBy, ocbOf}
 
 -- ---- fields that go by the constellation
@@ -444,7 +442,7 @@ masked-passed : {A : Type 0} (payload : List ℕ) (c : Constellation) (yaw size 
 masked-passed {A} payload c yaw size mask pos at h s =
     let ms : List ℕ = satellitesOf c size mask in
     let part : ℕ → ℕ → Behind = satelliteBehind c yaw payload in
-    let e : length ms ≡ ones mask = satellites-counted (firstSatellite c) (maskSize c size) mask h in
+    let e : length ms ≡ ones mask = counted (firstSatellite c) (maskSize c size) mask h in
     subst (λ n. Passed {A = A} payload (each ms (ocb.satellite c yaw)) pos at (repeated part n pos at)) e
     (satellites-passed payload c yaw ms pos at (subst (λ n. Some (repeated part n pos at)) (sym e) s))
 

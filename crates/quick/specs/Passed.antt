@@ -1,22 +1,21 @@
 -- Serves proofs, and is proved: parts of a message that end where the code says, with so many entries to there.
-use mathlib.Core.Path.{_≡_, refl, ap, sym, _∙_, subst}
+use mathlib.Core.Path.{_≡_, refl, ap, sym, subst}
 use mathlib.Core.Bool.{Bool, true, false}
-use mathlib.Core.List.{List, [], _∷_}
-use Prim.Native.Nat.{ℕ, zero, suc, _+_, _-_, _*_, _/_, _^_, _≤_, _<_}
+use mathlib.Core.List.{List}
+use Prim.Native.Nat.{ℕ, suc, _+_, _-_, _*_, _/_, _^_, _≤_}
 use native.Mathlib.Omega.{arith}
-use borrow.Author.Tests.{eqb-true, eqb-false, ltb-false}
+use borrow.Author.Tests.{eqb-false, ltb-false}
 use lib.Dec.{eqb, ltb}
 use lib.ListN.{length}
 use Rattle.bits.specs.Bits.{got}
 use Rattle.layout.specs.declared.Field.{Field}
 use Rattle.layout.specs.Layout.{Layout, field, pick}
-use Rattle.layout.specs.Parts.{Part, absent, present, optional, times, each}
-use Rattle.quick.specs.declared.Quick.{Quick}
+use Rattle.layout.specs.Parts.{absent, present, optional}
 use Rattle.quick.specs.declared.Quick.the-variants.{Reads, Unknown}
 use Rattle.quick.specs.declared.behind.Behind.{Behind}
-use Rattle.quick.specs.Passes.{Full, Has, Passes, has-full, taken-up-to, got-small, passes-end, passes-field, passes-then, passes-with}
+use Rattle.quick.specs.Passes.{Full, Has, Passes, has-full, got-small, passes-end, passes-field, passes-then, passes-with}
 use Rattle.quick.specs.Codes.{Ranged, has-up-to}
-use Rattle.quick.specs.Behind.{nowhere, to, after, repeated, readsTo}
+use Rattle.quick.specs.Behind.{nowhere, to, after, readsTo}
 
 -- the part goes to the end that is said, and as many entries are behind it as are said
 pub record Passed {A B : Type 0} (payload : List ℕ) (part : (B → Layout A) → Layout A) (pos at : ℕ) (b : Behind) : Type 0 where
@@ -33,11 +32,7 @@ none s = absurd (s .some refl)
 
 -- ---- tests
 
--- a test that must hold, and one that must not
-pub some-if : (b : Bool) {x : Behind} → Some (pick b x nowhere) → (b ≡ true) × Some x
-some-if true s = (refl, s)
-some-if false s = none s
-
+-- a test that must not hold
 pub some-unless : (b : Bool) {x : Behind} → Some (pick b nowhere x) → (b ≡ false) × Some x
 some-unless true s = none s
 some-unless false s = (refl, s)

@@ -1,17 +1,17 @@
 -- Serves proofs, and is proved: parts of a message passed at a position of a payload, without a look at what stands in the sheet. Positions only grow, so that all
 -- of a message's bits are there if its end is: each law says what holds then.
---     a field            run-field passes-field passes-free
---     parts in a row     passes-end passes-then passes-with passes-as
---     repeats            passes-optional passes-absent passes-stretch times-none times-more each-none each-more
---     codes              taken-up-to taken-full taken-symmetric got-part got-small
-use mathlib.Core.Path.{_≡_, refl, ap, ap₂, sym, _∙_, subst}
+--     a field            run-field passes-field passes-full
+--     parts in a row     passes-end passes-then passes-with passes-as passes-whole
+--     repeats            passes-optional passes-stretch times-none times-more each-none each-more
+--     codes              taken-extra taken-up-to taken-full got-part got-small
+use mathlib.Core.Path.{_≡_, refl, ap, sym, _∙_, subst}
 use mathlib.Core.Bool.{Bool, true, false, cond}
 use mathlib.Core.List.{List, [], _∷_}
-use Prim.Native.Nat.{ℕ, zero, suc, _+_, _-_, _*_, _/_, _%_, _^_, _≤_, _<_}
+use Prim.Native.Nat.{ℕ, zero, suc, _+_, _*_, _/_, _%_, _^_, _≤_, _<_}
 use native.Mathlib.Nat.{add-zero, add-assoc, zero-add, suc-mul}
 use native.Mathlib.Omega.{arith}
-use borrow.Author.Tests.{le-leb, lt-leb, le-ltb, lt-ltb, eq-eqb, ne-eqb, eqb-true, eqb-false}
-use lib.Dec.{eqb, ltb, leb}
+use borrow.Author.Tests.{le-leb, le-ltb, eq-eqb, eqb-true, eqb-false}
+use lib.Dec.{eqb}
 use lib.ListN.{length, take, drop, length-drop}
 use lib.Pow.{pow-pos}
 use lib.Seq.{drop-drop}
@@ -21,7 +21,7 @@ use Rattle.bits.specs.Laws.{length-toBits, got-there, field-lt, field-part}
 use Rattle.layout.specs.declared.Field.{Field}
 use Rattle.layout.specs.declared.Verdict.the-variants.{Taken}
 use Rattle.layout.specs.Layout.{Layout, done, field, pick, judge}
-use Rattle.layout.specs.Parts.{Part, absent, present, optional, times, each}
+use Rattle.layout.specs.Parts.{absent, present, optional, times, each}
 use Rattle.layout.specs.Run.{Ended, finished, runL}
 
 -- ---- the codes that a field takes

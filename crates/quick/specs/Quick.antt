@@ -1,5 +1,5 @@
 -- Mirror: the code of lib.rt. It serves proofs, and it is proved that what it says reads (`quick-reads`).
-use mathlib.Core.Path.{_≡_, refl, ap, sym, _∙_}
+use mathlib.Core.Path.{_≡_, ap, sym, _∙_}
 use mathlib.Core.Bool.{Bool, true, false}
 use mathlib.Core.List.{List, []}
 use Prim.Native.Nat.{ℕ}
@@ -13,7 +13,7 @@ use Rattle.codes.specs.declared.Constellation.{Constellation}
 use Rattle.codes.specs.declared.Constellation.the-variants.{Gps, Glonass, Galileo, BeiDou, Qzss}
 use Rattle.message.specs.declared.Subtype.{Subtype}
 use Rattle.message.specs.declared.Subtype.the-variants as sub
-use Rattle.message.specs.Messages.{Message, ocbLayout, hpacLayout, gadLayout, bpacLayout, constellationOf, constellationFor, byConstellation, layoutFor}
+use Rattle.message.specs.Messages.{Message, ocbLayout, hpacLayout, constellationOf, constellationFor, byConstellation, layoutFor}
 use Rattle.quick.specs.declared.Quick.{Quick}
 use Rattle.quick.specs.declared.Quick.the-variants.{Reads, Unknown}
 use Rattle.quick.specs.Ocb.{ocbOf}

@@ -10,7 +10,7 @@ use codes::tables::mask_size;
 use hpac::spans::i_residual_width;
 use hpac::spans::t_residual_width;
 
-// Behind a part that passes: its end, and how many entries came before it; an end of 0 is none.
+// Behind a part that passes: its end, and how many entries the part has; an end of 0 says that it does not pass.
 struct Behind {
     end: usize,
     entries: u64,

@@ -3,39 +3,17 @@ ghost use mathlib.Core.Path.{_≡_};
 ghost use Prim.Native.Nat.{_+_, _^_, _≤_, _<_};
 ghost use Rattle.codes.specs.Tables.{maskSize, biasSize};
 ghost use Rattle.quick.specs.Behind.{without, repeated};
-ghost use Rattle.quick.specs.Ocb.{ephemerisWidth, iodeWidth, threeFit, yawFits, yawIf, orbitBehind, orbitIf, clockBehind, clockIf, biasMask, phasesBehind, codesBehind, biasIf, blocksBehind, satelliteBehind, ocbOf};
+ghost use Rattle.quick.specs.Ocb.{threeFit, yawFits, yawIf, orbitBehind, orbitIf, clockBehind, clockIf, biasMask, phasesBehind, codesBehind, biasIf, blocksBehind, satelliteBehind, ocbOf};
 use crate::Quick;
 use crate::behind::Behind;
 use crate::behind::nowhere;
 use crate::behind::reads_to;
+use crate::widths::ephemeris_width;
+use crate::widths::iode_width;
 use codes::Constellation;
 use codes::satellites::set_bits;
 use codes::tables::bias_size;
 use codes::tables::mask_size;
-
-fn ephemeris_width(constellation: Constellation) -> usize
-    ensures { λ r. ⌜ (r ≡ ephemerisWidth constellation) × (r ≤ 10) ⌝ }
-{
-    match constellation {
-        Constellation::Gps => 2,
-        Constellation::Glonass => 2,
-        Constellation::Galileo => 3,
-        Constellation::BeiDou => 4,
-        Constellation::Qzss => 3,
-    }
-}
-
-fn iode_width(constellation: Constellation) -> usize
-    ensures { λ r. ⌜ (r ≡ iodeWidth constellation) × (r ≤ 10) ⌝ }
-{
-    match constellation {
-        Constellation::Gps => 8,
-        Constellation::Glonass => 7,
-        Constellation::Galileo => 10,
-        Constellation::BeiDou => 8,
-        Constellation::Qzss => 8,
-    }
-}
 
 // SF020 three times: none is all ones.
 fn three_fit(three: u64) -> bool
@@ -92,7 +70,7 @@ fn orbit_behind(
     requires { ⌜ (pos < 2 ^ 32) × (at < 2 ^ 32) ⌝ }
     ensures { λ r. ⌜ (r ≡ orbitBehind constellation yaw (now (payload .entry)) pos at) × (r .end ≤ pos + 64) × (r .entries ≤ at + 5) ⌝ }
 {
-    let start = pos + iode_width(constellation);
+    let start = pos + iode_width(constellation) as usize;
     if three_fit(bits::get(payload, start, 42)) {
         return yaw_if(yaw, payload, start + 42, at + 4);
     }
@@ -335,7 +313,7 @@ fn mask_width(constellation: Constellation, size: u64) -> u32
 pub fn judge(constellation: Constellation, payload: &[u8]) -> Quick
     ensures { λ r. ⌜ r ≡ ocbOf constellation (now (payload .entry)) ⌝ }
 {
-    let start = 13 + ephemeris_width(constellation);
+    let start = 13 + ephemeris_width(constellation) as usize;
     let width = mask_width(constellation, bits::get(payload, start, 2));
     let mask = bits::get(payload, start + 2, width);
     if mask == 0 {

@@ -8,6 +8,7 @@ mod for_bpac;
 mod for_gad;
 mod for_hpac;
 mod for_ocb;
+pub mod widths;
 
 use message::Subtype;
 

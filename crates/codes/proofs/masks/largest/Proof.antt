@@ -1,6 +1,5 @@
 -- `1 << width` is 2 to the width below 64 bits; at 64 the largest word is written out.
 use Rattle.codes.proofs.Laws.{shifted-some, shifted-top, all-ones}
-use Rattle.bits.specs.Laws.{one-shl}
 use borrow.Author.Needs.{needs}
 use Rattle.codes.proofs.masks.largest.Statement.{statement}
 use Rattle.codes.proofs.masks.largest.Tie as tie

@@ -2,7 +2,6 @@
 use lib.Count.{ones-le}
 use mathlib.Core.Path.{refl}
 use native.Mathlib.Omega.{arith}
-use borrow.Author.Needs.{needs}
 use Rattle.codes.proofs.satellites.set_bits.Statement.{statement}
 use Rattle.codes.proofs.satellites.set_bits.Tie as tie
 

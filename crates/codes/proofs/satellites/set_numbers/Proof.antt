@@ -1,5 +1,4 @@
 -- The loop keeps the numbers found so far, zeros behind them, and what the bits that are left say (Listing.antt).
-use native.Mathlib.Omega.{arith}
 use Rattle.codes.specs.Listing.{Listing, listing-starts, listing-set, listing-clear, listing-ends}
 use borrow.Author.Needs.{needs}
 use Rattle.codes.proofs.satellites.set_numbers.Statement.{statement}

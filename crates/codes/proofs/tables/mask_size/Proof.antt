@@ -1,40 +1,28 @@
--- The table in the code is the table of the definition; past its columns both give the last default.
-use Rattle.codes.specs.Tables.{maskSizes}
-use Rattle.codes.proofs.Laws.{mask-at, mask-past}
+-- The byte of a size code is the size of the table; past them both give the last default.
+use Rattle.codes.specs.Bytes.{mask-byte}
+use Rattle.codes.proofs.Laws.{mask-past}
 use borrow.Author.Needs.{needs}
 use Rattle.codes.proofs.tables.mask_size.Statement.{statement}
 use Rattle.codes.proofs.tables.mask_size.Tie as tie
 
-row-of-requires : tie.Need-row-of-requires
-row-of-requires c κs = search needs
+mask-sizes-requires : tie.Need-mask-sizes-requires
+mask-sizes-requires c κs = search needs
 
 mul-result : tie.Need-mul-result
 mul-result c = search needs
 
-mul-result-2 : tie.Need-mul-result-2
-mul-result-2 c = search needs
+shr-result : tie.Need-shr-result
+shr-result c = search needs
 
-index-1-result : tie.Need-index-1-result
-index-1-result c = search needs
-
-index-2-result : tie.Need-index-2-result
-index-2-result c = search needs
+cast-result : tie.Need-cast-result
+cast-result c = search needs
 
 returns : tie.Need-returns
-unfolding maskSizes
-returns c = search (mask-at, needs)
+returns c = search (mask-byte, needs)
 
 returns-2 : tie.Need-returns-2
 returns-2 c = search (mask-past, needs)
 
 pub mask-size-spec : {M : Type 1} → statement M
 mask-size-spec =
-    tie.close
-    (tie.spec
-    row-of-requires
-    mul-result
-    mul-result-2
-    index-1-result
-    index-2-result
-    returns
-    returns-2)
+    tie.close (tie.spec mask-sizes-requires mul-result shr-result cast-result returns returns-2)

@@ -7,6 +7,9 @@ use Rattle.quick.proofs.for_ocb.judge.Tie as tie
 ephemeris-width-requires : tie.Need-ephemeris-width-requires
 ephemeris-width-requires c κs = search needs
 
+cast-start : tie.Need-cast-start
+cast-start c = search needs
+
 add-start : tie.Need-add-start
 add-start c = search needs
 
@@ -54,6 +57,7 @@ judge-spec =
     tie.close
     (tie.spec
     ephemeris-width-requires
+    cast-start
     add-start
     get-requires
     mask-width-requires

@@ -7,6 +7,9 @@ use Rattle.quick.proofs.for_ocb.orbit_behind.Tie as tie
 iode-width-requires : tie.Need-iode-width-requires
 iode-width-requires c κs = search needs
 
+cast-start : tie.Need-cast-start
+cast-start c = search needs
+
 add-start : tie.Need-add-start
 add-start c = search needs
 
@@ -39,6 +42,7 @@ orbit-behind-spec =
     tie.close
     (tie.spec
     iode-width-requires
+    cast-start
     add-start
     get-requires
     three-fit-requires
