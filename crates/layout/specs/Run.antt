@@ -1,16 +1,16 @@
 -- Serves proofs, and is proved: reading by a layout as a loop over a machine does it, with a position, a place in the sheet and the sheet handed on.
 -- What it comes to is what `readL` says.
-use mathlib.Core.Path.{_≡_, refl, ap, ap₂, sym, _∙_, subst}
+use mathlib.Core.Path.{_≡_, refl, ap, sym, _∙_}
 use mathlib.Core.Bool.{Bool, true, false}
-use mathlib.Core.List.{List, [], _∷_}
-use Prim.Native.Nat.{ℕ, zero, suc, _+_, _^_, _≤_, _<_}
-use native.Mathlib.Nat.{add-zero, add-assoc}
+use mathlib.Core.List.{List}
+use Prim.Native.Nat.{ℕ, suc, _+_, _^_, _≤_, _<_}
+use native.Mathlib.Nat.{add-zero}
 use native.Mathlib.Numerals.{add-one}
 use native.Mathlib.Omega.{arith}
 use borrow.Author.Tests.{le-leb, lt-leb, ltb-false, eqb-true}
 use lib.Dec.{eqb, ltb, leb}
-use lib.ListN.{length, take, drop, set, length-drop}
-use lib.Seq.{sets, drop-drop}
+use lib.ListN.{length, take, drop, set}
+use lib.Seq.{sets}
 use Rattle.answer.specs.declared.Refusal.{Refusal}
 use Rattle.answer.specs.declared.Refusal.the-variants as refusal
 use Rattle.answer.specs.declared.Fault as answer
@@ -157,17 +157,3 @@ module _ {S A : Type 0} {fieldOf : S → Field} {stepOf : S → ℕ → S} (bits
         walks = rest c (taken-fits i k);
         same = rw (le-leb (f .width) (length bits) (omega arith), m, k, same);
       }
-
--- a turn at a position of the whole
-pub run-turn : {S A : Type 0} {fieldOf : S → Field} {stepOf : S → ℕ → S} (bits : List ℕ) (pos at : ℕ) (sheet : List ℕ) {s : S} {l : Layout A} (c : ℕ)
-    → Walks fieldOf stepOf s l → 0 < fieldOf s .width → pos + fieldOf s .width ≤ length bits
-    → c ≡ number (take (fieldOf s .width) (drop pos bits)) → judge (fieldOf s) c ≡ Taken
-    → On fieldOf stepOf (stepOf s c) (runL l (drop pos bits) pos at sheet)
-    (λ (next : Layout A). runL next (drop (pos + fieldOf s .width) bits) (pos + fieldOf s .width) (at + 1) (set sheet at c))
-run-turn {fieldOf} bits pos at sheet {s} c w z h n j =
-    let on = run-on (drop pos bits) pos at sheet c w z (omega (arith, length-drop pos bits)) n j in
-    record {
-      left = on .left;
-      walks = on .walks;
-      same = on .same ∙ ap (λ (b : List ℕ). runL (on .left) b (pos + fieldOf s .width) (at + 1) (set sheet at c)) (drop-drop (fieldOf s .width) pos bits);
-    }

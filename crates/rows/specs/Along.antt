@@ -1,10 +1,9 @@
 -- Laws: what it is for a machine to go along a row's cells, and how it goes along parts that may be absent or repeat.
-use mathlib.Core.Path.{_≡_, refl, ap, ap₂, sym, _∙_, subst}
+use mathlib.Core.Path.{_≡_, ap, ap₂, sym, _∙_, subst}
 use mathlib.Core.Bool.{Bool, true, false}
 use mathlib.Core.List.{List, [], _∷_, _++_}
 use Prim.Native.Nat.{ℕ, zero, suc}
 use Rattle.layout.specs.declared.Field.{Field}
-use Rattle.layout.specs.declared.Verdict.{Verdict}
 use Rattle.layout.specs.Layout.{pick, judge}
 use Rattle.rows.specs.declared.Row.{Row}
 use Rattle.rows.specs.Rows.{widthIn, fieldIn, cellsIn, again}

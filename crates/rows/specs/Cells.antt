@@ -23,7 +23,7 @@ cell-bits cell = go (eqb (sf cell .width) 0) refl
     go true e = (omega arith, omega arith)
     go false e = let n : sf cell .width ≡ 0 → ⊥ = eqb-false (sf cell .width) 0 e in (omega arith, width-small cell)
 
--- the two returns of the code's `field_in`
+-- the field of a cell, by whether its number has one
 pub cell-none : (cell : ℕ) {f r : Field} → f ≡ sf cell → f .width ≡ 0 → r ≡ free cell 1 → r ≡ fieldIn cell
 unfolding fieldIn
 cell-none cell e z q = rw (eq-eqb (sf cell .width) 0 (ap (λ (x : Field). x .width) (sym e) ∙ z)) q

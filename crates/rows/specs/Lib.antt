@@ -2,6 +2,5 @@ pub mod Rows
 pub mod Cells
 pub mod Along
 pub mod Walk
-pub mod Runs
 pub mod Puts
 pub mod Determined

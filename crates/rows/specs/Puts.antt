@@ -1,5 +1,5 @@
 -- Laws: a row written by its cells, and that it comes to what the machine's steps come to by the layout.
-use mathlib.Core.Path.{_≡_, refl, ap, ap₂, sym, _∙_, subst}
+use mathlib.Core.Path.{_≡_, refl, ap, ap₂, sym, _∙_}
 use mathlib.Core.Bool.{Bool, true, false, cond}
 use mathlib.Core.List.{List, _++_, append-assoc}
 use Prim.Native.Nat.{ℕ, suc, _+_, _*_, _^_, _≤_, _<_}
@@ -19,10 +19,9 @@ use Rattle.layout.specs.declared.Verdict.the-variants.{Taken, Fault}
 use Rattle.layout.specs.Layout.{Layout, pick, judge}
 use Rattle.layout.specs.Run.{Ended, stopped}
 use Rattle.layout.specs.Put.{putL, put-short, put-fault, put-on}
-use Rattle.layout.specs.Walks.{Walks}
 use Rattle.rows.specs.Rows.{widthIn, fieldIn}
 use Rattle.rows.specs.Cells.{cell-bits}
-use Rattle.rows.specs.Along.{In, width-is, sf-is, judge-is}
+use Rattle.rows.specs.Along.{width-is, sf-is, judge-is}
 use Rattle.rows.specs.Walk.{Way, walk, Comes, walk-comes, Turned, short, fault, taken, Turns}
 
 -- ---- the count of bits

@@ -1,9 +1,9 @@
--- Serves proofs: a walk over cells, one after the other. Reading a row (Runs.antt) and writing one (Puts.antt) are walks; what a machine that goes along the row
+-- Serves proofs: a walk over cells, one after the other. Writing a row (Puts.antt) is a walk; what a machine that goes along the row
 -- comes to by its layout, a walk over the row comes to.
-use mathlib.Core.Path.{_≡_, refl, ap, sym, _∙_, subst}
+use mathlib.Core.Path.{_≡_, refl, ap, _∙_, subst}
 use mathlib.Core.Bool.{Bool, true, false}
 use mathlib.Core.List.{List, [], _∷_, _++_}
-use Prim.Native.Nat.{ℕ, zero, suc, _+_, _/_, _%_}
+use Prim.Native.Nat.{ℕ, suc, _+_, _/_, _%_}
 use lib.ListN.{length}
 use Rattle.answer.specs.declared.Refusal.{Refusal}
 use Rattle.answer.specs.declared.Refusal.the-variants as refusal

@@ -1,4 +1,4 @@
-// Rows: a machine hands out the fields of a stretch at once, where no code but the last decides what follows, so that a reader or writer goes over them
+// Rows: a machine hands out the fields of a stretch at once, where no code but the last decides what follows, so that a writer goes over them
 // without asking the machine at each.
 ghost use mathlib.Core.Path.{_≡_};
 ghost use Prim.Native.Nat.{_^_, _<_};

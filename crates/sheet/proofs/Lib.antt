@@ -1,6 +1,10 @@
 pub mod Reading
 pub mod Storing
+pub mod StoringGad
+pub mod StoringBpac
+pub mod StoringOcb
 pub mod Writing
+pub mod Lines
 pub mod Walking
-pub mod ReadingRows
+pub mod Repeats
 pub mod WritingRows

@@ -1,14 +1,13 @@
 -- The turns and the ends of a pass over a payload, and of the whole reading, over plain variables: what the proofs of `read` and its parts cite.
 use mathlib.Core.Path.{_≡_, refl, ap, ap₂, sym, _∙_, subst}
 use mathlib.Core.Bool.{Bool, true, false}
-use mathlib.Core.List.{List, [], _∷_, _++_}
+use mathlib.Core.List.{List, []}
 use Prim.Native.Nat.{ℕ, _+_, _-_, _*_, _≤_, _<_}
 use native.Mathlib.Omega.{arith}
 use native.Mathlib.Nat.{zero-add}
-use native.Mathlib.Numerals.{add-one}
 use lib.Dec.{eqb, ltb}
-use lib.ListN.{length, take, drop, set, getD, length-drop, length-set, drop-of-length-le}
-use lib.Seq.{sets, sets-eq, drop-drop, drop-cons, take-at}
+use lib.ListN.{length, take, drop, length-drop}
+use lib.Seq.{sets, sets-eq, drop-drop}
 use borrow.Author.Tests.{lt-ltb, le-ltb, eq-eqb, ne-eqb}
 use Rattle.sizes.specs.Sizes.{longestPayload, sheetRoom}
 use Rattle.answer.specs.declared.Refusal.{Refusal}
@@ -23,7 +22,7 @@ use Rattle.layout.specs.declared.Verdict.{Verdict}
 use Rattle.layout.specs.declared.Verdict.the-variants as verdict
 use Rattle.layout.specs.Layout.{Layout, pick, judge, Outcome, accepted, refused, readL}
 use Rattle.layout.specs.Parts.{Part, absent, present}
-use Rattle.layout.specs.Run.{Ended, finished, stopped, endedOf, runL, run-reads, On, run-done, run-short, run-fault, run-on}
+use Rattle.layout.specs.Run.{finished, stopped, endedOf, runL, run-reads, On, run-done, run-short, run-fault, run-on}
 use Rattle.layout.specs.Walks.{Walks, ends, goes}
 use Rattle.layout.specs.Acceptance.{codes-few}
 use Rattle.layout.specs.RoundTrip.{write-read}
@@ -41,7 +40,7 @@ use Rattle.quick.specs.declared.Quick.the-variants.{Reads}
 use Rattle.quick.specs.Quick.{quickOf, quick-reads}
 use Rattle.sheet.specs.Sheet.{badLength, judging, judged, reading, readAnswerBy, sheetBy, readAnswer, sheetAfter}
 use Rattle.sheet.specs.Laws.{good-some, judging-with, reading-with}
-use Rattle.sheet.specs.Passes.{ForLayout, endedBy, entriesOf, ReadPass, ReadJudged, isKnown, StartedPass, StartedJudged, Fills, Filled}
+use Rattle.sheet.specs.Passes.{ForLayout, endedBy, ReadPass, ReadJudged, isKnown, StartedPass, StartedJudged, Fills, Filled}
 use Rattle.sheet.specs.Stores.{Finishes}
 use Rattle.sheet.specs.StoresHpac.{HpacStored}
 use Rattle.sheet.specs.declared.ReadAnswer.{ReadAnswer}
@@ -57,25 +56,23 @@ walks-word (ends e) z = absurd (omega arith)
 walks-word (goes e i rest) z = omega (arith, i .word, ap (λ (x : Field). x .width) e)
 
 -- at the loop's head: the rest of the message is read from here as the whole was to be from the start
-pub record Turn (payload sheet₀ : List ℕ) (total : ℕ) (s₀ : State) (sheet : List ℕ) (s : State) (pos at : ℕ) : Type 0 where
+pub record Turn (payload : List ℕ) (total : ℕ) (s₀ s : State) (pos at : ℕ) : Type 0 where
   pub whole : total ≡ length payload * 8
   pub inside : pos ≤ total
   pub few : at ≤ pos
-  pub same : length sheet ≡ length sheet₀
-  pub on : ForLayout s₀ (λ l. On fieldOf stepOf s (runL l (toBits payload) 0 0 sheet₀)
-      (λ (next : Layout Message). runL next (drop pos (toBits payload)) pos at sheet))
+  pub on : ForLayout s₀ (λ l. On fieldOf stepOf s (runL l (toBits payload) 0 0 [])
+      (λ (next : Layout Message). runL next (drop pos (toBits payload)) pos at []))
 
-pub turn-first : (payload sheet : List ℕ) (s : State) → Turn payload sheet (length payload * 8) s sheet s 0 0
-turn-first payload sheet s =
+pub turn-first : (payload : List ℕ) (s : State) → Turn payload (length payload * 8) s s 0 0
+turn-first payload s =
     record {
       whole = refl;
       inside = omega arith;
       few = omega arith;
-      same = refl;
       on = λ l w. record { left = l; walks = w; same = refl };
     }
 
-module _ {payload sheet₀ : List ℕ} {total : ℕ} {s₀ : State} {sheet : List ℕ} {s : State} {pos at : ℕ} (t : Turn payload sheet₀ total s₀ sheet s pos at) (f : Field)
+module _ {payload : List ℕ} {total : ℕ} {s₀ s : State} {pos at : ℕ} (t : Turn payload total s₀ s pos at) (f : Field)
     (e : f ≡ fieldOf s) where
   rest-length : length (drop pos (toBits payload)) ≡ total - pos
   rest-length = omega (arith, length-drop pos (toBits payload), length-toBits payload, t .whole)
@@ -83,26 +80,24 @@ module _ {payload sheet₀ : List ℕ} {total : ℕ} {s₀ : State} {sheet : Lis
   width-is : fieldOf s .width ≡ f .width
   width-is = ap (λ (x : Field). x .width) (sym e)
 
-  pub turn-done : f .width ≡ 0 → ReadPass payload sheet₀ s₀ (Whole at pos) sheet
+  pub turn-done : f .width ≡ 0 → ReadPass payload s₀ (Whole at pos)
   turn-done z =
       record {
-        ends = λ l w. let o = t .on l w in sym (o .same ∙ run-done (drop pos (toBits payload)) pos at sheet (o .walks) (width-is ∙ z));
-        few = omega (arith, t .few, t .inside, t .whole);
+        ends = λ l w. let o = t .on l w in sym (o .same ∙ run-done (drop pos (toBits payload)) pos at [] (o .walks) (width-is ∙ z));
       }
 
-  short-here : (f .width ≡ 0 → ⊥) → total - pos < f .width → ReadPass payload sheet₀ s₀ (Fault (faultAt refusal.Short (f .sf) pos)) sheet
+  short-here : (f .width ≡ 0 → ⊥) → total - pos < f .width → ReadPass payload s₀ (Fault (faultAt refusal.Short (f .sf) pos))
   short-here z h =
       let d : fieldOf s .width ≡ f .width = width-is in
       let k : length (drop pos (toBits payload)) ≡ total - pos = rest-length in
       record {
         ends = λ l w. let o = t .on l w in
-            sym (o .same ∙ run-short (drop pos (toBits payload)) pos at sheet (o .walks) (omega arith) (omega arith)
+            sym (o .same ∙ run-short (drop pos (toBits payload)) pos at [] (o .walks) (omega arith) (omega arith)
             ∙ ap (λ (x : Field). stopped (faultAt refusal.Short (x .sf) pos)) (sym e));
-        few = omega arith;
       }
 
-  pub turn-short : (r : Pass) → (f .width ≡ 0 → ⊥) → total - pos < f .width → r ≡ Fault (faultAt refusal.Short (f .sf) pos) → ReadPass payload sheet₀ s₀ r sheet
-  turn-short r z h i = subst (λ x. ReadPass payload sheet₀ s₀ x sheet) (sym i) (short-here z h)
+  pub turn-short : (r : Pass) → (f .width ≡ 0 → ⊥) → total - pos < f .width → r ≡ Fault (faultAt refusal.Short (f .sf) pos) → ReadPass payload s₀ r
+  turn-short r z h i = subst (λ x. ReadPass payload s₀ x) (sym i) (short-here z h)
 
   module _ (z : f .width ≡ 0 → ⊥) (h : f .width ≤ total - pos) (code : ℕ) (g : code ≡ got payload pos (f .width)) (v : Verdict) (j : v ≡ judge f code) where
     code-is : fieldOf s .width ≤ 64 → code ≡ number (take (fieldOf s .width) (drop pos (toBits payload)))
@@ -115,81 +110,77 @@ module _ {payload sheet₀ : List ℕ} {total : ℕ} {s₀ : State} {sheet : Lis
     verdict-is : judge (fieldOf s) code ≡ v
     verdict-is = ap (λ (x : Field). judge x code) (sym e) ∙ sym j
 
-    fault-here : (why : Refusal) → v ≡ verdict.Fault why → ReadPass payload sheet₀ s₀ (Fault (faultAt why (f .sf) pos)) sheet
+    fault-here : (why : Refusal) → v ≡ verdict.Fault why → ReadPass payload s₀ (Fault (faultAt why (f .sf) pos))
     fault-here why q =
         let d : fieldOf s .width ≡ f .width = width-is in
         let k : length (drop pos (toBits payload)) ≡ total - pos = rest-length in
         record {
           ends = λ l w. let o = t .on l w in
               let n : 0 < fieldOf s .width = omega arith in
-              sym (o .same ∙ run-fault (drop pos (toBits payload)) pos at sheet code why (o .walks) n (omega arith) (code-is (walks-word (o .walks) n)) (verdict-is ∙ q)
+              sym (o .same ∙ run-fault (drop pos (toBits payload)) pos at [] code why (o .walks) n (omega arith) (code-is (walks-word (o .walks) n)) (verdict-is ∙ q)
               ∙ ap (λ (x : Field). stopped (faultAt why (x .sf) pos)) (sym e));
-          few = omega arith;
         }
 
-    pub turn-fault : (r : Pass) (why : Refusal) → v ≡ verdict.Fault why → r ≡ Fault (faultAt why (f .sf) pos) → ReadPass payload sheet₀ s₀ r sheet
-    turn-fault r why q i = subst (λ x. ReadPass payload sheet₀ s₀ x sheet) (sym i) (fault-here why q)
+    pub turn-fault : (r : Pass) (why : Refusal) → v ≡ verdict.Fault why → r ≡ Fault (faultAt why (f .sf) pos) → ReadPass payload s₀ r
+    turn-fault r why q i = subst (λ x. ReadPass payload s₀ x) (sym i) (fault-here why q)
 
-    pub turn-again : (sheet' : List ℕ) (s' : State) → v ≡ verdict.Taken → sheet' ≡ set sheet at code → s' ≡ stepOf s code
-        → Turn payload sheet₀ total s₀ sheet' s' (pos + f .width) (at + 1)
-    turn-again sheet' s' q stored stepped =
+    pub turn-again : (s' : State) → v ≡ verdict.Taken → s' ≡ stepOf s code → Turn payload total s₀ s' (pos + f .width) (at + 1)
+    turn-again s' q stepped =
         let d : fieldOf s .width ≡ f .width = width-is in
         let k : length (drop pos (toBits payload)) ≡ total - pos = rest-length in
         record {
           whole = t .whole;
           inside = omega (arith, t .inside);
           few = omega (arith, t .few);
-          same = ap length stored ∙ length-set sheet at code ∙ t .same;
           on = λ l w. let o = t .on l w in
               let n : 0 < fieldOf s .width = omega arith in
-              let r = run-on (drop pos (toBits payload)) pos at sheet code (o .walks) n (omega arith) (code-is (walks-word (o .walks) n)) (verdict-is ∙ q) in
+              let r = run-on (drop pos (toBits payload)) pos at [] code (o .walks) n (omega arith) (code-is (walks-word (o .walks) n)) (verdict-is ∙ q) in
               record {
                 left = r .left;
                 walks = subst (λ x. Walks fieldOf stepOf x (r .left)) (sym stepped) (r .walks);
                 same = o .same ∙ r .same
-                    ∙ ap (λ x. runL (r .left) x (pos + fieldOf s .width) (at + 1) (set sheet at code)) (drop-drop (fieldOf s .width) pos (toBits payload))
-                    ∙ ap₂ (λ (x : ℕ) y. runL (r .left) (drop (pos + x) (toBits payload)) (pos + x) (at + 1) y) d (sym stored);
+                    ∙ ap (λ x. runL (r .left) x (pos + fieldOf s .width) (at + 1) []) (drop-drop (fieldOf s .width) pos (toBits payload))
+                    ∙ ap (λ (x : ℕ). runL (r .left) (drop (pos + x) (toBits payload)) (pos + x) (at + 1) []) d;
               };
         }
 
 -- ---- what a pass says
 
 -- what a pass says is the answer
-judged-fault : (o : Outcome Message) (why : answer.Fault) (aside : List ℕ) → stopped why ≡ endedOf o 0 0 aside → reader.Refused why ≡ readAnswerBy o
-judged-fault (accepted v cs n) why aside e = let z : _≡_ {A = ℕ} 0 1 = cc in absurd (omega arith)
-judged-fault (refused why') why aside e = let q : why ≡ further 0 why' = cc in ap reader.Refused (q ∙ further-none why')
+judged-fault : (o : Outcome Message) (why : answer.Fault) → stopped why ≡ endedOf o 0 0 [] → reader.Refused why ≡ readAnswerBy o
+judged-fault (accepted v cs n) why e = let z : _≡_ {A = ℕ} 0 1 = cc in absurd (omega arith)
+judged-fault (refused why') why e = let q : why ≡ further 0 why' = cc in ap reader.Refused (q ∙ further-none why')
 
-judged-whole : (o : Outcome Message) (entries bits : ℕ) (aside aside' : List ℕ) → finished entries bits aside' ≡ endedOf o 0 0 aside → reader.Read bits entries ≡ readAnswerBy o
-judged-whole (accepted v cs n) entries bits aside aside' e =
+judged-whole : (o : Outcome Message) (entries bits : ℕ) → finished entries bits [] ≡ endedOf o 0 0 [] → reader.Read bits entries ≡ readAnswerBy o
+judged-whole (accepted v cs n) entries bits e =
     let a : entries ≡ 0 + length cs = cc in
     let b : bits ≡ 0 + n = cc in
     ap₂ (λ x y. reader.Read x y) (b ∙ zero-add n) (a ∙ zero-add (length cs))
-judged-whole (refused why) entries bits aside aside' e = let z : _≡_ {A = ℕ} 0 1 = cc in absurd (omega arith)
+judged-whole (refused why) entries bits e = let z : _≡_ {A = ℕ} 0 1 = cc in absurd (omega arith)
 
-module _ {payload aside : List ℕ} {start : State} (dry : Pass) (aside' : List ℕ) (p : ReadPass payload aside start dry aside') where
-  come : (l : Layout Message) → Walks fieldOf stepOf start l → endedBy dry aside' ≡ endedOf (readL l (toBits payload)) 0 0 aside
-  come l w = p .ends l w ∙ run-reads l (toBits payload) 0 0 aside
+module _ {payload : List ℕ} {start : State} (pass : Pass) (p : ReadPass payload start pass) where
+  come : (l : Layout Message) → Walks fieldOf stepOf start l → endedBy pass ≡ endedOf (readL l (toBits payload)) 0 0 []
+  come l w = p .ends l w ∙ run-reads l (toBits payload) 0 0 []
 
-  fault-judged : (why : answer.Fault) → dry ≡ Fault why → ReadJudged payload start (reader.Refused why)
-  fault-judged why e = record { answers = λ l w. judged-fault (readL l (toBits payload)) why aside (ap (λ x. endedBy x aside') (sym e) ∙ come l w) }
+  fault-judged : (why : answer.Fault) → pass ≡ Fault why → ReadJudged payload start (reader.Refused why)
+  fault-judged why e = record { answers = λ l w. judged-fault (readL l (toBits payload)) why (ap endedBy (sym e) ∙ come l w) }
 
-  whole-judged : (entries bits : ℕ) → dry ≡ Whole entries bits → ReadJudged payload start (reader.Read bits entries)
-  whole-judged entries bits e =
-      record { answers = λ l w. judged-whole (readL l (toBits payload)) entries bits aside aside' (ap (λ x. endedBy x aside') (sym e) ∙ come l w) }
+  whole-judged : (entries bits : ℕ) → pass ≡ Whole entries bits → ReadJudged payload start (reader.Read bits entries)
+  whole-judged entries bits e = record { answers = λ l w. judged-whole (readL l (toBits payload)) entries bits (ap endedBy (sym e) ∙ come l w) }
 
 -- ---- from the start of a type and subtype
 
-module _ (kind subtype : ℕ) (payload sheet : List ℕ) (x : Start) (e : x ≡ startOf kind subtype) (pass : Pass) (sheet' : List ℕ) where
-  pub pass-known : (s : State) → x ≡ Known s → ReadPass payload sheet s pass sheet' → StartedPass kind subtype payload sheet pass sheet'
+module _ (kind subtype : ℕ) (payload : List ℕ) (x : Start) (e : x ≡ startOf kind subtype) (pass : Pass) where
+  pub pass-known : (s : State) → x ≡ Known s → ReadPass payload s pass → StartedPass kind subtype payload pass
   pass-known s q p =
       record {
         from = λ start k.
             let both : Known s ≡ Known start = sym q ∙ e ∙ k in
             let same : s ≡ start = cc both in
-            subst (λ y. ReadPass payload sheet y pass sheet') same p;
+            subst (λ y. ReadPass payload y pass) same p;
       }
 
-  pub pass-unknown : x ≡ Unknown → StartedPass kind subtype payload sheet pass sheet'
+  pub pass-unknown : x ≡ Unknown → StartedPass kind subtype payload pass
   pass-unknown q =
       record {
         from = λ start k.
@@ -197,12 +188,12 @@ module _ (kind subtype : ℕ) (payload sheet : List ℕ) (x : Start) (e : x ≡ 
             let z : _≡_ {A = ℕ} 0 1 = cc in absurd (omega arith);
       }
 
-module _ {kind subtype : ℕ} {payload aside : List ℕ} (dry : Pass) (aside' : List ℕ) (p : StartedPass kind subtype payload aside dry aside') where
-  pub pass-fault : (why : answer.Fault) → dry ≡ Fault why → StartedJudged kind subtype payload (reader.Refused why)
-  pass-fault why e = record { from = λ start k. fault-judged dry aside' (p .from start k) why e }
+module _ {kind subtype : ℕ} {payload : List ℕ} (pass : Pass) (p : StartedPass kind subtype payload pass) where
+  pub pass-fault : (why : answer.Fault) → pass ≡ Fault why → StartedJudged kind subtype payload (reader.Refused why)
+  pass-fault why e = record { from = λ start k. fault-judged pass (p .from start k) why e }
 
-  pub pass-whole : (entries bits : ℕ) → dry ≡ Whole entries bits → StartedJudged kind subtype payload (reader.Read bits entries)
-  pass-whole entries bits e = record { from = λ start k. whole-judged dry aside' (p .from start k) entries bits e }
+  pub pass-whole : (entries bits : ℕ) → pass ≡ Whole entries bits → StartedJudged kind subtype payload (reader.Read bits entries)
+  pass-whole entries bits e = record { from = λ start k. whole-judged pass (p .from start k) entries bits e }
 
 start-there : (x : Start) → isKnown x ≡ true → (s : State) × (x ≡ Known s)
 start-there (Known s) e = (s, refl)
@@ -299,7 +290,7 @@ module _ (kind subtype : ℕ) (payload : List ℕ) where
     pub judge-quick : (x : Quick) (bits entries : ℕ) → x ≡ quickOf kind subtype payload → x ≡ Reads bits entries → reader.Read bits entries ≡ judged kind subtype payload
     judge-quick x bits entries e r =
         judge-by (reader.Read bits entries) (λ start q l here walks.
-        judged-whole (readL l (toBits payload)) entries bits [] []
+        judged-whole (readL l (toBits payload)) entries bits
         (sym (quick-reads kind subtype payload bits entries (sym e ∙ r) l here) ∙ run-reads l (toBits payload) 0 0 []))
 
 -- ---- `read`
@@ -355,7 +346,7 @@ module _ (kind subtype : ℕ) (payload sheet : List ℕ) where
 
 -- ---- the codes of an accepted message
 
-subtype-known : (subtype : ℕ) (c : Constellation) → constellationFor subtype ≡ sub.Known c → constellationOf subtype ≡ present c
+pub subtype-known : (subtype : ℕ) (c : Constellation) → constellationFor subtype ≡ sub.Known c → constellationOf subtype ≡ present c
 subtype-known subtype c = go (eqb subtype 0) (eqb subtype 1) (eqb subtype 2) (eqb subtype 3) (eqb subtype 4)
   where
     go : (a b d e f : Bool)
@@ -368,51 +359,50 @@ subtype-known subtype c = go (eqb subtype 0) (eqb subtype 1) (eqb subtype 2) (eq
     go false false false false true q = let same : Qzss ≡ c = cc in ap present same
     go false false false false false q = let z : _≡_ {A = ℕ} 0 1 = cc in absurd (omega arith)
 
-pass-fills : (e : Ended) (pass : Pass) (sheet' : List ℕ) → endedBy pass sheet' ≡ e → Finishes e → Fills e sheet'
-pass-fills e (Whole entries bits) sheet' q f = record { count = entries; used = bits; is = sym q }
-pass-fills e (Fault why) sheet' q f =
-    let no : stopped why ≡ finished (f .count) (f .used) (f .filled) = q ∙ f .is in
-    let z : _≡_ {A = ℕ} 0 1 = cc in absurd (omega arith)
-
 module _ {payload sheet sheet' : List ℕ} where
-  pub filled-hpac : (subtype : ℕ) (x : Subtype) (c : Constellation) → x ≡ constellationFor subtype → x ≡ sub.Known c → HpacStored c payload sheet sheet'
-      → Filled 1 subtype payload sheet sheet'
-  filled-hpac subtype x c e q p =
-      let layout : layoutFor 1 subtype ≡ present (hpacLayout c) = ap (byConstellation hpacLayout) (subtype-known subtype c (sym e ∙ q)) in
+  -- a message stored by its layout
+  pub filled-by : (kind subtype : ℕ) (layout : Layout Message) (count used : ℕ) → layoutFor kind subtype ≡ present layout
+      → (Finishes (runL layout (toBits payload) 0 0 sheet) → runL layout (toBits payload) 0 0 sheet ≡ finished count used sheet') → Filled kind subtype payload sheet sheet'
+  filled-by kind subtype layout count used there is =
       record {
         fills = λ l here f.
-            let both : present (hpacLayout c) ≡ present l = sym layout ∙ here in
-            let same : hpacLayout c ≡ l = cc both in
-            let run : runL (hpacLayout c) (toBits payload) 0 0 sheet ≡ runL l (toBits payload) 0 0 sheet = ap (λ (m : Layout Message). runL m (toBits payload) 0 0 sheet) same in
+            let both : present layout ≡ present l = sym there ∙ here in
+            let same : layout ≡ l = cc both in
+            let run : runL layout (toBits payload) 0 0 sheet ≡ runL l (toBits payload) 0 0 sheet = ap (λ (m : Layout Message). runL m (toBits payload) 0 0 sheet) same in
             record {
-              count = p .count;
-              used = p .used;
-              is = sym run ∙ p .is (record { count = f .count; used = f .used; filled = f .filled; is = run ∙ f .is });
+              count = count;
+              used = used;
+              is = sym run ∙ is (record { count = f .count; used = f .used; filled = f .filled; is = run ∙ f .is });
             };
       }
 
-  -- no subtype of HPAC is without a layout here
-  pub filled-none : (subtype : ℕ) (x : Subtype) → x ≡ constellationFor subtype → x ≡ sub.Unknown → Filled 1 subtype payload sheet sheet'
-  filled-none subtype x e q =
-      let none : startOf 1 subtype ≡ Unknown = ap hpacStart (sym e ∙ q) in
+  -- a type and subtype without a layout
+  pub filled-none : (kind subtype : ℕ) → layoutFor kind subtype ≡ absent → Filled kind subtype payload sheet sheet'
+  filled-none kind subtype none =
       record {
         fills = λ l here f.
-            let both : absent ≡ present l = sym (not-started 1 subtype (startOf 1 subtype) refl none) ∙ here in
+            let both : absent ≡ present l = sym none ∙ here in
             let z : _≡_ {A = ℕ} 0 1 = cc in absurd (omega arith);
       }
 
-  pub filled-pass : (kind subtype : ℕ) (pass : Pass) → isKnown (startOf kind subtype) ≡ true → StartedPass kind subtype payload sheet pass sheet'
-      → Filled kind subtype payload sheet sheet'
-  filled-pass kind subtype pass there p =
-      let s = start-there (startOf kind subtype) there in
-      let k = started kind subtype (startOf kind subtype) (s .0) refl (s .1) in
-      record {
-        fills = λ l here f.
-            let both : present (k .layout) ≡ present l = sym (k .here) ∙ here in
-            let same : k .layout ≡ l = cc both in
-            pass-fills (runL l (toBits payload) 0 0 sheet) pass sheet'
-            (p .from (s .0) (s .1) .ends (k .layout) (k .walks) ∙ ap (λ (m : Layout Message). runL m (toBits payload) 0 0 sheet) same) f;
-      }
+  -- one that a test says has a layout
+  pub filled-only : (kind subtype : ℕ) (layout : Layout Message) (count used : ℕ) (b : Bool) → layoutFor kind subtype ≡ pick b (present layout) absent
+      → (Finishes (runL layout (toBits payload) 0 0 sheet) → runL layout (toBits payload) 0 0 sheet ≡ finished count used sheet') → Filled kind subtype payload sheet sheet'
+  filled-only kind subtype layout count used true e is = filled-by kind subtype layout count used e is
+  filled-only kind subtype layout count used false e is = filled-none kind subtype e
 
-  pub filled-kind : (kind subtype : ℕ) → kind ≡ 1 → Filled 1 subtype payload sheet sheet' → Filled kind subtype payload sheet sheet'
-  filled-kind kind subtype e p = subst (λ (x : ℕ). Filled x subtype payload sheet sheet') (sym e) p
+  pub filled-hpac : (subtype : ℕ) (x : Subtype) (c : Constellation) → x ≡ constellationFor subtype → x ≡ sub.Known c → HpacStored c payload sheet sheet'
+      → Filled 1 subtype payload sheet sheet'
+  filled-hpac subtype x c e q p = filled-by 1 subtype (hpacLayout c) (p .count) (p .used) (ap (byConstellation hpacLayout) (subtype-known subtype c (sym e ∙ q))) (p .is)
+
+  pub filled-no-hpac : (subtype : ℕ) (x : Subtype) → x ≡ constellationFor subtype → x ≡ sub.Unknown → Filled 1 subtype payload sheet sheet'
+  filled-no-hpac subtype x e q =
+      let none : startOf 1 subtype ≡ Unknown = ap hpacStart (sym e ∙ q) in
+      filled-none 1 subtype (not-started 1 subtype (startOf 1 subtype) refl none)
+
+  pub filled-kind : (kind subtype n : ℕ) → kind ≡ n → Filled n subtype payload sheet sheet' → Filled kind subtype payload sheet sheet'
+  filled-kind kind subtype n e p = subst (λ (x : ℕ). Filled x subtype payload sheet sheet') (sym e) p
+
+  -- no other type has a layout
+  pub filled-other : (kind subtype : ℕ) → (kind ≡ 0 → ⊥) → (kind ≡ 1 → ⊥) → (kind ≡ 2 → ⊥) → (kind ≡ 3 → ⊥) → Filled kind subtype payload sheet sheet'
+  filled-other kind subtype a b c d = filled-none kind subtype (rw (ne-eqb kind 0 a, ne-eqb kind 1 b, ne-eqb kind 2 c, ne-eqb kind 3 d))

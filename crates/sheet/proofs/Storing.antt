@@ -1,31 +1,30 @@
 -- The returns and the turns of store.rt over plain variables: what the proofs of its functions cite.
-use mathlib.Core.Path.{_≡_, refl, ap, ap₂, sym, _∙_, subst}
+use mathlib.Core.Path.{_≡_, refl, ap, sym, _∙_, subst}
 use mathlib.Core.Bool.{Bool, true, false}
 use mathlib.Core.List.{List, [], _∷_}
-use Prim.Native.Nat.{ℕ, zero, suc, _+_, _-_, _*_, _^_, _≤_, _<_}
-use native.Mathlib.Nat.{mul-le-mul-right, mul-le-mul-left}
+use Prim.Native.Nat.{ℕ, suc, _+_, _-_, _*_, _^_, _≤_, _<_}
+use native.Mathlib.Nat.{mul-le-mul-right}
 use native.Mathlib.Numerals.{add-one}
 use native.Mathlib.Omega.{arith}
 use borrow.Author.Tests.{eq-eqb, ne-eqb, le-leb, lt-leb}
 use lib.Count.{ones}
 use lib.Dec.{eqb, leb, lit<, lit≤}
 use lib.ListN.{length, set, length-set}
-use Rattle.bits.specs.Bits.{toBits, got}
+use Rattle.bits.specs.Bits.{got}
 use Rattle.layout.specs.declared.Field.{Field}
 use Rattle.layout.specs.Layout.{Layout, done, field, pick}
-use Rattle.layout.specs.Parts.{Part, absent, present, optional, times, each}
+use Rattle.layout.specs.Parts.{absent, present, optional, times, each}
 use Rattle.layout.specs.Run.{Ended, runL}
 use Rattle.layout.specs.Tests.{one-less}
-use Rattle.fields.specs.Columns.{width-small}
 use Rattle.fields.specs.Fields.{table, find, lineOf, sf}
 use Rattle.codes.specs.declared.Constellation.{Constellation}
 use Rattle.codes.specs.Tables.{maskSize, firstSatellite}
 use Rattle.codes.specs.Fields.{satellitesOf}
 use Rattle.codes.specs.Sizes.{mask-word, mask-size-width}
-use Rattle.hpac.specs.Hpac.{Slopes, Polynomial, Grid, Slant, Area, slopes, polynomial, grid, troposphereConstant, troposphereLinear, troposphereProduct, troposphereResidual, troposphere, ionosphereConstant, ionosphereLinear, ionosphereProduct, ionosphereResidual, slant, ionosphere, area, hpac}
+use Rattle.hpac.specs.Hpac.{Polynomial, Slant, Area, slopes, polynomial, grid, troposphereConstant, troposphereLinear, troposphereProduct, troposphereResidual, troposphere, ionosphereConstant, ionosphereLinear, ionosphereProduct, ionosphereResidual, slant, ionosphere, area, hpac}
 use Rattle.message.specs.Messages.{Message, hpacMessage}
 use Rattle.quick.specs.Passes.{got-small}
-use Rattle.quick.specs.Counted.{satellites-counted}
+use Rattle.codes.specs.Stepping.{counted}
 use Rattle.sheet.specs.declared.store.Here.{Here}
 use Rattle.sheet.specs.Stores.{runAt, Finishes, Stores, stores-end, stores-field, stores-then, stores-with, stores-as, stretched, stores-stretch}
 use Rattle.sheet.specs.StoresHpac.{Kept, Moved, PolynomialStored, SlantStored, SlantsStored, TroposphereStored, BlocksStored, AreasStored, CountedStored, HpacStored}
@@ -71,7 +70,7 @@ module _ {payload : List ℕ} {width n pos₀ at₀ : ℕ} {sheet₀ : List ℕ}
 -- ---- fields
 
 -- a field whose code the code kept
-stores-kept : {B : Type 0} {payload : List ℕ} {f : Field} {part : ℕ → (B → Layout Message) → Layout Message} {pos at : ℕ} {sheet : List ℕ} {pos' at' : ℕ} {sheet' : List ℕ}
+pub stores-kept : {B : Type 0} {payload : List ℕ} {f : Field} {part : ℕ → (B → Layout Message) → Layout Message} {pos at : ℕ} {sheet : List ℕ} {pos' at' : ℕ} {sheet' : List ℕ}
     (w c : ℕ) (filled : List ℕ) → f .width ≡ w → 0 < w → w ≤ 64 → Kept payload pos at w sheet c filled → Stores payload (part c) (pos + w) (at + 1) filled pos' at' sheet'
     → Stores payload (λ k. field f (λ x. part x k)) pos at sheet pos' at' sheet'
 stores-kept {payload = payload} {f = f} {part = part} {pos = pos} {at = at} {sheet = sheet} {pos' = pos'} {at' = at'} {sheet' = sheet'} w c filled e some word p rest =
@@ -83,12 +82,12 @@ stores-kept {payload = payload} {f = f} {part = part} {pos = pos} {at = at} {she
     (subst (λ (x : ℕ). Stores payload (part x) (pos + w) (at + 1) filled pos' at' sheet') code rest)))
 
 -- a part that a test says is there, or is not
-stores-present : {B : Type 0} {payload : List ℕ} {part : (B → Layout Message) → Layout Message} {pos at : ℕ} {sheet : List ℕ} {pos' at' : ℕ} {sheet' : List ℕ} (b : Bool) → b ≡ true
+pub stores-present : {B : Type 0} {payload : List ℕ} {part : (B → Layout Message) → Layout Message} {pos at : ℕ} {sheet : List ℕ} {pos' at' : ℕ} {sheet' : List ℕ} (b : Bool) → b ≡ true
     → Stores payload part pos at sheet pos' at' sheet' → Stores payload (optional b part) pos at sheet pos' at' sheet'
 stores-present true e p = stores-with present p
 stores-present false e p = let z : _≡_ {A = ℕ} 0 1 = cc in absurd (omega arith)
 
-stores-absent : {B : Type 0} {payload : List ℕ} (part : (B → Layout Message) → Layout Message) (pos at : ℕ) (sheet : List ℕ) (b : Bool) → b ≡ false
+pub stores-absent : {B : Type 0} {payload : List ℕ} (part : (B → Layout Message) → Layout Message) (pos at : ℕ) (sheet : List ℕ) (b : Bool) → b ≡ false
     → Stores payload (optional b part) pos at sheet pos at sheet
 stores-absent part pos at sheet false e = stores-end absent pos at sheet
 stores-absent part pos at sheet true e = let z : _≡_ {A = ℕ} 0 1 = cc in absurd (omega arith)
@@ -349,7 +348,7 @@ pub slants-start : (payload : List ℕ) (n blocks points equation pos at : ℕ) 
 slants-start payload n blocks points equation pos at sheet h =
     record { on = λ ms e. record { rest = ms; many = e; before = λ xs. xs; goes = λ k f. refl }; few = omega arith; light = omega arith; same = refl }
 
-onward : {e f : Ended} → e ≡ f → Finishes e → Finishes f
+pub onward : {e f : Ended} → e ≡ f → Finishes e → Finishes f
 onward q h = record { count = h .count; used = h .used; filled = h .filled; is = sym q ∙ h .is }
 
 module _ {payload : List ℕ} {n blocks points equation pos₀ at₀ : ℕ} {sheet₀ : List ℕ} {left pos at : ℕ} {sheet : List ℕ}
@@ -419,8 +418,8 @@ module _ (c : Constellation) (payload : List ℕ) (pos at blocks points : ℕ) (
   ionosphere-there equation size width mask n s1 s2 s3 r s4 h p1 p2 w p3 count p4 =
       let word = mask-word c size in
       let small : mask < 2 ^ maskSize c size = subst (λ (x : ℕ). mask < 2 ^ x) w (subst (λ (x : ℕ). x < 2 ^ width) (sym (p3 .code)) (got-small payload (pos + 3 + 2) width)) in
-      let counted : length (satellitesOf c size mask) ≡ n = satellites-counted (firstSatellite c) (maskSize c size) mask small ∙ sym count in
-      let slants = p4 .moved (satellitesOf c size mask) counted in
+      let all-set : length (satellitesOf c size mask) ≡ n = counted (firstSatellite c) (maskSize c size) mask small ∙ sym count in
+      let slants = p4 .moved (satellitesOf c size mask) all-set in
       record {
         stores = stores-present (leb 1 blocks) (le-leb 1 blocks h)
             (stores-kept 3 equation s1 refl (lit< tt) (lit≤ tt) p1

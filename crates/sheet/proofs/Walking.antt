@@ -1,31 +1,27 @@
--- A row walked over by its cells, over plain variables: what the proofs of `row` cite, and those of the two passes where a row is walked.
+-- A row walked over by its cells, over plain variables: what the proofs of `row` cite, and that of `write_pass` where a row is walked.
 use mathlib.Core.Path.{_≡_, refl, ap, sym, _∙_, subst}
-use mathlib.Core.Bool.{true, false}
-use mathlib.Core.List.{List, _++_}
-use Prim.Native.Nat.{ℕ, suc, _+_, _-_, _*_, _/_, _%_, _^_, _≤_, _<_}
+use mathlib.Core.Bool.{Bool, true, false}
+use mathlib.Core.List.{List}
+use Prim.Native.Nat.{ℕ, suc, _+_, _-_, _/_, _%_, _^_, _≤_, _<_}
 use native.Mathlib.Omega.{arith}
-use borrow.Author.Tests.{le-leb, lt-leb, lt-ltb, le-ltb}
-use lib.ListN.{length, take, drop, getD, set, length-set}
-use Rattle.answer.specs.declared.Refusal.{Refusal}
+use borrow.Author.Tests.{lt-ltb, le-ltb}
+use lib.ListN.{length, getD}
 use Rattle.answer.specs.declared.Refusal.the-variants as refusal
 use Rattle.answer.specs.declared.Fault as answer
 use Rattle.answer.specs.Place.{faultAt}
-use Rattle.bits.specs.Bits.{toBits, number, field, got, leaves}
-use Rattle.bits.specs.Laws.{got-there, length-toBits}
-use Rattle.layout.specs.declared.Field.{Field}
-use Rattle.layout.specs.declared.Verdict.{Verdict}
+use Rattle.bits.specs.Bits.{toBits, leaves}
 use Rattle.layout.specs.declared.Verdict.the-variants as verdict
-use Rattle.layout.specs.Layout.{Layout, judge}
+use Rattle.layout.specs.Layout.{Layout, pick, judge}
 use Rattle.layout.specs.Run.{Ended}
 use Rattle.layout.specs.Run as ended
 use Rattle.layout.specs.Tests.{one-less}
 use Rattle.layout.specs.Walks.{Walks}
+use Rattle.fields.specs.Packed.{refuses}
 use Rattle.rows.specs.declared.Row.{Row}
 use Rattle.rows.specs.Rows.{widthIn, fieldIn, cellsIn, again, cellsOf}
 use Rattle.rows.specs.Cells.{cell-bits}
 use Rattle.rows.specs.Along.{Along}
 use Rattle.rows.specs.Walk.{Way, walk, walk-none, walk-short, walk-fault, walk-more, then, walk-append, to, stopped, Comes, comes, Turns, Follows, goesOn, ends, along-walk}
-use Rattle.rows.specs.Runs.{reading, Read, reading-comes}
 use Rattle.rows.specs.Puts.{onward, putIn, leaves-bits, writing, Wrote, writing-comes}
 use Rattle.message.specs.declared.State.{State}
 use Rattle.message.specs.Machine.{fieldOf, stepOf}
@@ -33,80 +29,15 @@ use Rattle.message.specs.Messages.{Message}
 use Rattle.message.specs.Rows.{rowOf, lastOf, rowed}
 use Rattle.sheet.specs.declared.row.Ran.{Ran}
 use Rattle.sheet.specs.declared.row.Ran.the-variants.{To, Stopped}
-use Rattle.sheet.specs.Walked.{wentBy, Walked, Placed}
+use Rattle.sheet.specs.Walked.{lineIn, wentBy, Walked}
+use Rattle.sheet.proofs.Lines.{number-in, width-in, judge-in}
 
--- ---- the cells of a word, read
-
--- at the loop's head: the rest of the word is read from here as the whole was to be from the start
-pub record Reading (payload sheet₀ : List ℕ) (word₀ pos₀ at₀ last₀ total : ℕ) (sheet : List ℕ) (word pos at last : ℕ) : Type 0 where
-  pub whole : total ≡ length payload * 8
-  pub inside : pos ≤ total
-  pub ahead : at ≤ pos
-  pub same : length sheet ≡ length sheet₀
-  pub on : walk (reading (toBits payload)) (cellsIn word) pos at last sheet ≡ walk (reading (toBits payload)) (cellsIn word₀) pos₀ at₀ last₀ sheet₀
-
-pub reading-first : (payload sheet : List ℕ) (word pos at last : ℕ) → Placed payload pos at
-    → Reading payload sheet word pos at last (length payload * 8) sheet word pos at last
-reading-first payload sheet word pos at last h = record { whole = refl; inside = omega (arith, h .inside); ahead = h .ahead; same = refl; on = refl }
-
-module _ {payload sheet₀ : List ℕ} {word₀ pos₀ at₀ last₀ total : ℕ} {sheet : List ℕ} {word pos at last : ℕ}
-    (t : Reading payload sheet₀ word₀ pos₀ at₀ last₀ total sheet word pos at last) where
-  bits-length : length (toBits payload) ≡ total
-  bits-length = omega (arith, length-toBits payload, t .whole)
-
-  pub reading-done : word ≡ 0 → Walked (reading (toBits payload)) (cellsIn word₀) pos₀ at₀ last₀ sheet₀ (To pos at last) sheet
-  reading-done z = record { went = sym (walk-none (reading (toBits payload)) word pos at last sheet z) ∙ t .on }
-
-  module _ (some : word ≡ 0 → ⊥) (f : Field) (e : f ≡ fieldIn (word % 256)) where
-    width-is : f .width ≡ widthIn (word % 256)
-    width-is = ap (λ (x : Field). x .width) e
-
-    pub reading-short : (r : Ran) → total - pos < f .width → r ≡ Stopped (faultAt refusal.Short (f .sf) pos)
-        → Walked (reading (toBits payload)) (cellsIn word₀) pos₀ at₀ last₀ sheet₀ r sheet
-    reading-short r h q =
-        let d : f .width ≡ widthIn (word % 256) = width-is in
-        let b : length (toBits payload) ≡ total = bits-length in
-        let k = lt-leb (pos + widthIn (word % 256)) (length (toBits payload)) (omega (arith, t .inside)) in
-        record {
-          went = ap (λ x. wentBy x sheet) q ∙ ap (λ (x : Field). stopped (faultAt refusal.Short (x .sf) pos) sheet) e ∙ sym (walk-short (reading (toBits payload)) word pos at last sheet some k) ∙ t .on;
-        }
-
-    module _ (h : f .width ≤ total - pos) (code : ℕ) (g : code ≡ got payload pos (f .width)) (v : Verdict) (j : v ≡ judge f code) where
-      there : reading (toBits payload) .there pos at (widthIn (word % 256)) ≡ true
-      there =
-          let d : f .width ≡ widthIn (word % 256) = width-is in
-          le-leb (pos + widthIn (word % 256)) (length (toBits payload)) (omega (arith, bits-length, t .inside))
-
-      code-is : code ≡ number (take (widthIn (word % 256)) (drop pos (toBits payload)))
-      unfolding field
-      code-is =
-          let d : f .width ≡ widthIn (word % 256) = width-is in
-          let z : widthIn (word % 256) ≤ 16 = cell-bits (word % 256) .1 in
-          g ∙ got-there payload pos (f .width) (omega arith) (omega (arith, t .whole, t .inside)) ∙ ap (λ (w : ℕ). number (take w (drop pos (toBits payload)))) d
-
-      verdict-is : judge (fieldIn (word % 256)) code ≡ v
-      verdict-is = ap (λ (x : Field). judge x code) (sym e) ∙ sym j
-
-      pub reading-fault : (r : Ran) (why : Refusal) → v ≡ verdict.Fault why → r ≡ Stopped (faultAt why (f .sf) pos)
-          → Walked (reading (toBits payload)) (cellsIn word₀) pos₀ at₀ last₀ sheet₀ r sheet
-      reading-fault r why q i =
-          record {
-            went = ap (λ x. wentBy x sheet) i ∙ ap (λ (x : Field). stopped (faultAt why (x .sf) pos) sheet) e
-                ∙ sym (walk-fault (reading (toBits payload)) word pos at last sheet some code there code-is why (verdict-is ∙ q)) ∙ t .on;
-          }
-
-      pub reading-again : (sheet' : List ℕ) → v ≡ verdict.Taken → sheet' ≡ set sheet at code
-          → Reading payload sheet₀ word₀ pos₀ at₀ last₀ total sheet' (word / 256) (pos + f .width) (at + 1) code
-      reading-again sheet' q stored =
-          let d : f .width ≡ widthIn (word % 256) = width-is in
-          let z : 0 < widthIn (word % 256) = cell-bits (word % 256) .0 in
-          record {
-            whole = t .whole;
-            inside = omega (arith, t .inside);
-            ahead = omega (arith, t .ahead);
-            same = ap length stored ∙ length-set sheet at code ∙ t .same;
-            on = rw (d, stored) (sym (walk-more (reading (toBits payload)) word pos at last sheet some code there code-is (verdict-is ∙ q))) ∙ t .on;
-          }
+-- what the code's test says is the field's verdict
+judged-in : (cell code : ℕ) {line : ℕ} {x y : Bool} → line ≡ lineIn cell → x ≡ refuses line code → x ≡ y
+    → judge (fieldIn cell) code ≡ pick y (verdict.Fault refusal.Field) verdict.Taken
+judged-in cell code e j q =
+    judge-in cell code
+    ∙ ap (λ b. pick b (verdict.Fault refusal.Field) verdict.Taken) (ap (λ (l : ℕ). refuses l code) (sym e) ∙ sym j ∙ q)
 
 -- ---- the cells of a word, written
 
@@ -121,39 +52,38 @@ module _ {sheet out₀ : List ℕ} {word₀ pos₀ at₀ last₀ : ℕ} {out : L
   pub writing-done : word ≡ 0 → Walked (writing sheet) (cellsIn word₀) pos₀ at₀ last₀ (toBits out₀) (To pos at last) (toBits out)
   writing-done z = record { went = sym (walk-none (writing sheet) word pos at last (toBits out) z) ∙ t .on }
 
-  module _ (some : word ≡ 0 → ⊥) (f : Field) (e : f ≡ fieldIn (word % 256)) where
-    pub writing-short : (r : Ran) → length sheet ≤ at → r ≡ Stopped (faultAt refusal.Short (f .sf) at)
+  module _ (some : word ≡ 0 → ⊥) (line : ℕ) (e : line ≡ lineIn (word % 256)) where
+    pub writing-short : (r : Ran) → length sheet ≤ at → r ≡ Stopped (faultAt refusal.Short (word % 256) at)
         → Walked (writing sheet) (cellsIn word₀) pos₀ at₀ last₀ (toBits out₀) r (toBits out)
     writing-short r h q =
         record {
-          went = ap (λ x. wentBy x (toBits out)) q ∙ ap (λ (x : Field). stopped (faultAt refusal.Short (x .sf) at) (toBits out)) e
+          went = ap (λ x. wentBy x (toBits out)) q ∙ ap (λ (n : ℕ). stopped (faultAt refusal.Short n at) (toBits out)) (sym (number-in (word % 256)))
               ∙ sym (walk-short (writing sheet) word pos at last (toBits out) some (le-ltb at (length sheet) h)) ∙ t .on;
         }
 
-    module _ (h : at < length sheet) (v : Verdict) (j : v ≡ judge f (getD sheet at 0)) where
-      judged-is : judge (fieldIn (word % 256)) (getD sheet at 0) ≡ v
-      judged-is = ap (λ (x : Field). judge x (getD sheet at 0)) (sym e) ∙ sym j
-
-      pub writing-fault : (r : Ran) (why : Refusal) → v ≡ verdict.Fault why → r ≡ Stopped (faultAt why (f .sf) at)
+    module _ (h : at < length sheet) (b : Bool) (j : b ≡ refuses line (getD sheet at 0)) where
+      pub writing-fault : (r : Ran) → b ≡ true → r ≡ Stopped (faultAt refusal.Field (word % 256) at)
           → Walked (writing sheet) (cellsIn word₀) pos₀ at₀ last₀ (toBits out₀) r (toBits out)
-      writing-fault r why q i =
+      writing-fault r q i =
           record {
-            went = ap (λ x. wentBy x (toBits out)) i ∙ ap (λ (x : Field). stopped (faultAt why (x .sf) at) (toBits out)) e ∙ sym (walk-fault (writing sheet) word pos at last (toBits out) some (getD sheet at 0) (lt-ltb at (length sheet) h) refl why (judged-is ∙ q)) ∙ t .on;
+            went = ap (λ x. wentBy x (toBits out)) i ∙ ap (λ (n : ℕ). stopped (faultAt refusal.Field n at) (toBits out)) (sym (number-in (word % 256)))
+                ∙ sym (walk-fault (writing sheet) word pos at last (toBits out) some (getD sheet at 0) (lt-ltb at (length sheet) h) refl refusal.Field (judged-in (word % 256) (getD sheet at 0) e j q))
+                ∙ t .on;
           }
 
-      pub writing-again : (out' : List ℕ) (pos' : ℕ) → v ≡ verdict.Taken → length out' ≡ length out → toBits out' ≡ leaves out pos (f .width) (getD sheet at 0)
-          → (pos' ≡ onward pos (f .width)) × (pos < 2 ^ 33 → pos' < 2 ^ 33)
+      pub writing-again : (width : ℕ) (out' : List ℕ) (pos' : ℕ) → width ≡ line % 256 → b ≡ false → length out' ≡ length out
+          → toBits out' ≡ leaves out pos width (getD sheet at 0) → (pos' ≡ onward pos width) × (pos < 2 ^ 33 → pos' < 2 ^ 33)
           → Writing sheet out₀ word₀ pos₀ at₀ last₀ out' (word / 256) pos' (at + 1) (getD sheet at 0)
-      writing-again out' pos' q kept put moved =
-          let d : f .width ≡ widthIn (word % 256) = ap (λ (x : Field). x .width) e in
+      writing-again width out' pos' w q kept put moved =
+          let d : width ≡ widthIn (word % 256) = w ∙ ap (λ (x : ℕ). x % 256) e ∙ width-in (word % 256) in
           let z : widthIn (word % 256) ≤ 16 = cell-bits (word % 256) .1 in
           let b : toBits out' ≡ putIn (toBits out) pos (widthIn (word % 256)) (getD sheet at 0)
           = (rw d at put) ∙ leaves-bits out pos (widthIn (word % 256)) (getD sheet at 0) (omega arith) in
           let p : pos' ≡ onward pos (widthIn (word % 256)) = rw d at (moved .0) in
           record {
             same = kept ∙ t .same;
-            on = rw (b, p) (sym (walk-more (writing sheet) word pos at last (toBits out) some (getD sheet at 0) (lt-ltb at (length sheet) h) refl (judged-is ∙ q)))
-                ∙ t .on;
+            on = rw (b, p)
+                (sym (walk-more (writing sheet) word pos at last (toBits out) some (getD sheet at 0) (lt-ltb at (length sheet) h) refl (judged-in (word % 256) (getD sheet at 0) e j q))) ∙ t .on;
           }
 
 -- ---- a group and its repeats
@@ -195,17 +125,6 @@ came : {Place : (pos at : ℕ) → Type 0} {p a l : ℕ} {lent : List ℕ} → C
 came (comes h) = h
 
 module _ {cs : List ℕ} {pos at last : ℕ} {lent : List ℕ} {r : Ran} {lent' : List ℕ} (p a l : ℕ) where
-  pub read-to : {payload : List ℕ} → Placed payload pos at → Walked (reading (toBits payload)) cs pos at last lent r lent' → r ≡ To p a l
-      → Read (toBits payload) cs pos at 0 p a
-  read-to {payload} h w e =
-      came (subst (Comes (Read (toBits payload) cs pos at 0)) (sym (rw e at (w .went)))
-      (reading-comes (toBits payload) cs pos at last lent (omega (arith, h .inside, length-toBits payload))))
-
-  pub placed-on : {payload : List ℕ} → Placed payload pos at → Walked (reading (toBits payload)) cs pos at last lent r lent' → r ≡ To p a l → Placed payload p a
-  placed-on {payload} h w e =
-      let k = read-to h w e in
-      record { inside = omega (arith, k .inside, length-toBits payload); ahead = omega (arith, h .ahead, k .far, k .count) }
-
   pub wrote-to : (sheet : List ℕ) → Walked (writing sheet) cs pos at last lent r lent' → r ≡ To p a l → at ≤ length sheet → pos < 2 ^ 33
       → Wrote sheet cs at 0 p a
   wrote-to sheet w e h k = came (subst (Comes (Wrote sheet cs at 0)) (sym (rw e at (w .went))) (writing-comes sheet cs pos at last lent h k))

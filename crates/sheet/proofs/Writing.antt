@@ -1,7 +1,7 @@
 -- The turns and the ends of a pass over a sheet, and of the whole writing, over plain variables: what the proofs of `write` and its parts cite.
 use mathlib.Core.Path.{_≡_, refl, ap, ap₂, sym, _∙_, subst}
 use mathlib.Core.Bool.{Bool, true, false}
-use mathlib.Core.List.{List, [], _++_, append-assoc}
+use mathlib.Core.List.{List, _++_, append-assoc}
 use Prim.Native.Nat.{ℕ, _+_, _-_, _*_, _^_, _≤_, _<_}
 use native.Mathlib.Omega.{arith}
 use native.Mathlib.Nat.{zero-add}
@@ -20,7 +20,8 @@ use Rattle.bits.specs.Laws.{leaves-there, length-toBits, length-bitsOf, toBits-
 use Rattle.layout.specs.declared.Field.{Field}
 use Rattle.layout.specs.declared.Verdict.{Verdict}
 use Rattle.layout.specs.declared.Verdict.the-variants as verdict
-use Rattle.layout.specs.Layout.{Layout, pick, judge, Written, written, unwritten, writeL}
+use Rattle.layout.specs.Parts.{Part, absent, present}
+use Rattle.layout.specs.Layout.{Layout, judge, Written, written, unwritten, writeL}
 use Rattle.layout.specs.Run.{finished, stopped, On}
 use Rattle.layout.specs.Put.{putL, endedW, put-writes, put-done, put-over, put-short, put-fault, put-on}
 use Rattle.layout.specs.Walks.{Walks}
@@ -29,10 +30,10 @@ use Rattle.message.specs.declared.State.{State}
 use Rattle.message.specs.declared.Start.{Start}
 use Rattle.message.specs.declared.Start.the-variants.{Known, Unknown}
 use Rattle.message.specs.Machine.{fieldOf, stepOf, startOf}
-use Rattle.message.specs.Messages.{Message}
+use Rattle.message.specs.Messages.{Message, layoutFor}
 use Rattle.sheet.specs.Sheet.{badLength, bytesFor, fillFor, thenLength, judgingSheet, judgedSheet, writing, writeAnswerBy, outBy, writeAnswer, outAfter}
-use Rattle.sheet.specs.Laws.{good-some, judging-sheet-with, writing-with}
-use Rattle.sheet.specs.Passes.{ForLayout, PutBy, whole, fault, bitsOfPass, WritePass, bitsWritten, bytesWritten, SheetJudged, AsideBits, text, nothing, SheetKept, WriteWhole}
+use Rattle.sheet.specs.Laws.{good-some, judgingSheetWith, judging-sheet-with, writing-with}
+use Rattle.sheet.specs.Passes.{ForLayout, PutBy, whole, fault, bitsOfPass, WritePass, bitsWritten, bytesWritten, writtenWith, writtenOf, SheetPass, AsideBits, text, nothing, SheetKept, WriteWhole}
 use Rattle.sheet.specs.declared.WriteAnswer.{WriteAnswer}
 use Rattle.sheet.specs.declared.WriteAnswer.the-variants as writer
 use Rattle.sheet.specs.declared.Pass.{Pass}
@@ -212,40 +213,53 @@ aside-by : (o : Written) (pass : Pass) (aside aside' : List ℕ) → PutBy aside
 aside-by (written bs) (Whole n m) aside aside' (whole c h) = text h
 aside-by (unwritten w) (Fault v) aside aside' fault = nothing
 
-module _ {sheet aside : List ℕ} {start : State} (dry : Pass) (aside' : List ℕ) (p : WritePass sheet aside start dry aside') where
-  pub keep-fault : (why : answer.Fault) → dry ≡ Fault why → SheetKept sheet aside start (writer.Refused why) aside'
+-- from the start of a type and subtype
+module _ (kind subtype : ℕ) (sheet out : List ℕ) (x : Start) (e : x ≡ startOf kind subtype) where
+  pub sheet-known : (pass : Pass) (out' : List ℕ) (start : State) → x ≡ Known start → WritePass sheet out start pass out' → SheetPass kind subtype sheet out pass out'
+  sheet-known pass out' start q w =
+      let k = started kind subtype x start e q in
+      record {
+        puts = subst (λ o. PutBy out out' o pass) (sym (ap (writtenWith sheet) (k .here))) (w .puts (k .layout) (k .walks));
+        small = w .small;
+      }
+
+  pub sheet-unknown : x ≡ Unknown → SheetPass kind subtype sheet out (Fault (nowhere refusal.UnknownType)) out
+  sheet-unknown q =
+      record {
+        puts = subst (λ o. PutBy out out o (Fault (nowhere refusal.UnknownType))) (sym (ap (writtenWith sheet) (not-started kind subtype x e q))) fault;
+        small = omega arith;
+      }
+
+module _ {kind subtype : ℕ} {sheet aside : List ℕ} (dry : Pass) (aside' : List ℕ) (p : SheetPass kind subtype sheet aside dry aside') where
+  pub keep-fault : (why : answer.Fault) → dry ≡ Fault why → SheetKept kind subtype sheet aside (writer.Refused why) aside'
   keep-fault why e =
       record {
-        judged = record { answers = λ l w. judged-fault (writeL l sheet) dry aside' aside why (p .puts l w) e; round = refl; good = omega arith };
-        keeps = λ l w. aside-by (writeL l sheet) dry aside aside' (p .puts l w);
+        judged = record { answers = judged-fault (writtenOf kind subtype sheet) dry aside' aside why (p .puts) e; round = refl; good = omega arith };
+        keeps = aside-by (writtenOf kind subtype sheet) dry aside aside' (p .puts);
       }
 
   module _ (entries count : ℕ) (e : dry ≡ Whole entries count) (b : Bool) (m : b ≡ badLength (bytesFor count)) where
-    pub keep-length : b ≡ true → SheetKept sheet aside start (writer.Refused (nowhere refusal.Length)) aside'
+    pub keep-length : b ≡ true → SheetKept kind subtype sheet aside (writer.Refused (nowhere refusal.Length)) aside'
     keep-length n =
         record {
           judged = record {
-            answers = λ l w. judged-length (writeL l sheet) dry aside' aside entries count (p .puts l w) e (sym m ∙ n);
+            answers = judged-length (writtenOf kind subtype sheet) dry aside' aside entries count (p .puts) e (sym m ∙ n);
             round = refl;
             good = omega arith;
           };
-          keeps = λ l w. aside-by (writeL l sheet) dry aside aside' (p .puts l w);
+          keeps = aside-by (writtenOf kind subtype sheet) dry aside aside' (p .puts);
         }
 
-    pub keep-whole : b ≡ false → SheetKept sheet aside start (writer.Written count (bytesFor count)) aside'
+    pub keep-whole : b ≡ false → SheetKept kind subtype sheet aside (writer.Written count (bytesFor count)) aside'
     keep-whole n =
         record {
           judged = record {
-            answers = λ l w. judged-whole (writeL l sheet) dry aside' aside entries count (p .puts l w) e (sym m ∙ n);
+            answers = judged-whole (writtenOf kind subtype sheet) dry aside' aside entries count (p .puts) e (sym m ∙ n);
             round = refl;
             good = good-some (bytesFor count) (sym m ∙ n) .1;
           };
-          keeps = λ l w. aside-by (writeL l sheet) dry aside aside' (p .puts l w);
+          keeps = aside-by (writtenOf kind subtype sheet) dry aside aside' (p .puts);
         }
-
-pub kept-judged : {sheet aside : List ℕ} {start : State} {answer : WriteAnswer} {aside' : List ℕ} → SheetKept sheet aside start answer aside'
-    → SheetJudged sheet start answer
-kept-judged k = k .judged
 
 -- a refusal leaves the bytes; the bits kept aside are copied, with the fill behind them
 module _ (out : List ℕ) where
@@ -297,12 +311,12 @@ copied-leaves (written bs) aside aside' out bits bytes e few room k p =
     ∙ ap₂ (λ x y. x ++ y) (toBits-take bytes aside' (omega arith) ∙ front) (toBits-drop bytes out (omega arith) ∙ ap (λ (x : ℕ). drop (8 * x) (toBits out)) i)
     ∙ append-assoc bs fill (drop (8 * bytesFor n) (toBits out))
 
-module _ {sheet aside : List ℕ} {start : State} (judged : WriteAnswer) (aside' : List ℕ) (p : SheetKept sheet aside start judged aside') where
-  pub whole-refused : {out : List ℕ} (why : answer.Fault) → judged ≡ writer.Refused why → WriteWhole sheet out start (writer.Refused why) out
+module _ {kind subtype : ℕ} {sheet aside : List ℕ} (judged : WriteAnswer) (aside' : List ℕ) (p : SheetKept kind subtype sheet aside judged aside') where
+  pub whole-refused : {out : List ℕ} (why : answer.Fault) → judged ≡ writer.Refused why → WriteWhole kind subtype sheet out (writer.Refused why) out
   whole-refused {out} why e =
       record {
-        answers = λ l w. sym e ∙ p .judged .answers l w;
-        leaves = λ l w. refused-leaves out (thenLength (writeL l sheet)) why (sym e ∙ p .judged .answers l w);
+        answers = sym e ∙ p .judged .answers;
+        leaves = refused-leaves out (thenLength (writtenOf kind subtype sheet)) why (sym e ∙ p .judged .answers);
       }
 
   module _ (bits bytes : ℕ) (e : judged ≡ writer.Written bits bytes) where
@@ -335,37 +349,37 @@ module _ {sheet aside : List ℕ} {start : State} (judged : WriteAnswer) (aside'
     pub whole-written : {out : List ℕ} (aside₂ out' : List ℕ) → longestPayload ≤ length out → longestPayload ≤ length aside → length aside' ≡ length aside
         → length aside₂ ≡ length aside' → toBits aside₂ ≡ leaves aside' bits (8 * bytes - bits) 0
         → out' ≡ take (length (take bytes aside₂)) (take bytes aside₂) ++ drop (length (take bytes aside₂)) out
-        → WriteWhole sheet out start (writer.Written bits bytes) out'
+        → WriteWhole kind subtype sheet out (writer.Written bits bytes) out'
     whole-written {out} aside₂ out' room k same same₂ put c =
         let s : bytes ≤ longestPayload = whole-short in
         let n : length (take bytes aside₂) ≡ bytes = length-take-le bytes aside₂ (omega arith) in
         let d : out' ≡ take bytes aside₂ ++ drop bytes out
         = c ∙ ap₂ (λ x y. x ++ y) (take-length (take bytes aside₂)) (ap (λ (x : ℕ). drop x out) n) in
         record {
-          answers = λ l w. sym e ∙ p .judged .answers l w;
-          leaves = λ l w. ap toBits d ∙ copied-leaves (thenLength (writeL l sheet)) aside aside₂ out bits bytes (sym e ∙ p .judged .answers l w) s room (omega arith)
-              (stored-leaves aside (writeL l sheet) aside' aside₂ bits bytes (sym e ∙ p .judged .answers l w) k same (p .keeps l w) put);
+          answers = sym e ∙ p .judged .answers;
+          leaves = ap toBits d ∙ copied-leaves (thenLength (writtenOf kind subtype sheet)) aside aside₂ out bits bytes (sym e ∙ p .judged .answers) s room (omega arith)
+              (stored-leaves aside (writtenOf kind subtype sheet) aside' aside₂ bits bytes (sym e ∙ p .judged .answers) k same (p .keeps) put);
         }
 
 -- the count of a pass is small enough to be rounded up to bytes
-pub count-small : {sheet aside : List ℕ} {start : State} {dry : Pass} {aside' : List ℕ} {entries count : ℕ} → WritePass sheet aside start dry aside' → dry ≡ Whole entries count → count + 7 < 2 ^ 64
+pub count-small : {kind subtype : ℕ} {sheet aside : List ℕ} {dry : Pass} {aside' : List ℕ} {entries count : ℕ} → SheetPass kind subtype sheet aside dry aside' → dry ≡ Whole entries count → count + 7 < 2 ^ 64
 count-small {count} p e = let h : count < 2 ^ 33 = subst (λ x. bitsOfPass x < 2 ^ 33) e (p .small) in omega arith
 
 -- ---- `judge_sheet`
+
+then-judging : (sheet : List ℕ) (p : Part (Layout Message)) → thenLength (writtenWith sheet p) ≡ judgingSheetWith sheet p
+then-judging sheet absent = refl
+then-judging sheet (present l) = refl
 
 module _ (kind subtype : ℕ) (sheet : List ℕ) where
   is-judged : (o : Written) → judgingSheet kind subtype sheet ≡ o → writeAnswerBy o ≡ judgedSheet kind subtype sheet
   unfolding judgedSheet
   is-judged o e = ap writeAnswerBy (sym e)
 
-  pub judge-unknown : (x : Start) → x ≡ startOf kind subtype → x ≡ Unknown → writer.Refused (nowhere refusal.UnknownType) ≡ judgedSheet kind subtype sheet
-  judge-unknown x e q = is-judged (unwritten (nowhere refusal.UnknownType)) (judging-sheet-with kind subtype sheet (not-started kind subtype x e q))
-
-  pub judge-known : (x : Start) (start : State) → x ≡ startOf kind subtype → x ≡ Known start → (r : WriteAnswer) → SheetJudged sheet start r
-      → r ≡ judgedSheet kind subtype sheet
-  judge-known x start e q r w =
-      let k = started kind subtype x start e q in
-      w .answers (k .layout) (k .walks) ∙ is-judged (thenLength (writeL (k .layout) sheet)) (judging-sheet-with kind subtype sheet (k .here))
+  pub judge-kept : (r : WriteAnswer) (aside aside' : List ℕ) → SheetKept kind subtype sheet aside r aside' → r ≡ judgedSheet kind subtype sheet
+  judge-kept r aside aside' p =
+      p .judged .answers ∙ ap writeAnswerBy (then-judging sheet (layoutFor kind subtype))
+      ∙ is-judged (judgingSheetWith sheet (layoutFor kind subtype)) (judging-sheet-with kind subtype sheet refl)
 
 -- ---- `write`
 
@@ -386,14 +400,9 @@ module _ (kind subtype : ℕ) (sheet out : List ℕ) where
   pub write-room : length out < longestPayload → Met kind subtype sheet out (writer.Refused (nowhere refusal.Room)) out
   write-room h = meets (unwritten (nowhere refusal.Room)) out (writing-with kind subtype sheet out (lt-ltb (length out) longestPayload h) refl) refl
 
-  module _ (room : longestPayload ≤ length out) where
-    pub write-unknown : (x : Start) → x ≡ startOf kind subtype → x ≡ Unknown → Met kind subtype sheet out (writer.Refused (nowhere refusal.UnknownType)) out
-    write-unknown x e q = meets (unwritten (nowhere refusal.UnknownType)) out (writing-with kind subtype sheet out (le-ltb (length out) longestPayload room) (not-started kind subtype x e q)) refl
-
-    pub write-known : (x : Start) (start : State) → x ≡ startOf kind subtype → x ≡ Known start → (r : WriteAnswer) (out' : List ℕ)
-        → WriteWhole sheet out start r out' → Met kind subtype sheet out r out'
-    write-known x start e q r out' w =
-        let k = started kind subtype x start e q in
-        let o : Written = thenLength (writeL (k .layout) sheet) in
-        let g = meets o out' (writing-with kind subtype sheet out (le-ltb (length out) longestPayload room) (k .here)) (w .leaves (k .layout) (k .walks)) in
-        record { says = w .answers (k .layout) (k .walks) ∙ g .says; leaves = g .leaves }
+  pub write-met : (r : WriteAnswer) (out' : List ℕ) → longestPayload ≤ length out → WriteWhole kind subtype sheet out r out' → Met kind subtype sheet out r out'
+  write-met r out' room w =
+      let p : Part (Layout Message) = layoutFor kind subtype in
+      let same : thenLength (writtenWith sheet p) ≡ judgingSheetWith sheet p = then-judging sheet p in
+      let g = meets (judgingSheetWith sheet p) out' (writing-with kind subtype sheet out (le-ltb (length out) longestPayload room) refl) (w .leaves ∙ ap (λ o. outBy o out) same) in
+      record { says = w .answers ∙ ap writeAnswerBy same ∙ g .says; leaves = g .leaves }

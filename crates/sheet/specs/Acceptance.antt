@@ -16,7 +16,7 @@ use Rattle.answer.specs.declared.Refusal.the-variants as refusal
 use Rattle.bits.specs.Bits.{toBits}
 use Rattle.bits.specs.Laws.{length-toBits, bits-toBits}
 use Rattle.layout.specs.Layout.{Layout, refused, written, unwritten}
-use Rattle.layout.specs.Parts.{Part, absent, present}
+use Rattle.layout.specs.Parts.{Part, present}
 use Rattle.layout.specs.Holds.{Holds, bitsFrom}
 use Rattle.layout.specs.Reaches.{written-holds}
 use Rattle.layout.specs.RoundTrip.{write-read, read-write}

@@ -3,6 +3,9 @@ pub mod Passes
 pub mod Walked
 pub mod Stores
 pub mod StoresHpac
+pub mod StoresGad
+pub mod StoresBpac
+pub mod StoresOcb
 pub mod Determined
 pub mod Laws
 pub mod Theorems

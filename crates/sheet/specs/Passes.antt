@@ -1,16 +1,17 @@
 -- Serves proofs: what one pass of the code over a payload or a sheet must come to, by the layout that its start walks.
 use mathlib.Core.Path.{_≡_}
 use mathlib.Core.Bool.{Bool, true, false}
-use mathlib.Core.List.{List, _++_}
-use Prim.Native.Nat.{ℕ, _+_, _*_, _^_, _≤_, _<_}
-use lib.Dec.{ltb}
+use mathlib.Core.List.{List, [], _++_}
+use Prim.Native.Nat.{ℕ, _*_, _^_, _≤_, _<_}
 use lib.ListN.{length, drop}
 use Rattle.sizes.specs.Sizes.{longestPayload}
 use Rattle.answer.specs.declared.Fault as answer
+use Rattle.answer.specs.declared.Refusal.the-variants.{UnknownType}
+use Rattle.answer.specs.Place.{nowhere}
 use Rattle.bits.specs.Bits.{toBits}
 use Rattle.layout.specs.Layout.{Layout, readL, Written, written, unwritten, writeL}
 use Rattle.layout.specs.Run.{Ended, finished, stopped, runL}
-use Rattle.layout.specs.Parts.{present}
+use Rattle.layout.specs.Parts.{Part, absent, present}
 use Rattle.layout.specs.Walks.{Walks}
 use Rattle.rows.specs.Puts.{Counted}
 use Rattle.message.specs.declared.State.{State}
@@ -30,22 +31,17 @@ use Rattle.sheet.specs.declared.Pass.the-variants.{Whole, Fault}
 abbrev pub ForLayout : State → (Layout Message → Type 0) → Type 0
 ForLayout s claim = (l : Layout Message) → Walks fieldOf stepOf s l → claim l
 
--- a pass over a payload, with the sheet that it left
-abbrev pub endedBy : Pass → List ℕ → Ended
-endedBy (Whole entries bits) sheet = finished entries bits sheet
-endedBy (Fault why) sheet = stopped why
-
-abbrev pub entriesOf : Pass → ℕ
-entriesOf (Whole entries bits) = entries
-entriesOf (Fault why) = 0
+-- a pass over a payload, which stores nothing
+abbrev pub endedBy : Pass → Ended
+endedBy (Whole entries bits) = finished entries bits []
+endedBy (Fault why) = stopped why
 
 abbrev pub bitsOfPass : Pass → ℕ
 bitsOfPass (Whole entries bits) = bits
 bitsOfPass (Fault why) = 0
 
-pub record ReadPass (payload sheet : List ℕ) (start : State) (pass : Pass) (sheet' : List ℕ) : Type 0 where
-  pub ends : ForLayout start (λ l. endedBy pass sheet' ≡ runL l (toBits payload) 0 0 sheet)
-  pub few : entriesOf pass ≤ 8 * length payload
+pub record ReadPass (payload : List ℕ) (start : State) (pass : Pass) : Type 0 where
+  pub ends : ForLayout start (λ l. endedBy pass ≡ runL l (toBits payload) 0 0 [])
 
 -- a payload judged by the layout
 pub record ReadJudged (payload : List ℕ) (start : State) (answer : ReadAnswer) : Type 0 where
@@ -56,8 +52,8 @@ abbrev pub isKnown : Start → Bool
 isKnown (Known s) = true
 isKnown Unknown = false
 
-pub record StartedPass (kind subtype : ℕ) (payload sheet : List ℕ) (pass : Pass) (sheet' : List ℕ) : Type 0 where
-  pub from : (start : State) → startOf kind subtype ≡ Known start → ReadPass payload sheet start pass sheet'
+pub record StartedPass (kind subtype : ℕ) (payload : List ℕ) (pass : Pass) : Type 0 where
+  pub from : (start : State) → startOf kind subtype ≡ Known start → ReadPass payload start pass
 
 pub record StartedJudged (kind subtype : ℕ) (payload : List ℕ) (answer : ReadAnswer) : Type 0 where
   pub from : (start : State) → startOf kind subtype ≡ Known start → ReadJudged payload start answer
@@ -92,9 +88,21 @@ abbrev pub bytesWritten : WriteAnswer → ℕ
 bytesWritten (writer.Written bits bytes) = bytes
 bytesWritten (writer.Refused why) = 0
 
--- a sheet judged by the layout
-pub record SheetJudged (sheet : List ℕ) (start : State) (answer : WriteAnswer) : Type 0 where
-  pub answers : ForLayout start (λ l. answer ≡ writeAnswerBy (thenLength (writeL l sheet)))
+-- what is written of a sheet of a type and subtype, LENGTH left aside
+abbrev pub writtenWith : List ℕ → Part (Layout Message) → Written
+writtenWith sheet absent = unwritten (nowhere UnknownType)
+writtenWith sheet (present l) = writeL l sheet
+
+abbrev pub writtenOf : (kind subtype : ℕ) → List ℕ → Written
+writtenOf kind subtype sheet = writtenWith sheet (layoutFor kind subtype)
+
+pub record SheetPass (kind subtype : ℕ) (sheet out : List ℕ) (pass : Pass) (out' : List ℕ) : Type 0 where
+  pub puts : PutBy out out' (writtenOf kind subtype sheet) pass
+  pub small : bitsOfPass pass < 2 ^ 33
+
+-- a sheet judged
+pub record SheetJudged (kind subtype : ℕ) (sheet : List ℕ) (answer : WriteAnswer) : Type 0 where
+  pub answers : answer ≡ writeAnswerBy (thenLength (writtenOf kind subtype sheet))
   pub round : bytesWritten answer ≡ bytesFor (bitsWritten answer)
   pub good : bytesWritten answer ≤ longestPayload
 
@@ -105,11 +113,11 @@ pub data AsideBits (aside aside' : List ℕ) : Written → Type 0 where
   nothing : {why : answer.Fault} → AsideBits aside aside' (unwritten why)
 
 -- a sheet judged, and its bits kept aside
-pub record SheetKept (sheet aside : List ℕ) (start : State) (answer : WriteAnswer) (aside' : List ℕ) : Type 0 where
-  pub judged : SheetJudged sheet start answer
-  pub keeps : ForLayout start (λ l. AsideBits aside aside' (writeL l sheet))
+pub record SheetKept (kind subtype : ℕ) (sheet aside : List ℕ) (answer : WriteAnswer) (aside' : List ℕ) : Type 0 where
+  pub judged : SheetJudged kind subtype sheet answer
+  pub keeps : AsideBits aside aside' (writtenOf kind subtype sheet)
 
--- the whole writing by the layout, in one answer
-pub record WriteWhole (sheet out : List ℕ) (start : State) (answer : WriteAnswer) (out' : List ℕ) : Type 0 where
-  pub answers : ForLayout start (λ l. answer ≡ writeAnswerBy (thenLength (writeL l sheet)))
-  pub leaves : ForLayout start (λ l. toBits out' ≡ outBy (thenLength (writeL l sheet)) out)
+-- the whole writing, in one answer
+pub record WriteWhole (kind subtype : ℕ) (sheet out : List ℕ) (answer : WriteAnswer) (out' : List ℕ) : Type 0 where
+  pub answers : answer ≡ writeAnswerBy (thenLength (writtenOf kind subtype sheet))
+  pub leaves : toBits out' ≡ outBy (thenLength (writtenOf kind subtype sheet)) out

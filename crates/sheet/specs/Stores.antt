@@ -1,11 +1,10 @@
 -- Serves proofs, and is proved: a pass over a payload that is known to be accepted. It stores each code that it meets and asks nothing: since the run to the end
 -- finishes, each field has its bits and takes its code.
-use mathlib.Core.Path.{_≡_, refl, ap, ap₂, sym, _∙_, subst}
+use mathlib.Core.Path.{_≡_, refl, ap, sym, _∙_, subst}
 use mathlib.Core.Bool.{Bool, true, false}
 use mathlib.Core.List.{List, [], _∷_}
-use Prim.Native.Nat.{ℕ, zero, suc, _+_, _-_, _*_, _≤_, _<_}
-use native.Mathlib.Nat.{add-zero, zero-mul, suc-mul}
-use native.Mathlib.Numerals.{add-one}
+use Prim.Native.Nat.{ℕ, zero, suc, _+_, _*_, _≤_, _<_}
+use native.Mathlib.Nat.{zero-mul, suc-mul}
 use native.Mathlib.Omega.{arith}
 use borrow.Author.Tests.{leb-true}
 use lib.Dec.{leb}
@@ -19,8 +18,8 @@ use Rattle.answer.specs.Place.{faultAt}
 use Rattle.layout.specs.declared.Field.{Field}
 use Rattle.layout.specs.declared.Verdict.{Verdict}
 use Rattle.layout.specs.declared.Verdict.the-variants.{Taken, Fault}
-use Rattle.layout.specs.Layout.{Layout, done, field, pick, judge}
-use Rattle.layout.specs.Parts.{Part, absent, present, optional, times, each}
+use Rattle.layout.specs.Layout.{Layout, field, pick, judge}
+use Rattle.layout.specs.Parts.{times}
 use Rattle.layout.specs.Run.{Ended, finished, stopped, judgedE, runL}
 use Rattle.message.specs.Messages.{Message}
 
@@ -34,11 +33,8 @@ pub record Finishes (e : Ended) : Type 0 where
   pub filled : List ℕ
   pub is : e ≡ finished count used filled
 
-no-stop : {X : Type 0} (e : Ended) → Finishes e → {f : Ended} → e ≡ f → ((count used : ℕ) (filled : List ℕ) → f ≡ finished count used filled → X) → X
-no-stop e h q f = f (h .count) (h .used) (h .filled) (sym q ∙ h .is)
-
 module _ (payload : List ℕ) (f : Field) (next : ℕ → Layout Message) (pos at : ℕ) (sheet : List ℕ) where
-  run-next : 0 < f .width → f .width ≤ 64 → Finishes (runAt payload (field f next) pos at sheet)
+  pub run-next : 0 < f .width → f .width ≤ 64 → Finishes (runAt payload (field f next) pos at sheet)
       → runAt payload (field f next) pos at sheet
       ≡ runAt payload (next (got payload pos (f .width))) (pos + f .width) (at + 1) (set sheet at (got payload pos (f .width)))
   unfolding runL bits.field
@@ -66,6 +62,17 @@ module _ (payload : List ℕ) (f : Field) (next : ℕ → Layout Message) (pos a
           ∙ ap (λ (x : ℕ). runAt payload (next x) (pos + w) (at + 1) (set sheet at x)) is
       go true e (Fault why) j h = let q : stopped (faultAt why (f .sf) pos) ≡ finished (h .count) (h .used) (h .filled) = h .is in let z : _≡_ {A = ℕ} 0 1 = cc in absurd (omega arith)
       go false e v j h = let q : stopped (faultAt refusal.Short (f .sf) pos) ≡ finished (h .count) (h .used) (h .filled) = h .is in let z : _≡_ {A = ℕ} 0 1 = cc in absurd (omega arith)
+
+-- a field whose run goes on has its bits
+pub run-there : (payload : List ℕ) (f : Field) (next : ℕ → Layout Message) (pos at : ℕ) (sheet : List ℕ) → 0 < f .width → Finishes (runAt payload (field f next) pos at sheet)
+    → pos + f .width ≤ 8 * length payload
+unfolding runL
+run-there payload f next pos at sheet some h = go (leb (f .width) (length (drop pos (toBits payload)))) refl _ h
+  where
+    go : (b : Bool) → leb (f .width) (length (drop pos (toBits payload))) ≡ b → (e : Ended) → Finishes (pick b e (stopped (faultAt refusal.Short (f .sf) pos)))
+        → pos + f .width ≤ 8 * length payload
+    go true q e h = omega (arith, leb-true (f .width) (length (drop pos (toBits payload))) q, length-drop pos (toBits payload), length-toBits payload)
+    go false q e h = let s : stopped (faultAt refusal.Short (f .sf) pos) ≡ finished (h .count) (h .used) (h .filled) = h .is in let z : _≡_ {A = ℕ} 0 1 = cc in absurd (omega arith)
 
 -- From bit pos and entry at the part goes on, to there, and leaves the sheet so, if all of the message is accepted.
 pub record Stores {B : Type 0} (payload : List ℕ) (part : (B → Layout Message) → Layout Message) (pos at : ℕ) (sheet : List ℕ) (pos' at' : ℕ) (sheet' : List ℕ) : Type 0 where

@@ -1,6 +1,7 @@
--- Serves proofs: what the functions of store.rt must come to, by the parts of the HPAC layout (document 000, tables 6.13 to 6.22).
+-- Serves proofs: what the functions of store.rt must come to, by the parts of the HPAC layout (document 000, tables 6.13 to 6.22). `Kept` and `Moved` serve the other
+-- messages too.
 use mathlib.Core.Path.{_≡_}
-use mathlib.Core.List.{List, []}
+use mathlib.Core.List.{List}
 use Prim.Native.Nat.{ℕ, suc, _+_, _≤_}
 use lib.Dec.{leb}
 use lib.ListN.{length, set}

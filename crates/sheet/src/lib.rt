@@ -9,10 +9,13 @@ ghost use Rattle.sheet.specs.Sheet.{badLength, judged, readAnswer, sheet
 ghost use Rattle.answer.specs.Place.{faultAt};
 ghost use Rattle.message.specs.Machine.{startOf};
 ghost use Rattle.sheet.specs.declared.Pass.the-variants as pass;
-ghost use Rattle.sheet.specs.Passes.{ReadPass, isKnown, StartedPass, StartedJudged, Filled, WritePass, SheetJudged, SheetKept, WriteWhole};
+ghost use Rattle.sheet.specs.Passes.{ReadPass, isKnown, StartedPass, StartedJudged, Filled, WritePass, SheetPass, SheetKept, WriteWhole};
 
 mod row;
 mod store;
+mod store_bpac;
+mod store_gad;
+mod store_ocb;
 
 use answer::Fault;
 use answer::Place;
@@ -24,7 +27,6 @@ use message::State;
 use message::Subtype;
 use quick::Quick;
 use row::Ran;
-use row::read_row;
 use row::write_row;
 
 // What `read` answers: the count of bits read and of entries written, or the refusal; SHORT, FIELD and MASK_EMPTY with the field's number and the bit where its
@@ -69,83 +71,63 @@ fn fault_at(field: Field, why: Refusal, here: usize) -> Pass
     })
 }
 
-// One pass over a payload: what it comes to, and the codes in the sheet as far as that has room.
-fn read_pass(payload: &[u8], sheet: &mut [u64], start: State) -> Pass
+// One pass over a payload: what it comes to. No code is stored, and no rows are asked for: it is wanted for a refusal and its place.
+fn judge_pass(payload: &[u8], start: State) -> Pass
     requires { ⌜ length (now payload) ≤ longestPayload ⌝ }
-    ensures { λ r. ⌜ ReadPass (now (payload .entry)) (now (sheet .entry)) start r (now (sheet .exit)) ⌝ }
+    ensures { λ r. ⌜ ReadPass (now (payload .entry)) start r ⌝ }
 {
     let total = payload.len() * 8;
     let mut s = start;
     let mut pos: usize = 0;
     let mut at: usize = 0;
     loop {
-        let row = message::row::row_of(s);
-        if row.group != 0 {
-            match read_row(payload, sheet, row, pos, at) {
-                Ran::Stopped(why) => {
-                    return Pass::Fault(why);
-                }
-                Ran::To {
-                    pos: p,
-                    at: a,
-                    last,
-                } => {
-                    pos = p;
-                    at = a;
-                    s = message::row::after(s, last);
-                }
+        let field = message::field_of(s);
+        let width = field.width;
+        if width == 0 {
+            return Pass::Whole {
+                entries: at,
+                bits: pos,
+            };
+        }
+        let bits = width as usize;
+        if total - pos < bits {
+            return fault_at(field, Refusal::Short, pos);
+        }
+        let code = bits::get(payload, pos, width);
+        let next = pos + bits;
+        match layout::judge(field, code) {
+            Verdict::Fault(why) => {
+                return fault_at(field, why, pos);
             }
-        } else {
-            let field = message::field_of(s);
-            let width = field.width;
-            if width == 0 {
-                return Pass::Whole {
-                    entries: at,
-                    bits: pos,
-                };
-            }
-            let bits = width as usize;
-            if total - pos < bits {
-                return fault_at(field, Refusal::Short, pos);
-            }
-            let code = bits::get(payload, pos, width);
-            let next = pos + bits;
-            match layout::judge(field, code) {
-                Verdict::Fault(why) => {
-                    return fault_at(field, why, pos);
-                }
-                Verdict::Taken => {
-                    rows::store(sheet, at, code);
-                    at += 1;
-                    pos = next;
-                    s = message::advance(s, code);
-                }
+            Verdict::Taken => {
+                at += 1;
+                pos = next;
+                s = message::advance(s, code);
             }
         }
     }
 }
 
 // A pass from the start of a type and subtype.
-fn pass_of(kind: u8, subtype: u8, payload: &[u8], sheet: &mut [u64]) -> Pass
+fn pass_of(kind: u8, subtype: u8, payload: &[u8]) -> Pass
     requires { ⌜ length (now payload) ≤ longestPayload ⌝ }
-    ensures { λ r. ⌜ StartedPass kind subtype (now (payload .entry)) (now (sheet .entry)) r (now (sheet .exit)) ⌝ }
+    ensures { λ r. ⌜ StartedPass kind subtype (now (payload .entry)) r ⌝ }
 {
     match message::start_of(kind, subtype) {
         Start::Unknown => Pass::Fault(Fault {
             refusal: Refusal::UnknownType,
             place: Place::Nowhere,
         }),
-        Start::Known(start) => read_pass(payload, sheet, start),
+        Start::Known(start) => judge_pass(payload, start),
     }
 }
 
-// A pass without a sheet says whether the message is accepted, and where not.
+// What the pass comes to, as an answer.
 fn judge_from(kind: u8, subtype: u8, payload: &[u8]) -> ReadAnswer
     requires { ⌜ length (now payload) ≤ longestPayload ⌝ }
     ensures { λ r. ⌜ StartedJudged kind subtype (now (payload .entry)) r ⌝ }
 {
-    let mut none = [0u64; 1];
-    match pass_of(kind, subtype, payload, &mut none[..0]) {
+    match pass_of(kind, subtype, payload) {
         Pass::Fault(why) => ReadAnswer::Refused(why),
         Pass::Whole { entries, bits } => ReadAnswer::Read { bits, entries },
     }
@@ -162,8 +144,18 @@ fn judge_known(kind: u8, subtype: u8, payload: &[u8]) -> ReadAnswer
     }
 }
 
+// The codes of an accepted OCB come onto the sheet.
+fn store_ocb_codes(subtype: u8, payload: &[u8], sheet: &mut [u64])
+    ensures { λ _. ⌜ Filled 0 subtype (now (payload .entry)) (now (sheet .entry)) (now (sheet .exit)) ⌝ }
+{
+    match message::constellation_of(subtype) {
+        Subtype::Known(constellation) => store_ocb::ocb(constellation, payload, sheet),
+        Subtype::Unknown => {}
+    }
+}
+
 // The codes of an accepted HPAC come onto the sheet.
-fn store_hpac(subtype: u8, payload: &[u8], sheet: &mut [u64])
+fn store_hpac_codes(subtype: u8, payload: &[u8], sheet: &mut [u64])
     ensures { λ _. ⌜ Filled 1 subtype (now (payload .entry)) (now (sheet .entry)) (now (sheet .exit)) ⌝ }
 {
     match message::constellation_of(subtype) {
@@ -172,16 +164,25 @@ fn store_hpac(subtype: u8, payload: &[u8], sheet: &mut [u64])
     }
 }
 
-// The codes of an accepted message come onto the sheet: an HPAC's by positions, the others' by the machine.
-fn store_known(kind: u8, subtype: u8, payload: &[u8], sheet: &mut [u64])
-    requires { ⌜ (isKnown (startOf kind subtype) ≡ true) × (length (now payload) ≤ longestPayload) ⌝ }
+// The codes of an accepted message come onto the sheet, by positions.
+fn store_codes(kind: u8, subtype: u8, payload: &[u8], sheet: &mut [u64])
     ensures { λ _. ⌜ Filled kind subtype (now (payload .entry)) (now (sheet .entry)) (now (sheet .exit)) ⌝ }
 {
-    if kind == 1 {
-        store_hpac(subtype, payload, sheet);
+    if kind == 0 {
+        store_ocb_codes(subtype, payload, sheet);
         return;
     }
-    pass_of(kind, subtype, payload, sheet);
+    if kind == 1 {
+        store_hpac_codes(subtype, payload, sheet);
+        return;
+    }
+    if kind == 2 {
+        store_gad::gad(payload, sheet);
+        return;
+    }
+    if kind == 3 {
+        store_bpac::bpac(payload, sheet);
+    }
 }
 
 // The message is judged before its codes come onto the sheet: a refusal alters nothing.
@@ -194,7 +195,7 @@ fn read_known(kind: u8, subtype: u8, payload: &[u8], sheet: &mut [u64]) -> ReadA
     match judged {
         ReadAnswer::Refused(why) => ReadAnswer::Refused(why),
         ReadAnswer::Read { bits, entries } => {
-            store_known(kind, subtype, payload, sheet);
+            store_codes(kind, subtype, payload, sheet);
             ReadAnswer::Read { bits, entries }
         }
     }
@@ -308,11 +309,24 @@ fn write_pass(sheet: &[u64], out: &mut [u8], start: State) -> Pass
     }
 }
 
-// A pass says whether the sheet is accepted, and keeps its bits aside where all of them have room.
-fn keep_sheet_from(sheet: &[u64], aside: &mut [u8], start: State) -> WriteAnswer
-    ensures { λ r. ⌜ SheetKept (now (sheet .entry)) (now (aside .entry)) start r (now (aside .exit)) ⌝ }
+// A pass from the start of a type and subtype. The start is made here, where it is used: handed down it would lie on the stack twice.
+fn sheet_pass(kind: u8, subtype: u8, sheet: &[u64], out: &mut [u8]) -> Pass
+    ensures { λ r. ⌜ SheetPass kind subtype (now (sheet .entry)) (now (out .entry)) r (now (out .exit)) ⌝ }
 {
-    match write_pass(sheet, aside, start) {
+    match message::start_of(kind, subtype) {
+        Start::Unknown => Pass::Fault(Fault {
+            refusal: Refusal::UnknownType,
+            place: Place::Nowhere,
+        }),
+        Start::Known(start) => write_pass(sheet, out, start),
+    }
+}
+
+// A pass says whether the sheet is accepted, and keeps its bits aside where all of them have room.
+fn keep_sheet(kind: u8, subtype: u8, sheet: &[u64], aside: &mut [u8]) -> WriteAnswer
+    ensures { λ r. ⌜ SheetKept kind subtype (now (sheet .entry)) (now (aside .entry)) r (now (aside .exit)) ⌝ }
+{
+    match sheet_pass(kind, subtype, sheet, aside) {
         Pass::Fault(why) => WriteAnswer::Refused(why),
         Pass::Whole { entries: _, bits } => {
             let bytes = (bits + 7) / 8;
@@ -327,19 +341,12 @@ fn keep_sheet_from(sheet: &[u64], aside: &mut [u8], start: State) -> WriteAnswer
     }
 }
 
-fn judge_sheet_from(sheet: &[u64], start: State) -> WriteAnswer
-    ensures { λ r. ⌜ SheetJudged (now (sheet .entry)) start r ⌝ }
-{
-    let mut none = [0u8; 1];
-    keep_sheet_from(sheet, &mut none[..0], start)
-}
-
 // The sheet is judged before its bits and the fill behind them come into `out`: a refusal alters nothing.
-fn write_by(sheet: &[u64], out: &mut [u8], aside: &mut [u8], start: State) -> WriteAnswer
+fn write_by(kind: u8, subtype: u8, sheet: &[u64], out: &mut [u8], aside: &mut [u8]) -> WriteAnswer
     requires { ⌜ (longestPayload ≤ length (now out)) × (longestPayload ≤ length (now aside)) ⌝ }
-    ensures { λ r. ⌜ WriteWhole (now (sheet .entry)) (now (out .entry)) start r (now (out .exit)) ⌝ }
+    ensures { λ r. ⌜ WriteWhole kind subtype (now (sheet .entry)) (now (out .entry)) r (now (out .exit)) ⌝ }
 {
-    let judged = keep_sheet_from(sheet, aside, start);
+    let judged = keep_sheet(kind, subtype, sheet, aside);
     match judged {
         WriteAnswer::Refused(why) => WriteAnswer::Refused(why),
         WriteAnswer::Written { bits, bytes } => {
@@ -351,25 +358,20 @@ fn write_by(sheet: &[u64], out: &mut [u8], aside: &mut [u8], start: State) -> Wr
     }
 }
 
-fn write_whole(sheet: &[u64], out: &mut [u8], start: State) -> WriteAnswer
+fn write_whole(kind: u8, subtype: u8, sheet: &[u64], out: &mut [u8]) -> WriteAnswer
     requires { ⌜ longestPayload ≤ length (now out) ⌝ }
-    ensures { λ r. ⌜ WriteWhole (now (sheet .entry)) (now (out .entry)) start r (now (out .exit)) ⌝ }
+    ensures { λ r. ⌜ WriteWhole kind subtype (now (sheet .entry)) (now (out .entry)) r (now (out .exit)) ⌝ }
 {
     let mut aside = [0u8; sizes::LONGEST_PAYLOAD];
-    write_by(sheet, out, &mut aside[..], start)
+    write_by(kind, subtype, sheet, out, &mut aside[..])
 }
 
 // What a sheet of a type (TF002) and subtype (TF007) says, with no room to write it. "UNKNOWN_TYPE, first fault, LEFTOVER, LENGTH."
 pub fn judge_sheet(kind: u8, subtype: u8, sheet: &[u64]) -> WriteAnswer
     ensures { λ r. ⌜ r ≡ judgedSheet kind subtype (now (sheet .entry)) ⌝ }
 {
-    match message::start_of(kind, subtype) {
-        Start::Unknown => WriteAnswer::Refused(Fault {
-            refusal: Refusal::UnknownType,
-            place: Place::Nowhere,
-        }),
-        Start::Known(start) => judge_sheet_from(sheet, start),
-    }
+    let mut none = [0u8; 1];
+    keep_sheet(kind, subtype, sheet, &mut none[..0])
 }
 
 // Writes a sheet as a payload of a type (TF002) and subtype (TF007). "ROOM, UNKNOWN_TYPE, first fault, LEFTOVER, LENGTH."
@@ -383,13 +385,7 @@ pub fn write(kind: u8, subtype: u8, sheet: &[u64], out: &mut [u8]) -> WriteAnswe
             place: Place::Nowhere,
         });
     }
-    match message::start_of(kind, subtype) {
-        Start::Unknown => WriteAnswer::Refused(Fault {
-            refusal: Refusal::UnknownType,
-            place: Place::Nowhere,
-        }),
-        Start::Known(start) => write_whole(sheet, out, start),
-    }
+    write_whole(kind, subtype, sheet, out)
 }
 
 // The number of `read`'s answer in document 01.

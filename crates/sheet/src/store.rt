@@ -1,4 +1,5 @@
-// The codes of an accepted HPAC payload stored by positions: no code is judged a second time. Internal: positions lie within what 32 areas can take.
+// The codes of an accepted HPAC payload stored by positions: no code is judged a second time. Internal: positions lie within what 32 areas can take. `Here`, `keep`
+// and `stretch` serve the stores of the other messages too.
 ghost use mathlib.Core.Path.{_≡_};
 ghost use Prim.Native.Nat.{_+_, _^_, _≤_, _<_};
 ghost use lib.Dec.{leb};
@@ -15,13 +16,13 @@ use hpac::spans::i_residual_width;
 use hpac::spans::t_residual_width;
 
 // Where in the payload and on the sheet.
-struct Here {
-    pos: usize,
-    at: usize,
+pub struct Here {
+    pub pos: usize,
+    pub at: usize,
 }
 
 // A code, which is stored.
-fn keep(payload: &[u8], sheet: &mut [u64], pos: usize, at: usize, width: u32) -> u64
+pub fn keep(payload: &[u8], sheet: &mut [u64], pos: usize, at: usize, width: u32) -> u64
     ensures { λ r. ⌜ Kept (now (payload .entry)) pos at width (now (sheet .entry)) r (now (sheet .exit)) ⌝ }
 {
     let code = bits::get(payload, pos, width);
@@ -29,8 +30,8 @@ fn keep(payload: &[u8], sheet: &mut [u64], pos: usize, at: usize, width: u32) ->
     code
 }
 
-// So many codes of one width.
-fn stretch(payload: &[u8], sheet: &mut [u64], pos: usize, at: usize, width: u32, n: u64)
+// So many codes of one width. Internal: as many as a grid has nodes or a mask has bits, and positions as above.
+pub fn stretch(payload: &[u8], sheet: &mut [u64], pos: usize, at: usize, width: u32, n: u64)
     requires { ⌜ (pos < 2 ^ 37) × (at < 2 ^ 37) × (width ≤ 16) × (n ≤ 127) ⌝ }
     ensures { λ _. ⌜ now (sheet .exit) ≡ stretched (now (payload .entry)) width n pos at (now (sheet .entry)) ⌝ }
 {

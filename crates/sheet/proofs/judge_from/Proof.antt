@@ -4,12 +4,6 @@ use borrow.Author.Needs.{needs}
 use Rattle.sheet.proofs.judge_from.Statement.{statement}
 use Rattle.sheet.proofs.judge_from.Tie as tie
 
-array-borrow-prefix-none : tie.Need-array-borrow-prefix-none
-array-borrow-prefix-none c = search needs
-
-slice-aggregate-pass-of : tie.Need-slice-aggregate-pass-of
-slice-aggregate-pass-of c = search needs
-
 pass-of-requires : tie.Need-pass-of-requires
 pass-of-requires c κs = search needs
 
@@ -29,8 +23,6 @@ pub judge-from-spec : {M : Type 1} → statement M
 judge-from-spec =
     tie.close
     (tie.spec
-    array-borrow-prefix-none
-    slice-aggregate-pass-of
     pass-of-requires
     enum-known-why
     enum-known-entries

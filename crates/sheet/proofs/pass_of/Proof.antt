@@ -13,14 +13,11 @@ enum-told c = search needs
 enum-known-start : tie.Need-enum-known-start
 enum-known-start c = search needs
 
-read-pass-requires : tie.Need-read-pass-requires
-read-pass-requires c κs = search needs
+judge-pass-requires : tie.Need-judge-pass-requires
+judge-pass-requires c κs = search needs
 
 returns : tie.Need-returns
 returns c = search (pass-known, pass-unknown, needs)
-
-same-length : tie.Need-same-length
-same-length c = search needs
 
 returns-2 : tie.Need-returns-2
 returns-2 c = search (pass-known, pass-unknown, needs)
@@ -32,7 +29,6 @@ pass-of-spec =
     start-of-requires
     enum-told
     enum-known-start
-    read-pass-requires
+    judge-pass-requires
     returns
-    same-length
     returns-2)

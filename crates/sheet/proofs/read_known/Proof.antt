@@ -1,5 +1,5 @@
 -- A payload that is not accepted alters nothing; one that is accepted is stored.
-use Rattle.sheet.proofs.Reading.{both, good-length, read-refused, read-stored}
+use Rattle.sheet.proofs.Reading.{both, read-refused, read-stored}
 use borrow.Author.Needs.{needs}
 use Rattle.sheet.proofs.read_known.Statement.{statement}
 use Rattle.sheet.proofs.read_known.Tie as tie
@@ -13,8 +13,8 @@ enum-known-judged c = search needs
 enum-known-judged-2 : tie.Need-enum-known-judged-2
 enum-known-judged-2 c = search needs
 
-store-known-requires : tie.Need-store-known-requires
-store-known-requires c κs = (search needs, search (good-length, needs))
+store-codes-requires : tie.Need-store-codes-requires
+store-codes-requires c κs = search needs
 
 returns : tie.Need-returns
 returns c = both (search (read-refused, read-stored, needs))
@@ -32,7 +32,7 @@ read-known-spec =
     judge-known-requires
     enum-known-judged
     enum-known-judged-2
-    store-known-requires
+    store-codes-requires
     returns
     same-length
     returns-2)

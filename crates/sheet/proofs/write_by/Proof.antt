@@ -4,8 +4,8 @@ use borrow.Author.Needs.{needs}
 use Rattle.sheet.proofs.write_by.Statement.{statement}
 use Rattle.sheet.proofs.write_by.Tie as tie
 
-keep-sheet-from-requires : tie.Need-keep-sheet-from-requires
-keep-sheet-from-requires c κs = search needs
+keep-sheet-requires : tie.Need-keep-sheet-requires
+keep-sheet-requires c κs = search needs
 
 enum-known-judged : tie.Need-enum-known-judged
 enum-known-judged c = search needs
@@ -53,7 +53,7 @@ pub write-by-spec : {M : Type 1} → statement M
 write-by-spec =
     tie.close
     (tie.spec
-    keep-sheet-from-requires
+    keep-sheet-requires
     enum-known-judged
     enum-known-judged-2
     mul-fill

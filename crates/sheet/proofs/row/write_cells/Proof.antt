@@ -14,8 +14,11 @@ abbrev μ-loop : tie.MeasureT-loop
 loop-holds : tie.Need-loop-holds Inv-loop μ-loop
 loop-holds c = search (writing-first, needs)
 
-field-in-requires : tie.Need-field-in-requires Inv-loop μ-loop
-field-in-requires c κs = search needs
+line-in-requires : tie.Need-line-in-requires Inv-loop μ-loop
+line-in-requires c κs = search needs
+
+width-requires : tie.Need-width-requires Inv-loop μ-loop
+width-requires c κs = search needs
 
 stopped-at-requires : tie.Need-stopped-at-requires Inv-loop μ-loop
 stopped-at-requires c κs = search needs
@@ -32,11 +35,8 @@ mul-code c = search needs
 shared-slice-read-code : tie.Need-shared-slice-read-code Inv-loop μ-loop
 shared-slice-read-code c = search needs
 
-judge-requires : tie.Need-judge-requires Inv-loop μ-loop
-judge-requires c κs = search needs
-
-enum-known-why : tie.Need-enum-known-why Inv-loop μ-loop
-enum-known-why c = search needs
+refuses-requires : tie.Need-refuses-requires Inv-loop μ-loop
+refuses-requires c κs = search needs
 
 stopped-at-requires-2 : tie.Need-stopped-at-requires-2 Inv-loop μ-loop
 stopped-at-requires-2 c κs = search needs
@@ -47,11 +47,8 @@ same-length-2 c = search needs
 returns-2 : tie.Need-returns-2 Inv-loop μ-loop
 returns-2 c = search (writing-fault, needs)
 
-enum-told : tie.Need-enum-told Inv-loop μ-loop
-enum-told c = search needs
-
-put-requires : tie.Need-put-requires Inv-loop μ-loop
-put-requires c κs = search needs
+put-code-requires : tie.Need-put-code-requires Inv-loop μ-loop
+put-code-requires c κs = search needs
 
 add-at : tie.Need-add-at Inv-loop μ-loop
 add-at c = search needs
@@ -78,19 +75,18 @@ write-cells-spec =
     Inv-loop
     μ-loop
     loop-holds
-    field-in-requires
+    line-in-requires
+    width-requires
     stopped-at-requires
     same-length
     returns
     mul-code
     shared-slice-read-code
-    judge-requires
-    enum-known-why
+    refuses-requires
     stopped-at-requires-2
     same-length-2
     returns-2
-    enum-told
-    put-requires
+    put-code-requires
     add-at
     counted-requires
     loop-less
