@@ -33,7 +33,7 @@ use Rattle.prepare.specs.Uncut.{toldOf, booksAfter, entriesOf}
 use Rattle.prepare.specs.Prepare as prepare
 use Rattle.prepare.specs.Prepare.{Handed, booksIn, hands, noRoom, guarded, callOutcome, finishOutcome, written, results, resultOf, byCall, byFinish}
 use Rattle.prepare.specs.Steps.{itself}
-use Rattle.prepare.specs.Moves.{testedOf, moved, Lies}
+use Rattle.prepare.specs.Moves.{testedOf, moved, Lies, listenedAnswer, listenedBytes}
 
 -- ---- what the stream comes to: a refusal, which is STATE where the tray has room and is not sound, or a step that keeps the tray sound
 
@@ -96,6 +96,20 @@ said-lies : (bytes : List ℕ) (tray : Tray) (o : stream.Outcome) → Steps byte
     → (heard : stream-answer.Answer) → heard ≡ stream.answerOf tray o
     → (bytes′ : List ℕ) → bytes′ ≡ stream.bytesOf bytes o → Lies (heard .said) bytes′
 said-lies bytes tray o w heard a bytes′ x = rw (a, x) (lies bytes tray o (w .is-settled))
+
+pub ended-answer : (ended : Bool) (bytes : List ℕ) (tray : Tray) (input : List ℕ) (heard : stream-answer.Answer) → ended ≡ true → heard ≡ stream.finishAnswer bytes tray
+    → heard ≡ listenedAnswer ended bytes tray input
+ended-answer ended bytes tray input heard t e = rw t e
+
+pub ended-bytes : (ended : Bool) (bytes : List ℕ) (tray : Tray) (input bytes′ : List ℕ) → ended ≡ true → bytes′ ≡ stream.finishBytes bytes tray → bytes′ ≡ listenedBytes ended bytes tray input
+ended-bytes ended bytes tray input bytes′ t e = rw t e
+
+pub portion-answer : (ended : Bool) (bytes : List ℕ) (tray : Tray) (input : List ℕ) (heard : stream-answer.Answer) → ended ≡ false → heard ≡ stream.callAnswer bytes tray input
+    → heard ≡ listenedAnswer ended bytes tray input
+portion-answer ended bytes tray input heard t e = rw t e
+
+pub portion-bytes : (ended : Bool) (bytes : List ℕ) (tray : Tray) (input bytes′ : List ℕ) → ended ≡ false → bytes′ ≡ stream.callBytes bytes tray input → bytes′ ≡ listenedBytes ended bytes tray input
+portion-bytes ended bytes tray input bytes′ t e = rw t e
 
 pub call-lies : (bytes : List ℕ) (tray : Tray) (input : List ℕ) (heard : stream-answer.Answer)
     → heard ≡ stream.callAnswer bytes tray input
@@ -161,23 +175,24 @@ neither : (a b : Bool) → (a || b) ≡ false → (a ≡ false) × (b ≡ false)
 neither false b e = (refl, e)
 neither true b e = let z : _≡_ {A = ℕ} 0 1 = cc in absurd (omega arith)
 
-pub passed-is : (bytes : List ℕ) (books : Held) (log : List ℕ) (x : Tested) → x ≡ test.Passed
-    → x ≡ testedOf bytes books log
-    → testedOf bytes books log ≡ test.Passed
-passed-is bytes books log x p e = sym e ∙ p
-
 module _ (bytes : List ℕ) (d : Desk) (live run log : List ℕ) (e : testedOf bytes (booksIn d live run) log ≡ test.Passed) where
   passed : Testing bytes (booksIn d live run) log test.Passed
   passed = subst (λ x. Testing bytes (booksIn d live run) log x) e (testing bytes (booksIn d live run) log)
 
-  pub passed-sound : deskSound d live run ≡ true
+  passed-sound : deskSound d live run ≡ true
   passed-sound = is-sound bytes (booksIn d live run) log passed
 
   rooms : (ltb (length bytes) longestFrame ≡ false) × (desk.noRoom live run log ≡ false)
   rooms = neither (ltb (length bytes) longestFrame) (desk.noRoom live run log) (has-room bytes (booksIn d live run) log passed)
 
-  pub passed-room : desk.noRoom live run log ≡ false
+  passed-room : desk.noRoom live run log ≡ false
   passed-room = rooms .1
+
+pub tested-sound : (bytes : List ℕ) (d : Desk) (live run log : List ℕ) (x : Tested) → x ≡ test.Passed → x ≡ testedOf bytes (booksIn d live run) log → deskSound d live run ≡ true
+tested-sound bytes d live run log x p e = passed-sound bytes d live run log (sym e ∙ p)
+
+pub tested-room : (bytes : List ℕ) (d : Desk) (live run log : List ℕ) (x : Tested) → x ≡ test.Passed → x ≡ testedOf bytes (booksIn d live run) log → desk.noRoom live run log ≡ false
+tested-room bytes d live run log x p e = passed-room bytes d live run log (sym e ∙ p)
 
 -- ---- the answer and every lent byte, of a step that ROOM and STATE guard
 
@@ -232,7 +247,7 @@ module _ (bytes : List ℕ) (tray : Tray) (d : Desk) (live run log input : List 
   unfolding callOutcome
   call-failed = left-failed bytes tray d live run log second (stream.called bytes tray input)
 
-  pub call-passed : (r : Answer) (bytes′ live′ run′ log′ : List ℕ)
+  call-passed : (r : Answer) (bytes′ live′ run′ log′ : List ℕ)
       → results r bytes′ live′ run′ log′
       ≡ resultOf (hands bytes tray d live run log second) (stream.called bytes tray input)
       → (x : Tested) → x ≡ test.Passed → x ≡ testedOf bytes (booksIn d live run) log
@@ -240,12 +255,19 @@ module _ (bytes : List ℕ) (tray : Tray) (d : Desk) (live run log input : List 
   unfolding callOutcome
   call-passed = left-passed bytes tray d live run log second (stream.called bytes tray input) (call-steps bytes tray input)
 
-  pub call-heard : (r : Answer) (bytes′ live′ run′ log′ : List ℕ) (heard : stream-answer.Answer)
+  call-heard : (r : Answer) (bytes′ live′ run′ log′ : List ℕ) (heard : stream-answer.Answer)
       → results r bytes′ live′ run′ log′ ≡ moved (booksIn d live run) second heard (heard .said) bytes′ log
       → heard ≡ stream.callAnswer bytes tray input → bytes′ ≡ stream.callBytes bytes tray input
       → results r bytes′ live′ run′ log′
       ≡ resultOf (hands bytes tray d live run log second) (stream.called bytes tray input)
   call-heard = left-heard bytes tray d live run log second (stream.called bytes tray input) (call-steps bytes tray input)
+
+  pub call-moved : (r : Answer) (bytes′ live′ run′ log′ : List ℕ) (heard : stream-answer.Answer)
+      → results r bytes′ live′ run′ log′ ≡ moved (booksIn d live run) second heard (heard .said) bytes′ log
+      → heard ≡ stream.callAnswer bytes tray input → bytes′ ≡ stream.callBytes bytes tray input
+      → (x : Tested) → x ≡ test.Passed → x ≡ testedOf bytes (booksIn d live run) log
+      → results r bytes′ live′ run′ log′ ≡ byCall (hands bytes tray d live run log second) input
+  call-moved r bytes′ live′ run′ log′ heard m a y = call-passed r bytes′ live′ run′ log′ (call-heard r bytes′ live′ run′ log′ heard m a y)
 
 -- .. and `finish`
 
@@ -256,7 +278,7 @@ module _ (bytes : List ℕ) (tray : Tray) (d : Desk) (live run log : List ℕ) (
   unfolding finishOutcome
   finish-failed = left-failed bytes tray d live run log second (stream.finished bytes tray)
 
-  pub finish-passed : (r : Answer) (bytes′ live′ run′ log′ : List ℕ)
+  finish-passed : (r : Answer) (bytes′ live′ run′ log′ : List ℕ)
       → results r bytes′ live′ run′ log′
       ≡ resultOf (hands bytes tray d live run log second) (stream.finished bytes tray)
       → (x : Tested) → x ≡ test.Passed → x ≡ testedOf bytes (booksIn d live run) log
@@ -264,9 +286,16 @@ module _ (bytes : List ℕ) (tray : Tray) (d : Desk) (live run log : List ℕ) (
   unfolding finishOutcome
   finish-passed = left-passed bytes tray d live run log second (stream.finished bytes tray) (finish-steps bytes tray)
 
-  pub finish-heard : (r : Answer) (bytes′ live′ run′ log′ : List ℕ) (heard : stream-answer.Answer)
+  finish-heard : (r : Answer) (bytes′ live′ run′ log′ : List ℕ) (heard : stream-answer.Answer)
       → results r bytes′ live′ run′ log′ ≡ moved (booksIn d live run) second heard (heard .said) bytes′ log
       → heard ≡ stream.finishAnswer bytes tray → bytes′ ≡ stream.finishBytes bytes tray
       → results r bytes′ live′ run′ log′
       ≡ resultOf (hands bytes tray d live run log second) (stream.finished bytes tray)
   finish-heard = left-heard bytes tray d live run log second (stream.finished bytes tray) (finish-steps bytes tray)
+
+  pub finish-moved : (r : Answer) (bytes′ live′ run′ log′ : List ℕ) (heard : stream-answer.Answer)
+      → results r bytes′ live′ run′ log′ ≡ moved (booksIn d live run) second heard (heard .said) bytes′ log
+      → heard ≡ stream.finishAnswer bytes tray → bytes′ ≡ stream.finishBytes bytes tray
+      → (x : Tested) → x ≡ test.Passed → x ≡ testedOf bytes (booksIn d live run) log
+      → results r bytes′ live′ run′ log′ ≡ byFinish (hands bytes tray d live run log second)
+  finish-moved r bytes′ live′ run′ log′ heard m a y = finish-passed r bytes′ live′ run′ log′ (finish-heard r bytes′ live′ run′ log′ heard m a y)

@@ -1,7 +1,8 @@
 -- Serves proofs, and is proved: what lacks_room, answered, give and step return, in plain variables. Assumes nothing.
 use mathlib.Core.Path.{_≡_, refl, sym, ap, ap₂, _∙_, subst}
 use mathlib.Core.Bool.{Bool, true, false, not}
-use mathlib.Core.List.{List}
+use mathlib.Core.List.{List, [], _∷_}
+use mathlib.Core.Logic.{⊎-elim}
 use Prim.Native.Nat.{ℕ, _≤_, _<_}
 use native.Mathlib.Omega.{arith}
 use lib.Dec.{ltb}
@@ -13,7 +14,10 @@ use Rattle.frame.specs.declared.Frame.{Frame}
 use Rattle.frame.specs.declared.Checked.the-variants.{Accepted}
 use Rattle.frame.specs.Check.{checked, payloadIn}
 use Rattle.frame.specs.Laws.{accepted-length}
+use types.Run.{OneOf}
+use denote.Enum.Declared.{tagOf}
 use Rattle.stream.specs.declared.Said as stream-said
+use Rattle.stream.proofs.Said.{the-type}
 use Rattle.stream.specs.declared.Said.the-variants as hears
 use Rattle.stream.specs.declared.Answer as stream-answer
 use Rattle.groups.specs.Groups.{groupsOfAll}
@@ -31,7 +35,7 @@ use Rattle.answer.specs.declared.Refusal.the-variants as refusal
 use Rattle.prepare.specs.declared.Tested.the-variants as test
 use Rattle.prepare.specs.Uncut.{Told, verdictOn, toldBy, entriesOf}
 use Rattle.prepare.specs.Prepare.{noRoom, booksIn, saidOf, written, Result, results}
-use Rattle.prepare.specs.Moves.{testedOf, taken, untaken, moved, Lies}
+use Rattle.prepare.specs.Moves.{testedOf, taken, untaken, moved, passedOn, Lies}
 
 -- ---- lacks_room
 
@@ -149,6 +153,13 @@ gives d second live run log bytes heard f r t live′ run′ log′ k p q l e =
 
 -- ---- step
 
+-- what the code knows past `if let stream::Said::Frame(header)`: the variant is one of the others
+abbrev pub Other : stream-said.Said → Type 0
+Other v = OneOf (1 ∷ 2 ∷ 3 ∷ 4 ∷ []) (tagOf the-type v)
+
+not-first : (f : Frame) → Other (hears.Frame f) → ⊥
+not-first f o = ⊎-elim (λ z. omega arith) (⊎-elim (λ z. omega arith) (⊎-elim (λ z. omega arith) (λ z. omega arith))) o
+
 module _ (d : Desk) (second : ℕ) (live run log bytes : List ℕ) (heard : stream-answer.Answer) (r : Answer) where
   abbrev moved-by : stream-said.Said → Result
   moved-by s = moved (booksIn d live run) second heard s bytes log
@@ -159,9 +170,15 @@ module _ (d : Desk) (second : ℕ) (live run log bytes : List ℕ) (heard : stre
   step-frame f live′ run′ log′ m q = m ∙ ap moved-by (sym q)
 
   -- what is no frame does not reach the desk
-  pub step-other : (s : stream-said.Said) (x : Said) → heard .said ≡ s → r ≡ untaken heard x d → results (untaken heard x d) bytes live run log ≡ moved-by s
-      → results r bytes live run log ≡ moved-by (heard .said)
-  step-other s x q e m = ap (λ r. results r bytes live run log) e ∙ m ∙ ap moved-by (sym q)
+  moved-other : (s : stream-said.Said) → Other s → results (untaken heard (passedOn s) d) bytes live run log ≡ moved-by s
+  moved-other (hears.Frame f) o = absurd (not-first f o)
+  moved-other (hears.Noise count) o = refl
+  moved-other hears.Hungry o = refl
+  moved-other hears.Done o = refl
+  moved-other (hears.Refused why) o = refl
+
+  pub step-other : (s : stream-said.Said) (x : Said) → heard .said ≡ s → Other s → x ≡ passedOn s → r ≡ untaken heard x d → results r bytes live run log ≡ moved-by (heard .said)
+  step-other s x q o p e = ap (λ r. results r bytes live run log) (e ∙ ap (λ y. untaken heard y d) p) ∙ moved-other s o ∙ ap moved-by (sym q)
 
 -- a frame that is told lies first
 pub frame-lies : (s : stream-said.Said) (f : Frame) (bytes : List ℕ) → Lies s bytes

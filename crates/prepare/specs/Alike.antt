@@ -10,7 +10,7 @@ use Rattle.stream.specs.Driver.{Caller}
 use Rattle.desk.specs.Take as desk
 use Rattle.desk.specs.History.{Held}
 use Rattle.prepare.specs.Uncut.{Told, accepted, refused, noise, verdictOn, handledOn, toldBy, toldOf, booksAfter, Seconds, Alike, later, toldAll, booksAll}
-use Rattle.prepare.specs.Driver.{State, Lent, InTime, laterBy, laterAll, counting, framesIn, Feeds, Closes, Whole}
+use Rattle.prepare.specs.Driver.{State, InTime, laterBy, laterAll, counting, framesIn, Feeds, Closes, Whole}
 use Rattle.prepare.specs.Lender.{Point, Lender, oneLog, FeedsBy, ClosesBy, WholeBy, toldThen, secondsFed, secondsClosed, secondsBy}
 
 -- ---- how many frames were told

@@ -1,6 +1,6 @@
 -- Mirror: what the steps of a call return, by what the stream says. Serves proofs.
 use mathlib.Core.Path.{_≡_}
-use mathlib.Core.Bool.{cond}
+use mathlib.Core.Bool.{Bool, true, false, cond}
 use mathlib.Core.List.{List}
 use Prim.Native.Nat.{ℕ}
 use lib.ListN.{length, take}
@@ -9,6 +9,8 @@ use Rattle.frame.specs.declared.Frame.{Frame}
 use Rattle.frame.specs.declared.Checked.the-variants.{Accepted}
 use Rattle.frame.specs.Check.{checked}
 use Rattle.stream.specs.Scan.{Event, frame}
+use Rattle.stream.specs.Tray.{callAnswer, callBytes, finishAnswer, finishBytes}
+use Rattle.stream.specs.declared.Tray.{Tray}
 use Rattle.stream.specs.declared.Said as stream-said
 use Rattle.stream.specs.declared.Said.the-variants as hears
 use Rattle.stream.specs.declared.Answer as stream-answer
@@ -32,6 +34,16 @@ unfoldable pub testedOf : (bytes : List ℕ) → Held → (log : List ℕ) → T
 testedOf bytes books log =
     cond (noRoom bytes (books .live) (books .run) log) (test.Failed refusal.Room)
     (cond (deskSound (books .desk) (books .live) (books .run)) test.Passed (test.Failed refusal.State))
+
+-- ---- the stream's step, on a portion or at its end
+
+abbrev pub listenedAnswer : (ended : Bool) → List ℕ → Tray → List ℕ → stream-answer.Answer
+listenedAnswer true bytes tray input = finishAnswer bytes tray
+listenedAnswer false bytes tray input = callAnswer bytes tray input
+
+abbrev pub listenedBytes : (ended : Bool) → List ℕ → Tray → List ℕ → List ℕ
+listenedBytes true bytes tray input = finishBytes bytes tray
+listenedBytes false bytes tray input = callBytes bytes tray input
 
 -- ---- what the desk said of a frame
 
@@ -63,6 +75,14 @@ framed books second heard header bytes = record {
   tray = heard .tray;
   desk = booksAfter books second (lying header bytes) .desk;
 }
+
+-- what is no frame is said as it is
+abbrev pub passedOn : stream-said.Said → Said
+passedOn (hears.Frame header) = said.Accepted header
+passedOn (hears.Noise count) = said.Noise count
+passedOn hears.Hungry = said.Hungry
+passedOn hears.Done = said.Done
+passedOn (hears.Refused why) = said.Refused why
 
 abbrev pub movedAnswer : Held → (second : ℕ) → stream-answer.Answer → stream-said.Said → (bytes : List ℕ) → Answer
 movedAnswer books second heard (hears.Frame header) bytes = framed books second heard header bytes

@@ -6,11 +6,9 @@ ghost use Rattle.frame.specs.Check.{checked, payloadIn};
 ghost use Rattle.frame.specs.declared.Checked.the-variants.{Accepted};
 ghost use Rattle.desk.specs.Desk.{deskSound};
 ghost use Rattle.desk.specs.Take as takes;
-ghost use Rattle.stream.specs.Tray.{called, finished};
-ghost use Rattle.prepare.specs.Prepare.{booksIn, hands, noRoom, results, resultOf, byCall, byFinish, numberOfSaid};
-ghost use Rattle.prepare.specs.Moves.{testedOf, taken, untaken, moved, Lies};
+ghost use Rattle.prepare.specs.Prepare.{booksIn, hands, noRoom, results, byCall, byFinish, numberOfSaid};
+ghost use Rattle.prepare.specs.Moves.{testedOf, taken, untaken, moved, passedOn, Lies, listenedAnswer, listenedBytes};
 ghost use Rattle.prepare.specs.declared.Said.the-variants as said;
-ghost use Rattle.prepare.specs.declared.Tested.the-variants as test;
 ghost use Rattle.stream.specs.declared.Said.the-variants as hears;
 use answer::Fault;
 use answer::Refusal;
@@ -174,7 +172,20 @@ fn give(
     answered(heard, header, given)
 }
 
-// What the stream says moves the desk on.
+// What is no frame is said as it is.
+fn passed_on(said: stream::Said) -> Said
+    ensures { λ r. ⌜ r ≡ passedOn said ⌝ }
+{
+    match said {
+        stream::Said::Frame(header) => Said::Accepted(header),
+        stream::Said::Noise(count) => Said::Noise(count),
+        stream::Said::Hungry => Said::Hungry,
+        stream::Said::Done => Said::Done,
+        stream::Said::Refused(why) => Said::Refused(why),
+    }
+}
+
+// What the stream says moves the desk on. All that is no frame is answered in one place: an answer a case would lie on the stack for each.
 fn step(
     heard: stream::Answer,
     bytes: &[u8],
@@ -189,52 +200,26 @@ fn step(
     ensures { λ r. ⌜ results r (now (bytes .entry)) (now (live .exit)) (now (run .exit)) (now (log .exit)) ≡ moved (booksIn desk (now (live .entry)) (now (run .entry))) second heard (heard .said) (now (bytes .entry)) (now (log .entry)) ⌝ }
 {
     let said = heard.said;
-    match said {
-        stream::Said::Frame(header) => give(heard, header, bytes, desk, live, run, log, second),
-        stream::Said::Noise(count) => beside(heard, Said::Noise(count), desk),
-        stream::Said::Hungry => beside(heard, Said::Hungry, desk),
-        stream::Said::Done => beside(heard, Said::Done, desk),
-        stream::Said::Refused(why) => beside(heard, Said::Refused(why), desk),
+    if let stream::Said::Frame(header) = said {
+        return give(heard, header, bytes, desk, live, run, log, second);
     }
+    beside(heard, passed_on(said), desk)
 }
 
-// The stream's step on a portion, and what it says moves the desk on.
-fn hear_call(
-    bytes: &mut [u8],
-    tray: Tray,
-    desk: Desk,
-    live: &mut [u8],
-    run: &mut [u8],
-    log: &mut [u8],
-    input: &[u8],
-    second: u64,
-) -> Answer
-    requires { ⌜ testedOf (now bytes) (booksIn desk (now live) (now run)) (now log) ≡ test.Passed ⌝ }
-    ensures { λ r. ⌜ results r (now (bytes .exit)) (now (live .exit)) (now (run .exit)) (now (log .exit)) ≡ resultOf (hands (now (bytes .entry)) tray desk (now (live .entry)) (now (run .entry)) (now (log .entry)) second) (called (now (bytes .entry)) tray (now (input .entry))) ⌝ }
+// The stream's step, on a portion or at its end. Both calls come here, so that what the stream takes of the stack is given back before the desk is asked.
+fn listen(bytes: &mut [u8], tray: Tray, input: &[u8], ended: bool) -> stream::Answer
+    ensures { λ r. ⌜ r ≡ listenedAnswer ended (now (bytes .entry)) tray (now (input .entry)) ⌝ }
+    ensures { λ _. ⌜ now (bytes .exit) ≡ listenedBytes ended (now (bytes .entry)) tray (now (input .entry)) ⌝ }
 {
-    let heard = stream::call(bytes, tray, input);
-    step(heard, bytes, desk, live, run, log, second)
-}
-
-// The same at the stream's end.
-fn hear_finish(
-    bytes: &mut [u8],
-    tray: Tray,
-    desk: Desk,
-    live: &mut [u8],
-    run: &mut [u8],
-    log: &mut [u8],
-    second: u64,
-) -> Answer
-    requires { ⌜ testedOf (now bytes) (booksIn desk (now live) (now run)) (now log) ≡ test.Passed ⌝ }
-    ensures { λ r. ⌜ results r (now (bytes .exit)) (now (live .exit)) (now (run .exit)) (now (log .exit)) ≡ resultOf (hands (now (bytes .entry)) tray desk (now (live .entry)) (now (run .entry)) (now (log .entry)) second) (finished (now (bytes .entry)) tray) ⌝ }
-{
-    let heard = stream::finish(bytes, tray);
-    step(heard, bytes, desk, live, run, log, second)
+    if ended {
+        return stream::finish(bytes, tray);
+    }
+    stream::call(bytes, tray, input)
 }
 
 // Takes a portion and the second, and moves stream and desk one event on: a frame that is told comes in at that second. Where the tray is not sound the stream
-// refuses with the same number as the desk would, so neither is tested twice.
+// refuses with the same number as the desk would, so neither is tested twice. `step` is called from here, and not by a function in between: an answer that is
+// handed on once more lies on the stack once more.
 pub fn call(
     bytes: &mut [u8],
     tray: Tray,
@@ -247,10 +232,11 @@ pub fn call(
 ) -> Answer
     ensures { λ r. ⌜ results r (now (bytes .exit)) (now (live .exit)) (now (run .exit)) (now (log .exit)) ≡ byCall (hands (now (bytes .entry)) tray desk (now (live .entry)) (now (run .entry)) (now (log .entry)) second) (now (input .entry)) ⌝ }
 {
-    match test_lent(bytes, desk, live, run, log) {
-        Tested::Failed(why) => refused(tray, desk, why),
-        Tested::Passed => hear_call(bytes, tray, desk, live, run, log, input, second),
+    if let Tested::Failed(why) = test_lent(bytes, desk, live, run, log) {
+        return refused(tray, desk, why);
     }
+    let heard = listen(bytes, tray, input, false);
+    step(heard, bytes, desk, live, run, log, second)
 }
 
 // Finishes a stream, an event a call: called until it says done. The second counts for a frame told by the call.
@@ -265,8 +251,10 @@ pub fn finish(
 ) -> Answer
     ensures { λ r. ⌜ results r (now (bytes .exit)) (now (live .exit)) (now (run .exit)) (now (log .exit)) ≡ byFinish (hands (now (bytes .entry)) tray desk (now (live .entry)) (now (run .entry)) (now (log .entry)) second) ⌝ }
 {
-    match test_lent(bytes, desk, live, run, log) {
-        Tested::Failed(why) => refused(tray, desk, why),
-        Tested::Passed => hear_finish(bytes, tray, desk, live, run, log, second),
+    if let Tested::Failed(why) = test_lent(bytes, desk, live, run, log) {
+        return refused(tray, desk, why);
     }
+    let none = [0u8; 1];
+    let heard = listen(bytes, tray, &none[..0], true);
+    step(heard, bytes, desk, live, run, log, second)
 }
