@@ -1,14 +1,14 @@
 -- Numbers as messages: the register after the bits of a number is linear in it; zeros before it do not count, and zeros behind it are
 -- shifts. So a word far ahead may be moved down, where the polynomial leaves the same register.
 use mathlib.Core.Path.{_≡_, refl, sym, ap, ap₂, _∙_, subst}
-use mathlib.Core.Bool.{Bool, true, false}
+use mathlib.Core.Bool.{Bool, true}
 use mathlib.Core.List.{List, [], _∷_, _++_}
 use Prim.Native.Nat.{ℕ, zero, suc, _+_, _-_, _*_, _/_, _%_, _^_, _≤_, _<_}
 use native.Mathlib.Nat.{zero-mul, add-zero, zero-add, add-comm, mul-assoc, add-assoc, add-mul, mod-lt, mod-eq-of-lt, div-eq-of-lt, mul-one, one-mul, lt-of-lt-of-le, lt-of-le-of-lt}
 use native.Mathlib.Omega.{arith}
 use lib.Dec.{T, eqb, eqb→eq}
 use lib.Bits.{bitXor, xor-comm, xor-zero-r, xor-zero-l, xor-lt, xor-shr, xor-mod, xor-shifted, xor-block}
-use lib.Pow.{pow-pos, pow-add, pow-mono, shl-lt, shr-lt, shr-le, shl-shr, shr-shr, split, high}
+use lib.Pow.{pow-pos, pow-mono, shl-lt, shr-lt, shr-le, shl-shr, shr-shr, split, high}
 use Rattle.bits.specs.Bits.{bitsOf}
 use Rattle.bits.specs.Laws.{bitsOf-add, bitsOf-low, more-lt}
 use Rattle.checks.specs.Crc.{shift, crcBits}
@@ -195,11 +195,6 @@ module _ (w p : ℕ) (h1 : 1 ≤ w) (hp : p < 2 ^ w) where
 abbrev pub Near : ℕ → List ℕ → Type 0
 Near e [] = e ≤ 64
 Near e (f ∷ es) = (e ≤ 64) × Near f es
-
-ups-lt : (e : ℕ) (es : List ℕ) → Near e es → (x : ℕ) → x < 2 ^ 64 → ups e es x < 2 ^ 128
-unfolding ups
-ups-lt e [] n x l = lt-of-lt-of-le (shl-lt 64 e l) (pow-mono {j = 128} (omega arith))
-ups-lt e (f ∷ es) n x l = xor-lt 128 (x * 2 ^ e) (ups f es x) (lt-of-lt-of-le (shl-lt 64 e l) (pow-mono {j = 128} (omega (arith, n .0)))) (ups-lt f es (n .1) x l)
 
 module _ (w p : ℕ) (h1 : 1 ≤ w) (hp : p < 2 ^ w) where
   one-up : (e x : ℕ) → e ≤ 64 → x < 2 ^ 64 → after w p 128 (x * 2 ^ e) ≡ shifts w p e (after w p 64 x)

@@ -1,8 +1,8 @@
 -- The rules of TF006's table and of TF018's moves, each from one test that antt computes.
 use mathlib.Core.Path.{_≡_, refl, ap, _∙_}
-use mathlib.Core.List.{List, [], _∷_}
+use mathlib.Core.List.{[], _∷_}
 use mathlib.Core.Bool.{Bool}
-use Prim.Native.Nat.{ℕ, zero, suc, _+_, _*_, _/_, _%_, _^_, _<_}
+use Prim.Native.Nat.{ℕ, zero, suc, _*_, _/_, _%_, _^_, _<_}
 use native.Mathlib.Omega.{arith}
 use lib.Bits.{bitXor}
 use lib.Dec.{T, eqb, eqb→eq}
@@ -11,7 +11,7 @@ use Rattle.checks.specs.Crc.{shift, crcBits, reversed4}
 use Rattle.checks.specs.Steps.{shifts, halfFirst, frameHalf}
 use Rattle.checks.specs.Folds.{after, spread}
 use Rattle.checks.proofs.Table.{below, at-below}
-use Rattle.checks.proofs.Folding.{Rule, through, product, circuit-is}
+use Rattle.checks.proofs.Folding.{Rule, product, circuit-is}
 
 -- ---- TF006
 

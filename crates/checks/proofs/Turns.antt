@@ -1,4 +1,4 @@
--- The steps as the code has them: TF006 by halves of bytes, a register by a table, and TF018's four cases.
+-- The steps as the code has them: TF006 by halves of bytes and a table, TF018's words of eight bytes, and its four cases.
 use mathlib.Core.Path.{_≡_, refl, sym, ap, ap₂, _∙_, subst}
 use mathlib.Core.List.{List, _++_, reverse, reverse-append}
 use Prim.Native.Nat.{ℕ, zero, suc, _+_, _-_, _*_, _/_, _%_, _^_, _≤_, _<_}
@@ -161,9 +161,6 @@ frame-is a b c v w x y z ha hb hc ev ew ex ey ez =
     (sym (all-halves (a % 16) (a / 16) (b % 16) (b / 16) (c / 16) a0 a1 b0 b1 c1) ∙ frame-six a b c)
 
 -- ---- TF018
-
-pub wide-word : (s : List ℕ) (i x y a b : ℕ) → x ≡ wordAt s i → y ≡ wordAt s (i + 4) → a ≡ x → b ≡ y → a * 4294967296 + b ≡ wordAt s i * 2 ^ 32 + wordAt s (i + 4)
-wide-word s i x y a b ex ey ea eb = ap₂ (λ (m n : ℕ). m * 2 ^ 32 + n) (ea ∙ ex) (eb ∙ ey)
 
 -- no bytes before the words
 pub head-none : (start k : ℕ) (s : List ℕ) → k ≡ 0 → 0 * 2 ^ 64 + start ≡ start * 2 ^ (8 * k) + field s 0 (8 * k)

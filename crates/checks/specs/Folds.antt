@@ -1,5 +1,5 @@
 -- Serves proofs: what the steps of TF018 compute, on numbers whose bits are a message's. No contract of a public call cites these.
-use Prim.Native.Nat.{ℕ, zero, suc, _+_, _-_, _*_, _/_, _%_, _^_, _<_}
+use Prim.Native.Nat.{ℕ, _+_, _*_, _/_, _^_, _<_}
 use mathlib.Core.List.{List, [], _∷_}
 use lib.Bits.{bitXor}
 use Rattle.bits.specs.Bits.{bitsOf}

@@ -3,7 +3,7 @@
 use mathlib.Core.Path.{_≡_, refl, sym, ap, ap₂, _∙_, subst}
 use mathlib.Core.List.{List, [], _∷_, _++_}
 use Prim.Native.Nat.{ℕ, zero, suc, _+_, _-_, _*_, _/_, _%_, _^_, _≤_, _<_}
-use native.Mathlib.Nat.{zero-mul, zero-add, suc-add, mod-one, add-mul, mul-assoc, mod-lt, mod-eq-of-lt, div-eq-of-lt, mul-one, pow-succ', lt-of-lt-of-le}
+use native.Mathlib.Nat.{zero-mul, zero-add, suc-add, mod-one, add-mul, mul-assoc, mod-lt, mod-eq-of-lt, div-eq-of-lt, lt-of-lt-of-le}
 use native.Mathlib.Omega.{arith}
 use lib.ListN.{getD}
 use lib.Bits.{bitXor, xor-zero-r, xor-lt, xor-shr, xor-mod, xor-shifted}
@@ -64,16 +64,6 @@ pub shifts-zero : (w p n : ℕ) → 1 ≤ w → shifts w p n 0 ≡ 0
 unfolding shifts
 shifts-zero w p zero h = refl
 shifts-zero w p (suc n) h = ap (λ (x : ℕ). shifts w p n x) (shift-low w p h 0 (pow-pos (w - 1))) ∙ shifts-zero w p n h
-
--- n shifts of a register whose n top bits are not set
-pub shifts-low : (w p n v r : ℕ) → v + n ≡ w → r < 2 ^ v → shifts w p n r ≡ r * 2 ^ n
-unfolding shifts
-shifts-low w p zero v r e l = sym (mul-one r)
-shifts-low w p (suc n) v r e l =
-    ap (λ (x : ℕ). shifts w p n x) (shift-low w p (omega arith) r (lt-of-lt-of-le l (pow-mono (omega arith))))
-    ∙ shifts-low w p n (suc v) (r * 2) (omega arith) (subst (λ (x : ℕ). r * 2 < 2 ^ x) {y = suc v} (omega arith) (shl-lt v 1 l))
-    ∙ mul-assoc r 2 (2 ^ n)
-    ∙ ap (λ (x : ℕ). r * x) (sym (pow-succ' 2 n))
 
 -- ---- a byte
 

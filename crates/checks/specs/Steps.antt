@@ -1,6 +1,5 @@
 -- Serves proofs: what the code's steps compute. No contract of a public call cites these.
-use Prim.Native.Nat.{ℕ, zero, suc, _+_, _-_, _*_, _^_, _<_}
-use mathlib.Core.Path.{_≡_}
+use Prim.Native.Nat.{ℕ, zero, suc, _+_, _-_, _*_, _^_}
 use mathlib.Core.List.{List, reverse}
 use lib.Bits.{bitXor}
 use lib.ListN.{getD}

@@ -1,11 +1,11 @@
 -- Serves proofs, and is proved: laws of xor that a register needs. It is associative, and goes with a move up and with a bit times a number.
 use mathlib.Core.Path.{_≡_, refl, sym, ap, ap₂, _∙_}
-use Prim.Native.Nat.{ℕ, zero, suc, _+_, _-_, _*_, _/_, _%_, _^_, _<_}
-use native.Mathlib.Nat.{zero-mul, mod-lt, mul-mod-left, add-zero}
+use Prim.Native.Nat.{ℕ, zero, suc, _+_, _*_, _/_, _%_, _^_, _<_}
+use native.Mathlib.Nat.{zero-mul, mod-lt, add-zero}
 use native.Mathlib.Omega.{arith}
 use lib.Arith.{bin-ind, digits-mod}
 use lib.Bits.{bitXor, differ, xor-step, xor-comm, xor-self, xor-zero-r, xor-block, xor-shr}
-use lib.Pow.{pow-pos, shl-shr, mod-pow-add}
+use lib.Pow.{pow-pos}
 
 differ-lt : (x y : ℕ) → x < 2 → y < 2 → differ x y < 2
 differ-lt zero y hx hy = hy
@@ -66,9 +66,3 @@ xor-shl k a b =
     ap₂ bitXor (sym (add-zero (a * 2 ^ k))) (sym (add-zero (b * 2 ^ k)))
     ∙ xor-block k a b 0 0 (pow-pos k) (pow-pos k)
     ∙ add-zero (bitXor a b * 2 ^ k)
-
-pub shl-mod : (a v k : ℕ) → a * 2 ^ k % 2 ^ (v + k) ≡ a % 2 ^ v * 2 ^ k
-shl-mod a v k =
-    mod-pow-add (a * 2 ^ k) v k
-    ∙ ap₂ (λ (x y : ℕ). x % 2 ^ v * 2 ^ k + y) (shl-shr a k) (mul-mod-left a (2 ^ k))
-    ∙ add-zero (a % 2 ^ v * 2 ^ k)

@@ -20,7 +20,7 @@ const BEFORE_TWO: u64 = 0x192A_7F4C_D5E6_B380;
 
 const LAST: u64 = 0x5BA4_8679_C23D_1FE0;
 
-// An entry.
+// Entry n of a table.
 fn part(table: u64, n: u8) -> u8
     requires { ⌜ n < 16 ⌝ }
     ensures { λ r. ⌜ r ≡ «table» / 2 ^ (4 * n) % 16 ⌝ }
@@ -91,15 +91,15 @@ fn head(start: u64, s: &[u8], count: u32) -> Pair
     }
 }
 
-// CRC-8: 64 bits more. A bit 128 places ahead leaves the register that the bit 1 places ahead leaves.
+// CRC-8: 64 bits more. A bit 128 places ahead leaves the register that the bit 1 place ahead leaves.
 fn fold_8(pair: Pair, word: u64) -> Pair
     ensures { λ r. ⌜ numberOf r ≡ folded 1 [] pair word ⌝ }
     ensures { λ r. ⌜ Whole r ⌝ }
 {
     let high = pair.high;
     Pair {
-        high: pair.low ^ ((high >> 63)),
-        low: word ^ ((high << 1)),
+        high: pair.low ^ (high >> 63),
+        low: word ^ (high << 1),
     }
 }
 

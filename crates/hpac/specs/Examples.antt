@@ -1,8 +1,8 @@
 -- Computed and proved: a worked message.
 use mathlib.Core.Path.{_≡_, refl}
-use mathlib.Core.List.{List, [], _∷_}
+use mathlib.Core.List.{[], _∷_}
 use Rattle.bits.specs.Bits.{bitsOf, toBits, number}
-use Rattle.layout.specs.Layout.{done, judge, Outcome, accepted, readL}
+use Rattle.layout.specs.Layout.{done, judge, accepted, readL}
 use Rattle.layout.specs.Parts.{absent, present}
 use Rattle.fields.specs.Fields.{table, find, lineOf, sf}
 use Rattle.codes.specs.declared.Constellation.the-variants.{Qzss}

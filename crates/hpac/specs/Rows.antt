@@ -13,7 +13,6 @@ use Rattle.rows.specs.Rows.{fieldIn, wordOf, cells, cellsIn, cellsOf, oneRow, n
 use Rattle.rows.specs.Along.{is, in-pick, Along, stays, decides, passes, along-either, along-optional, Passes, along-again, alone-pick}
 use Rattle.fields.specs.Fields.{table, find, lineOf, sf}
 use Rattle.codes.specs.declared.Constellation.{Constellation}
-use Rattle.hpac.specs.declared.Head.{Head}
 use Rattle.hpac.specs.declared.Area.{Area}
 use Rattle.hpac.specs.declared.Walk.{Walk}
 use Rattle.hpac.specs.declared.State.{State}

@@ -1,5 +1,5 @@
 -- Serves proofs: how many bits a polynomial takes, by its model and its fields (document 000, tables 6.17, 6.18, 6.21 and 6.22).
-use mathlib.Core.Path.{_≡_, refl}
+use mathlib.Core.Path.{_≡_}
 use mathlib.Core.Bool.{Bool, true, false}
 use Prim.Native.Nat.{ℕ, _+_, _*_, _≤_}
 use native.Mathlib.Omega.{arith}

@@ -1,5 +1,4 @@
-// HPAC, 1-0 to 1-4: tables 6.13 to 6.22. A state carries the area's head and where its mask walk stands, so that what is told of a code can be
-// a function of state and code.
+// HPAC, 1-0 to 1-4: tables 6.13 to 6.22. A state carries the area's head and where its mask walk stands.
 ghost use mathlib.Core.Path.{_≡_};
 ghost use Rattle.answer.specs.Matched.{Matched};
 ghost use Rattle.hpac.specs.Machine.{hpacField, hpacStep, areasFrom, areaEnd, troposphereFrom, tSlopesFrom, tProductFrom, tGridFrom, tResidualsFrom, ionosphereFrom, slantsFrom, slantEnd, slopesFrom, productFrom, gridFrom, residualsFrom};
