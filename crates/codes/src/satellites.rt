@@ -1,9 +1,9 @@
-// The satellites of a mask, and how many bits a mask has set.
+// The satellites of a mask, walked from set bit to set bit by the leading zeros.
 ghost use mathlib.Core.Path.{_≡_};
 ghost use Prim.Native.Nat.{_≤_};
 ghost use lib.Count.{ones, leadingZeros};
 ghost use lib.ListN.{length};
-ghost use Rattle.codes.specs.Fields.{numbered, satellitesOf, listed, satelliteAt};
+ghost use Rattle.codes.specs.Fields.{satellitesOf, listed, satelliteAt};
 ghost use Rattle.codes.specs.Tables.{maskSize};
 ghost use Rattle.codes.specs.Stepping.{alignedTo, withoutFirst};
 use crate::Constellation;
@@ -16,25 +16,19 @@ pub struct Satellites {
     pub numbers: [u64; 64],
 }
 
-// Lists the set bits among the low bits of a mask, the leftmost numbered `first`. Internal: every mask has 64 bits at most.
-fn set_numbers(first: u64, width: u32, mask: u64) -> Satellites
-    requires { ⌜ (first ≤ 193) × (width ≤ 64) ⌝ }
-    ensures { λ r. ⌜ r ≡ listed (numbered first width mask) ⌝ }
+// The satellites of a mask of a size, for a caller who wants the list: no function of these crates does.
+pub fn satellites_of(constellation: Constellation, size: u64, mask: u64) -> Satellites
+    ensures { λ r. ⌜ r ≡ listed (satellitesOf constellation size mask) ⌝ }
 {
-    let mut left = width;
-    let mut number = first;
+    let first = first_satellite(constellation);
+    let mut left = aligned(constellation, size, mask);
     let mut numbers = [0u64; 64];
     let mut count: usize = 0;
-    while 0 < left {
-        left -= 1;
-        let bit = (mask >> left) % 2;
-        if bit == 1 {
-            numbers[count] = number;
-            number += 1;
-            count += 1;
-        } else {
-            number += 1;
-        }
+    while left != 0 {
+        let step = next_set(left);
+        numbers[count] = first + step.position;
+        count += 1;
+        left = step.left;
     }
     Satellites {
         count: count as u64,
@@ -42,37 +36,30 @@ fn set_numbers(first: u64, width: u32, mask: u64) -> Satellites
     }
 }
 
-// The satellites of a mask of a size.
-pub fn satellites_of(constellation: Constellation, size: u64, mask: u64) -> Satellites
-    ensures { λ r. ⌜ r ≡ listed (satellitesOf constellation size mask) ⌝ }
-{
-    set_numbers(
-        first_satellite(constellation),
-        mask_size(constellation, size),
-        mask,
-    )
-}
-
 // How many satellites a mask has.
 pub fn satellite_count(constellation: Constellation, size: u64, mask: u64) -> u64
     ensures { λ r. ⌜ r ≡ length (satellitesOf constellation size mask) ⌝ }
 {
-    let satellites = satellites_of(constellation, size, mask);
-    satellites.count
+    set_bits(aligned(constellation, size, mask))
 }
 
 // The number of the satellite that has `more` of its mask after it.
 pub fn satellite_number(constellation: Constellation, size: u64, mask: u64, more: u64) -> u64
     ensures { λ r. ⌜ r ≡ satelliteAt (satellitesOf constellation size mask) more ⌝ }
 {
-    let satellites = satellites_of(constellation, size, mask);
-    let count = satellites.count;
-    if more < count {
-        let at = (count - 1 - more) as usize;
-        let numbers = satellites.numbers;
-        return numbers[at];
+    let mut left = aligned(constellation, size, mask);
+    let count = set_bits(left);
+    if count <= more {
+        return 0;
     }
-    0
+    let mut before = count - 1 - more;
+    while 0 < before {
+        let step = next_set(left);
+        left = step.left;
+        before -= 1;
+    }
+    let here = next_set(left);
+    first_satellite(constellation) + here.position
 }
 
 // A step of a walk over the set bits of a mask: the position of the first one, and the mask without it.
