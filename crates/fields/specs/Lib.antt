@@ -1,4 +1,5 @@
 pub mod Fields
 pub mod Columns
 pub mod Packed
+pub mod Meant
 pub mod Determined

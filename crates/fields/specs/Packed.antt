@@ -2,7 +2,7 @@
 use mathlib.Core.Path.{_≡_, refl, sym, ap, _∙_}
 use mathlib.Core.List.{List, [], _∷_}
 use mathlib.Core.Bool.{Bool, true, false, _&&_, not}
-use Prim.Native.Nat.{ℕ, _+_, _*_, _/_, _%_, _≤_, _<_}
+use Prim.Native.Nat.{ℕ, zero, suc, _+_, _*_, _/_, _%_, _≤_, _<_}
 use native.Mathlib.Omega.{arith}
 use lib.Dec.{T, eqb, ltb, leb, leb→le}
 use lib.Ieee.Fits.{and-l, and-r}
@@ -11,9 +11,8 @@ use Rattle.answer.specs.declared.Refusal.the-variants as refusal
 use Rattle.layout.specs.declared.Field.{Field}
 use Rattle.layout.specs.declared.Verdict.the-variants.{Taken, Fault}
 use Rattle.layout.specs.Layout.{pick, judge}
-use Rattle.fields.specs.declared.Numbers.{Numbers}
-use Rattle.fields.specs.Fields.{Line, table, orElse, find, lineOf, fieldOf, sf}
-use Rattle.fields.specs.Columns.{numbersOf, no-field}
+use Rattle.fields.specs.Fields.{Line, table, noLine, orElse, find, lineOf, fieldOf, sf}
+use Rattle.fields.specs.Columns.{no-field}
 
 -- in base 16 two digits for the bits, six for `most`, `invalid` in front
 abbrev pub packed : (width most invalid : ℕ) → ℕ
@@ -31,14 +30,21 @@ refuses line code = ltb (line / 256 % 16777216) code && not (eqb code (line / 42
 pub packed-at : (n : ℕ) {number r : ℕ} → number ≡ n → r ≡ packedLine n → r ≡ packedLine number
 packed-at n e q = q ∙ ap packedLine (sym e)
 
+-- a number from `low` on that is none of so many is behind all of them: the last arm of such a `match`
+abbrev pub Others : (low k number : ℕ) → Type 0
+Others low zero number = Unit
+Others low (suc k) number = Others low k number × (number ≡ low + k → ⊥)
+
+pub past-others : (low k : ℕ) {number : ℕ} → low ≤ number → Others low k number → low + k ≤ number
+past-others low zero h others = omega arith
+past-others low (suc k) h others = go (past-others low k h (others .0)) (others .1)
+  where
+    go : {number : ℕ} → low + k ≤ number → (number ≡ low + k → ⊥) → low + suc k ≤ number
+    go p n = omega arith
+
 pub packed-none : (number : ℕ) → 107 < number → 0 ≡ packedLine number
 unfolding packedLine
 packed-none number h = ap (λ (f : Field). packed (f .width) (f .most) (f .extra)) (no-field number h refl)
-
-pub packed-numbers : (number : ℕ) {line : Numbers} → line ≡ numbersOf (lineOf number)
-    → line .width + 256 * line .most + 4294967296 * line .invalid ≡ packedLine number
-unfolding packedLine sf
-packed-numbers number e = ap (λ (l : Numbers). packed (l .width) (l .most) (l .invalid)) e
 
 pub refuses-low : (line code : ℕ) → code ≤ line / 256 % 16777216 → false ≡ refuses line code
 unfolding refuses
@@ -50,24 +56,25 @@ refuses-high line code h = rw (lt-ltb (line / 256 % 16777216) code h)
 
 -- ---- a field by its packed line
 
-unfoldable allLow : List Line → Bool
-allLow [] = true
-allLow (line ∷ lines) = leb (line .most) 65535 && allLow lines
+-- `f` of every line, and of the line of no field, has 16 bits at most
+unfoldable pub allLow : (Line → ℕ) → List Line → Bool
+allLow f [] = leb (f noLine) 0xFFFF
+allLow f (line ∷ lines) = leb (f line) 0xFFFF && allLow f lines
 
-find-low : (lines : List Line) → T (allLow lines) → (number : ℕ) → find lines number .most ≤ 0xFFFF
+pub find-low : (f : Line → ℕ) (lines : List Line) → T (allLow f lines) → (number : ℕ) → f (find lines number) ≤ 0xFFFF
 unfolding find allLow
-find-low [] t number = omega arith
-find-low (line ∷ lines) t number =
-    go (eqb number (line .number)) (leb→le _ 0xFFFF (and-l (leb (line .most) 0xFFFF) (allLow lines) t)) (find-low lines (and-r (leb (line .most) 0xFFFF) (allLow lines) t) number)
+find-low f [] t number = leb→le _ 0xFFFF t
+find-low f (line ∷ lines) t number =
+    go (eqb number (line .number)) (leb→le _ 0xFFFF (and-l (leb (f line) 0xFFFF) (allLow f lines) t)) (find-low f lines (and-r (leb (f line) 0xFFFF) (allLow f lines) t) number)
   where
-    go : (b : Bool) → line .most ≤ 0xFFFF → find lines number .most ≤ 0xFFFF → orElse b line (find lines number) .most ≤ 0xFFFF
+    go : (b : Bool) → f line ≤ 0xFFFF → f (find lines number) ≤ 0xFFFF → f (orElse b line (find lines number)) ≤ 0xFFFF
     go true here later = here
     go false here later = later
 
 -- no field has a code of more than 16 bits
 pub most-small : (number : ℕ) → sf number .most ≤ 0xFFFF
 unfolding sf lineOf table allLow
-most-small number = find-low table tt number
+most-small number = find-low (λ line. line .most) table tt number
 
 pub packed-width : (width most invalid : ℕ) → width < 256 → packed width most invalid % 256 ≡ width
 packed-width width most invalid small = omega arith

@@ -1,11 +1,9 @@
 // The data fields of the payloads (document 000, section 6.4; document 01, "Codes"), a line a field. Layouts, rows, values, the log
 // and the words of the run log take a field's facts from here.
 ghost use mathlib.Core.Path.{_≡_};
-ghost use mathlib.Core.List.{[]};
-ghost use Prim.Native.Nat.{_<_};
-ghost use lib.ListN.{getD};
-ghost use Rattle.fields.specs.Fields.{noLine, lineOf, fieldOf, sf};
-ghost use Rattle.fields.specs.Columns.{struct, numbersOf};
+ghost use Rattle.fields.specs.Fields.{lineOf, fieldOf, sf};
+ghost use Rattle.fields.specs.Columns.{numbersOf};
+ghost use Rattle.fields.specs.Meant.{unpacked, unpackedAbout};
 
 pub mod packed;
 
@@ -51,134 +49,6 @@ pub const RESIDUAL_TECU: u16 = 7;
 
 pub const YAW: u16 = 8;
 
-// SF000 to SF107: width, most, invalid, steps, middle, per_unit, meaning. Zeros where there is no such field.
-const LINES: [[u16; 7]; 108] = [
-    [0, 0, 0, 0, 0, 0, 0],
-    [0, 0, 0, 0, 0, 0, 0],
-    [0, 0, 0, 0, 0, 0, 0],
-    [0, 0, 0, 0, 0, 0, 0],
-    [0, 0, 0, 0, 0, 0, 0],
-    [9, 511, 511, 0, 0, 0, 0], // SF005
-    [0, 0, 0, 0, 0, 0, 0],
-    [0, 0, 0, 0, 0, 0, 0],
-    [1, 1, 1, 0, 0, 0, 0], // SF008
-    [1, 1, 1, 0, 0, 0, 0], // SF009
-    [1, 1, 1, 0, 0, 0, 0], // SF010
-    [2, 3, 3, 0, 0, 0, 0], // SF011
-    [2, 3, 3, 0, 0, 0, 0], // SF012
-    [1, 1, 1, 0, 0, 0, 0], // SF013
-    [3, 7, 7, 0, 0, 0, 0], // SF014
-    [3, 7, 7, 0, 0, 0, 0], // SF015
-    [2, 3, 3, 0, 0, 0, 0], // SF016
-    [2, 3, 3, 0, 0, 0, 0], // SF017
-    [8, 255, 255, 0, 0, 0, 0], // SF018
-    [7, 127, 127, 0, 0, 0, 0], // SF019
-    [14, 16382, 16382, ABOUT, 8191, 500, METRES], // SF020
-    [6, 59, 63, SIXFOLD, 0, 1, YAW], // SF021
-    [3, 7, 7, 0, 0, 0, 0], // SF022
-    [1, 1, 1, 0, 0, 0, 0], // SF023
-    [3, 7, 7, 0, 0, 0, 0], // SF024
-    [1, 1, 1, 0, 0, 0, 0], // SF025
-    [1, 1, 1, 0, 0, 0, 0], // SF026
-    [1, 1, 1, 0, 0, 0, 0], // SF027
-    [1, 1, 1, 0, 0, 0, 0], // SF028
-    [11, 2046, 2046, ABOUT, 1023, 50, METRES], // SF029
-    [5, 31, 31, ONE_MORE, 0, 1, COUNT], // SF030
-    [8, 255, 255, 0, 0, 0, 0], // SF031
-    [11, 1800, 1800, ABOUT, 900, 10, DEGREES], // SF032
-    [12, 3600, 3600, ABOUT, 1800, 10, DEGREES], // SF033
-    [3, 7, 7, ONE_MORE, 0, 1, COUNT], // SF034
-    [3, 7, 7, ONE_MORE, 0, 1, COUNT], // SF035
-    [5, 31, 31, ONE_MORE, 0, 10, DEGREES], // SF036
-    [5, 31, 31, ONE_MORE, 0, 10, DEGREES], // SF037
-    [0, 0, 0, 0, 0, 0, 0],
-    [7, 127, 127, 0, 0, 0, 0], // SF039
-    [2, 2, 2, 0, 0, 0, 0], // SF040
-    [3, 2, 2, 0, 0, 0, 0], // SF041
-    [3, 7, 7, 0, 0, 0, 0], // SF042
-    [8, 254, 254, ABOUT, 127, 250, METRES], // SF043
-    [1, 1, 1, 0, 0, 0, 0], // SF044
-    [7, 126, 126, ABOUT, 63, 250, METRES], // SF045
-    [7, 126, 126, ABOUT, 63, 1000, COEFFICIENT], // SF046
-    [9, 510, 510, ABOUT, 255, 5000, COEFFICIENT], // SF047
-    [9, 510, 510, ABOUT, 255, 250, METRES], // SF048
-    [9, 510, 510, ABOUT, 255, 1000, COEFFICIENT], // SF049
-    [11, 2046, 2046, ABOUT, 1023, 5000, COEFFICIENT], // SF050
-    [1, 1, 1, 0, 0, 0, 0], // SF051
-    [6, 62, 63, ABOUT, 31, 250, RESIDUAL_METRES], // SF052
-    [8, 254, 255, ABOUT, 127, 250, RESIDUAL_METRES], // SF053
-    [3, 2, 2, 0, 0, 0, 0], // SF054
-    [4, 15, 15, 0, 0, 0, 0], // SF055
-    [1, 1, 1, 0, 0, 0, 0], // SF056
-    [12, 4094, 4094, ABOUT, 2047, 25, TECU], // SF057
-    [12, 4094, 4094, ABOUT, 2047, 125, COEFFICIENT], // SF058
-    [13, 8190, 8190, ABOUT, 4095, 500, COEFFICIENT], // SF059
-    [14, 16382, 16382, ABOUT, 8191, 25, TECU], // SF060
-    [14, 16382, 16382, ABOUT, 8191, 125, COEFFICIENT], // SF061
-    [15, 32766, 32766, ABOUT, 16383, 500, COEFFICIENT], // SF062
-    [2, 3, 3, 0, 0, 0, 0], // SF063
-    [4, 14, 15, ABOUT, 7, 25, RESIDUAL_TECU], // SF064
-    [7, 126, 127, ABOUT, 63, 25, RESIDUAL_TECU], // SF065
-    [10, 1022, 1023, ABOUT, 511, 25, RESIDUAL_TECU], // SF066
-    [14, 16382, 16383, ABOUT, 8191, 25, RESIDUAL_TECU], // SF067
-    [4, 15, 15, 0, 0, 0, 0], // SF068
-    [1, 1, 1, 0, 0, 0, 0], // SF069
-    [2, 3, 3, 0, 0, 0, 0], // SF070
-    [2, 3, 3, ONE_MORE, 0, 1, COUNT], // SF071
-    [2, 3, 3, 0, 0, 0, 0], // SF072
-    [8, 170, 170, ABOUT, 85, 1, DEGREES], // SF073
-    [9, 360, 360, ABOUT, 180, 1, DEGREES], // SF074
-    [4, 15, 15, ONE_MORE, 0, 1, COUNT], // SF075
-    [4, 15, 15, ONE_MORE, 0, 1, COUNT], // SF076
-    [2, 3, 3, SPACINGS, 0, 2, DEGREES], // SF077
-    [2, 3, 3, SPACINGS, 0, 2, DEGREES], // SF078
-    [0, 0, 0, 0, 0, 0, 0],
-    [12, 4094, 4094, ABOUT, 2047, 4, TECU], // SF080
-    [1, 1, 1, 0, 0, 0, 0], // SF081
-    [7, 126, 127, ABOUT, 63, 4, RESIDUAL_TECU], // SF082
-    [11, 2046, 2047, ABOUT, 1023, 4, RESIDUAL_TECU], // SF083
-    [0, 0, 0, 0, 0, 0, 0],
-    [0, 0, 0, 0, 0, 0, 0],
-    [0, 0, 0, 0, 0, 0, 0],
-    [0, 0, 0, 0, 0, 0, 0],
-    [0, 0, 0, 0, 0, 0, 0],
-    [0, 0, 0, 0, 0, 0, 0],
-    [0, 0, 0, 0, 0, 0, 0],
-    [0, 0, 0, 0, 0, 0, 0],
-    [0, 0, 0, 0, 0, 0, 0],
-    [2, 3, 3, 0, 0, 0, 0], // SF093
-    [2, 3, 3, 0, 0, 0, 0], // SF094
-    [2, 3, 3, 0, 0, 0, 0], // SF095
-    [3, 7, 7, 0, 0, 0, 0], // SF096
-    [4, 15, 15, 0, 0, 0, 0], // SF097
-    [3, 7, 7, 0, 0, 0, 0], // SF098
-    [10, 1023, 1023, 0, 0, 0, 0], // SF099
-    [8, 255, 255, 0, 0, 0, 0], // SF100
-    [8, 255, 255, 0, 0, 0, 0], // SF101
-    [1, 1, 1, 0, 0, 0, 0], // SF102
-    [1, 1, 1, 0, 0, 0, 0], // SF103
-    [1, 1, 1, 0, 0, 0, 0], // SF104
-    [1, 1, 1, 0, 0, 0, 0], // SF105
-    [1, 1, 1, 0, 0, 0, 0], // SF106
-    [1, 1, 1, 0, 0, 0, 0], // SF107
-];
-
-// A table is laid out anew where a function names it, so it is named once and lent.
-fn numbers_in(lines: &[[u16; 7]; 108], number: usize) -> Numbers
-    requires { ⌜ number < 108 ⌝ }
-    ensures { λ r. ⌜ r ≡ struct (getD (now (lines .entry)) number []) ⌝ }
-{
-    Numbers {
-        width: lines[number][0],
-        most: lines[number][1],
-        invalid: lines[number][2],
-        steps: lines[number][3],
-        middle: lines[number][4],
-        per_unit: lines[number][5],
-        meaning: lines[number][6],
-    }
-}
-
 fn field(number: u64, width: u32, most: u64, invalid: u64) -> Field
     ensures { λ r. ⌜ r ≡ fieldOf number width most invalid ⌝ }
 {
@@ -191,20 +61,6 @@ fn field(number: u64, width: u32, most: u64, invalid: u64) -> Field
         except: invalid,
         under: Refusal::Field,
         over: Refusal::Field,
-    }
-}
-
-fn no_numbers() -> Numbers
-    ensures { λ r. ⌜ r ≡ numbersOf noLine ⌝ }
-{
-    Numbers {
-        width: 0,
-        most: 0,
-        invalid: 0,
-        steps: 0,
-        middle: 0,
-        per_unit: 0,
-        meaning: 0,
     }
 }
 
@@ -355,12 +211,67 @@ fn field_by_line(number: u64) -> Field
     )
 }
 
-// The line of the field SF `number`; zeros where there is none.
+// A packed line as numbers, with what its codes mean.
+fn unpack(line: u64, steps: u16, middle: u16, per_unit: u16, meaning: u16) -> Numbers
+    ensures { λ r. ⌜ r ≡ unpacked line steps middle «per_unit» meaning ⌝ }
+{
+    Numbers {
+        width: (line % 0x100) as u16,
+        most: (line / 0x100 % 0x1_0000) as u16,
+        invalid: (line / 0x1_0000_0000 % 0x1_0000) as u16,
+        steps: steps,
+        middle: middle,
+        per_unit: per_unit,
+        meaning: meaning,
+    }
+}
+
+// The same of a field whose codes count steps about the middle one.
+fn unpack_about(line: u64, per_unit: u16, meaning: u16) -> Numbers
+    ensures { λ r. ⌜ r ≡ unpackedAbout line «per_unit» meaning ⌝ }
+{
+    unpack(
+        line,
+        ABOUT,
+        (line / 0x100 % 0x1_0000 / 2) as u16,
+        per_unit,
+        meaning,
+    )
+}
+
+// The line of the field SF `number`; zeros where there is none. An array of lines would be laid out on the stack at each call. Numbers that follow one
+// another stand in arms of their own: an arm of both would be compiled to a test of a range in front of the `match`.
 pub fn line_of(number: u16) -> Numbers
     ensures { λ r. ⌜ r ≡ numbersOf (lineOf number) ⌝ }
 {
-    if 107 < number {
-        return no_numbers();
+    let line = packed::line(number as u64);
+    match number {
+        20 => unpack_about(line, 500, METRES),
+        21 => unpack(line, SIXFOLD, 0, 1, YAW),
+        29 => unpack_about(line, 50, METRES),
+        30 | 34 | 71 | 75 => unpack(line, ONE_MORE, 0, 1, COUNT),
+        35 | 76 => unpack(line, ONE_MORE, 0, 1, COUNT),
+        32 => unpack_about(line, 10, DEGREES),
+        33 => unpack_about(line, 10, DEGREES),
+        36 => unpack(line, ONE_MORE, 0, 10, DEGREES),
+        37 => unpack(line, ONE_MORE, 0, 10, DEGREES),
+        43 | 45 | 48 => unpack_about(line, 250, METRES),
+        46 | 49 => unpack_about(line, 1000, COEFFICIENT),
+        47 | 50 => unpack_about(line, 5000, COEFFICIENT),
+        52 => unpack_about(line, 250, RESIDUAL_METRES),
+        53 => unpack_about(line, 250, RESIDUAL_METRES),
+        57 | 60 => unpack_about(line, 25, TECU),
+        58 | 61 => unpack_about(line, 125, COEFFICIENT),
+        59 | 62 => unpack_about(line, 500, COEFFICIENT),
+        64 | 66 => unpack_about(line, 25, RESIDUAL_TECU),
+        65 | 67 => unpack_about(line, 25, RESIDUAL_TECU),
+        73 => unpack_about(line, 1, DEGREES),
+        74 => unpack_about(line, 1, DEGREES),
+        77 => unpack(line, SPACINGS, 0, 2, DEGREES),
+        78 => unpack(line, SPACINGS, 0, 2, DEGREES),
+        80 => unpack_about(line, 4, TECU),
+        82 => unpack_about(line, 4, RESIDUAL_TECU),
+        83 => unpack_about(line, 4, RESIDUAL_TECU),
+        _ => unpack(line, 0, 0, 0, 0),
     }
-    numbers_in(&LINES, number as usize)
 }

@@ -1,11 +1,10 @@
 // A field's bits and the codes that it takes in one number, so that a cell of a row costs one look into a table of constants.
 ghost use mathlib.Core.Path.{_≡_};
-ghost use Prim.Native.Nat.{_%_};
+ghost use Prim.Native.Nat.{_%_, _≤_};
 ghost use Rattle.fields.specs.Packed.{packedLine, refuses};
-use crate::line_of;
 
 // The line of the field SF `number`: its bits in the last two digits, `most` in the six before them, `invalid` in front; 0 where there is no such field. Each
-// number up to SF107 has an arm: without holes, and with constants alone, a `match` becomes a table. It goes on in three functions more, each of 32 arms.
+// number up to SF107 has an arm: without holes, and with constants alone, a `match` becomes a table. It goes on in three functions more, each of 32 arms at most.
 pub fn line(number: u64) -> u64
     ensures { λ r. ⌜ r ≡ packedLine number ⌝ }
 {
@@ -46,8 +45,9 @@ pub fn line(number: u64) -> u64
     }
 }
 
-// SF032 to SF063.
+// SF032 on. Internal: those before it have their arms above.
 fn line_from_32(number: u64) -> u64
+    requires { ⌜ 32 ≤ number ⌝ }
     ensures { λ r. ⌜ r ≡ packedLine number ⌝ }
 {
     match number {
@@ -87,8 +87,9 @@ fn line_from_32(number: u64) -> u64
     }
 }
 
-// SF064 to SF095.
+// SF064 on. Internal: those before it have their arms above.
 fn line_from_64(number: u64) -> u64
+    requires { ⌜ 64 ≤ number ⌝ }
     ensures { λ r. ⌜ r ≡ packedLine number ⌝ }
 {
     match number {
@@ -128,8 +129,9 @@ fn line_from_64(number: u64) -> u64
     }
 }
 
-// SF096 to SF107.
+// SF096 to SF107, the last. Internal: those before it have their arms above.
 fn line_from_96(number: u64) -> u64
+    requires { ⌜ 96 ≤ number ⌝ }
     ensures { λ r. ⌜ r ≡ packedLine number ⌝ }
 {
     match number {
@@ -145,19 +147,8 @@ fn line_from_96(number: u64) -> u64
         105 => 0x1_000001_01,
         106 => 0x1_000001_01,
         107 => 0x1_000001_01,
-        _ => line_by_numbers(number),
+        _ => 0,
     }
-}
-
-// What is left over, by the line's numbers: a number over 107. It says the same of every number, so that it asks for nothing.
-fn line_by_numbers(number: u64) -> u64
-    ensures { λ r. ⌜ r ≡ packedLine number ⌝ }
-{
-    if 107 < number {
-        return 0;
-    }
-    let line = line_of(number as u16);
-    line.width as u64 + 0x100 * line.most as u64 + 0x1_0000_0000 * line.invalid as u64
 }
 
 // How many bits the field of a line has.

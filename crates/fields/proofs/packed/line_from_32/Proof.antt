@@ -1,6 +1,7 @@
 -- Each arm is its line of the table; any other number goes on.
+use native.Mathlib.Omega.{arith}
 use Rattle.fields.specs.Fields.{table, find, lineOf, sf}
-use Rattle.fields.specs.Packed.{packedLine, packed-at}
+use Rattle.fields.specs.Packed.{packedLine, packed-at, past-others}
 use borrow.Author.Needs.{needs}
 use Rattle.fields.proofs.packed.line_from_32.Statement.{statement}
 use Rattle.fields.proofs.packed.line_from_32.Tie as tie
@@ -10,7 +11,7 @@ unfolding packedLine sf lineOf find table
 line-from-32-spec =
     tie.close (
     tie.spec
-    (λ c κs. search needs)
+    (λ c κs. past-others 32 32 (omega arith) (c .match .rest))
     (λ c. search (packed-at 32, needs))
     (λ c. search (packed-at 33, needs))
     (λ c. search (packed-at 34, needs))

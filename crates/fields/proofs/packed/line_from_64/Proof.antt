@@ -1,6 +1,7 @@
 -- Each arm is its line of the table; any other number goes on.
+use native.Mathlib.Omega.{arith}
 use Rattle.fields.specs.Fields.{table, find, lineOf, sf}
-use Rattle.fields.specs.Packed.{packedLine, packed-at}
+use Rattle.fields.specs.Packed.{packedLine, packed-at, past-others}
 use borrow.Author.Needs.{needs}
 use Rattle.fields.proofs.packed.line_from_64.Statement.{statement}
 use Rattle.fields.proofs.packed.line_from_64.Tie as tie
@@ -10,7 +11,7 @@ unfolding packedLine sf lineOf find table
 line-from-64-spec =
     tie.close (
     tie.spec
-    (λ c κs. search needs)
+    (λ c κs. past-others 64 32 (omega arith) (c .match .rest))
     (λ c. search (packed-at 64, needs))
     (λ c. search (packed-at 65, needs))
     (λ c. search (packed-at 66, needs))

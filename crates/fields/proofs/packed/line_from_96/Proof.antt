@@ -1,6 +1,7 @@
--- Each arm is its line of the table; any other number goes on.
+-- Each arm is its line of the table; behind them there is no field.
+use native.Mathlib.Omega.{arith}
 use Rattle.fields.specs.Fields.{table, find, lineOf, sf}
-use Rattle.fields.specs.Packed.{packedLine, packed-at}
+use Rattle.fields.specs.Packed.{packedLine, packed-at, past-others, packed-none}
 use borrow.Author.Needs.{needs}
 use Rattle.fields.proofs.packed.line_from_96.Statement.{statement}
 use Rattle.fields.proofs.packed.line_from_96.Tie as tie
@@ -10,7 +11,6 @@ unfolding packedLine sf lineOf find table
 line-from-96-spec =
     tie.close (
     tie.spec
-    (λ c κs. search needs)
     (λ c. search (packed-at 96, needs))
     (λ c. search (packed-at 97, needs))
     (λ c. search (packed-at 98, needs))
@@ -23,4 +23,4 @@ line-from-96-spec =
     (λ c. search (packed-at 105, needs))
     (λ c. search (packed-at 106, needs))
     (λ c. search (packed-at 107, needs))
-    (λ c. search needs))
+    (λ c. packed-none _ (past-others 96 12 (omega arith) (c .match .rest))))
