@@ -34,8 +34,18 @@ read-field s pos w r e h k =
     let q : r ≡ field s pos w = e ∙ got-there s pos w h k in
     (q, subst (λ r. r < 2 ^ w) (sym q) (field-lt s pos w))
 
--- AIOU and the count of blocks, of a payload that has them
+-- SIOU, AIOU and the count of blocks, of a payload that has them
 module _ (s : List ℕ) (there : 3 ≤ length s) (r : ℕ) where
+  module _ (e : r ≡ got s 0 9) where
+    pub siou-small : r + 1 < 65536
+    siou-small = let z = read-field s 0 9 r e (omega arith) (omega arith) in omega arith
+
+    pub siou-fits : r + 1 < 2 ^ 64
+    siou-fits = omega (arith, siou-small)
+
+    pub siou-is : (o : ℕ) → o ≡ r + 1 → o ≡ field s 0 9 + 1
+    siou-is o q = let z = read-field s 0 9 r e (omega arith) (omega arith) in omega arith
+
   module _ (e : r ≡ got s 9 4) where
     pub aiou-small : r + 1 < 256
     aiou-small = let z = read-field s 9 4 r e (omega arith) (omega arith) in omega arith

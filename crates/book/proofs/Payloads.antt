@@ -17,7 +17,7 @@ use Rattle.sheet.specs.declared.ReadAnswer.{ReadAnswer}
 use Rattle.sheet.specs.declared.ReadAnswer.the-variants as reader
 use Rattle.book.specs.Book.{sound}
 use Rattle.book.specs.Take.{areasOf, takeAll, before, outcome, answerOf, leftBy, takenOf, bytesAfter}
-use Rattle.book.specs.Payload.{aiouOf, blockCount, blockStart, takeBits, AtBits, gad-at-bits}
+use Rattle.book.specs.Payload.{siouOf, aiouOf, blockCount, blockStart, blocksOf, takeBits, AtBits, gad-at-bits}
 use Rattle.book.specs.TakenLaws.{outcome-refused, answer-refused, outcome-read, answer-read, Says, says-read}
 use Rattle.book.specs.declared.Book.{Book}
 use Rattle.book.specs.declared.Taken.{Taken}
@@ -78,11 +78,11 @@ module _ (book : Book) (s p : List ℕ) where
           take-there = stands .there
 
           -- what is taken by the layout is what is taken by the bits
-          by-bits : takeAll (areasOf (read .gad .blocks)) (before book s (read .gad .aiou)) ≡ takeBits book s p
-          by-bits = ap₂ (λ l a. takeAll l (before book s a)) (stands .areas) (stands .aiou)
+          by-bits : takeAll (areasOf (read .gad .blocks)) (before book s (read .gad .aiou) (read .gad .siou)) ≡ takeBits book s p
+          by-bits = ap₂ (λ l a. takeAll l (before book s a (read .gad .siou))) (stands .areas) (stands .aiou) ∙ ap (λ u. takeAll (blocksOf p) (before book s (aiouOf p) u)) (stands .siou)
 
-          pub take-blocks : (t : Taken) → t ≡ answerOf (takeBits book s p) (aiouOf p) → t ≡ takenOf book s p
-          take-blocks t e = e ∙ sym (answer-read book s p take-sound (read .gad) (read .codes) (read .used) (read .reads) ∙ ap₂ answerOf by-bits (stands .aiou))
+          pub take-blocks : (t : Taken) → t ≡ answerOf (takeBits book s p) (aiouOf p) (siouOf p) → t ≡ takenOf book s p
+          take-blocks t e = e ∙ sym (answer-read book s p take-sound (read .gad) (read .codes) (read .used) (read .reads) ∙ ap₂ (λ o a. answerOf o a (read .gad .siou)) by-bits (stands .aiou) ∙ ap (answerOf (takeBits book s p) (aiouOf p)) (stands .siou))
 
           pub left-blocks : (z : List ℕ) → z ≡ leftBy (takeBits book s p) s → z ≡ bytesAfter book s p
           left-blocks z e = e ∙ sym (ap (λ o. leftBy o s) (outcome-read book s p take-sound (read .gad) (read .codes) (read .used) (read .reads) ∙ by-bits))

@@ -14,7 +14,7 @@ use mir.Val.{Fits}
 use Rattle.area.specs.Area.{sf031, sf032, sf033, areaOff, isArea, numberIn, numberAt}
 use Rattle.area.specs.Laws.{not-off}
 use Rattle.area.specs.declared.AreaId.{AreaId}
-use Rattle.book.specs.Book.{areaIn, headSound, areasSound, sound, placeOf, isHeld, found, foundAt}
+use Rattle.book.specs.Book.{areaIn, siouSound, headSound, areasSound, sound, placeOf, isHeld, found, foundAt}
 use Rattle.book.specs.Laws.{Sound, head-parts, sound-head, sound-room, sound-lists}
 use Rattle.book.specs.Judge.{soundArea, Image}
 use Rattle.bits.specs.Bits.{Bytes}
@@ -23,10 +23,43 @@ use Rattle.book.specs.declared.Book.{Book}
 
 -- ---- the head
 
-module _ (book : Book) where
+-- a SIOU + 1, with an AIOU + 1
+module _ (aiou siou : ℕ) where
+  pub siou-over : 512 < siou → false ≡ siouSound aiou siou
+  unfolding siouSound
+  siou-over h = rw (lt-leb siou 512 h)
+
+  module _ (h : siou ≤ 512) where
+    pub siou-without : aiou ≡ 0 → eqb siou 0 ≡ siouSound aiou siou
+    unfolding siouSound
+    siou-without e = rw (le-leb siou 512 h, e)
+
+    pub siou-with : (aiou ≡ 0 → ⊥) → true ≡ siouSound aiou siou
+    unfolding siouSound
+    siou-with n = rw (le-leb siou 512 h, ne-eqb aiou 0 n)
+
+-- a head whose SIOU is not sound, and one whose SIOU is
+module _ (book : Book) (b : Bool) (x : ℕ) (ex : x ≡ book .«siou_plus_one») (e : b ≡ siouSound (book .«aiou_plus_one») x) where
+  siou-is : b ≡ siouSound (book .«aiou_plus_one») (book .«siou_plus_one»)
+  siou-is = e ∙ ap (siouSound (book .«aiou_plus_one»)) ex
+
+  pub head-siou : not b ≡ true → false ≡ headSound book
+  unfolding headSound
+  head-siou k =
+      let z : siouSound (book .«aiou_plus_one») (book .«siou_plus_one») ≡ false = sym siou-is ∙ not-true b k in
+      rw z (go (Bool·beq (eqb (book .«aiou_plus_one») 0) (eqb (book .count) 0)))
+    where
+      go : (t : Bool) → false ≡ (t && false)
+      go true = refl
+      go false = refl
+
+  head-by : not b ≡ false → siouSound (book .«aiou_plus_one») (book .«siou_plus_one») ≡ true
+  head-by k = sym siou-is ∙ not-false b k
+
+module _ (book : Book) (b : Bool) (x : ℕ) (ex : x ≡ book .«siou_plus_one») (e : b ≡ siouSound (book .«aiou_plus_one») x) (known : not b ≡ false) where
   pub head-none : book .«aiou_plus_one» ≡ 0 → eqb (book .count) 0 ≡ headSound book
   unfolding headSound
-  head-none e = rw e (go (eqb (book .count) 0) refl)
+  head-none a = rw (head-by book b x ex e known, a) (go (eqb (book .count) 0) refl)
     where
       go : (b : Bool) → eqb (book .count) 0 ≡ b → b ≡ (Bool·beq true b && (true && leb (book .count) mostAreas))
       go false z = refl
@@ -35,16 +68,16 @@ module _ (book : Book) where
   module _ (some : book .«aiou_plus_one» ≡ 0 → ⊥) where
     pub head-bare : book .count ≡ 0 → false ≡ headSound book
     unfolding headSound
-    head-bare e = rw (ne-eqb _ _ some, e)
+    head-bare z = rw (ne-eqb _ _ some, z)
 
     module _ (h : book .count ≡ 0 → ⊥) where
       pub head-over : 16 < book .«aiou_plus_one» → false ≡ headSound book
       unfolding headSound
-      head-over k = rw (ne-eqb _ _ some, ne-eqb _ _ h, lt-leb _ _ k)
+      head-over k = rw (head-by book b x ex e known, ne-eqb _ _ some, ne-eqb _ _ h, lt-leb _ _ k)
 
       pub head-rest : book .«aiou_plus_one» ≤ 16 → leb (book .count) mostAreas ≡ headSound book
       unfolding headSound
-      head-rest k = rw (ne-eqb _ _ some, ne-eqb _ _ h, le-leb _ _ k)
+      head-rest k = rw (head-by book b x ex e known, ne-eqb _ _ some, ne-eqb _ _ h, le-leb _ _ k)
 
 -- with a sound head, the areas lie inside the bytes, and there are no more than IDs
 module _ (book : Book) (b : Bool) (e : b ≡ headSound book) (k : not b ≡ false) where

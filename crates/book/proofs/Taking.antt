@@ -17,9 +17,9 @@ use Rattle.area.specs.Area.{sf031, bytesOf, numberIn, numberAt, putAt}
 use Rattle.area.specs.Laws.{number-bytes, half-number}
 use Rattle.book.specs.Book.{bookOf, areasIn, bytesOfAll, sound}
 use Rattle.book.specs.Laws.{Ascending, length-areas, length-bytes, bytes-join, areas-bytes, small-at}
-use Rattle.book.specs.Payload.{aiouOf, blockCount, blockAt, blocksFrom, blocksOf, takeBits}
-use Rattle.book.specs.Take.{lookup, insert, Outcome, taken, refused, andThen, takeBlock, takeAll, before, answerOf, leftBy}
-use Rattle.book.specs.TakeLaws.{orElse, or-assoc, or-nothing, lookup-append, Took, took, took-all, all-same, lookup-block, ascending-block, length-block, block-grows, length-insert}
+use Rattle.book.specs.Payload.{siouOf, aiouOf, blockCount, blockAt, blocksFrom, blocksOf, takeBits}
+use Rattle.book.specs.Take.{lookup, insert, Outcome, taken, refused, andThen, takeBlock, takeAll, isUnder, before, answerOf, leftBy}
+use Rattle.book.specs.TakeLaws.{is-under, other-aiou, other-siou, orElse, or-assoc, or-nothing, lookup-append, Took, took, took-all, all-same, lookup-block, ascending-block, length-block, block-grows, length-insert}
 use Rattle.book.specs.Search.{Below, below-up, below-snoc, take-insert, Passed, Reached}
 use Rattle.book.specs.Judge.{judgedBy, isTaken, judgeBlock, judge-is, grownBy, grown, took-grown, Image}
 use Rattle.book.specs.declared.Book.{Book}
@@ -476,27 +476,20 @@ module _ (s p : List ℕ) (count n i held : ℕ) (b : List ℕ) (q : Filling s p
 
 -- ---- a GAD
 
-pub under-same : (book : Book) (k : ℕ) → book .«aiou_plus_one» ≡ k → book .count ≡ cond (eqb (book .«aiou_plus_one») k) (book .count) 0
-under-same book k e = rw (eq-eqb _ _ e)
+module _ (book : Book) (aiou siou : ℕ) where
+  pub under-same : book .«aiou_plus_one» ≡ aiou → book .«siou_plus_one» ≡ siou → book .count ≡ cond (isUnder book aiou siou) (book .count) 0
+  under-same e u = rw (is-under book aiou siou e u)
 
-pub under-other : (book : Book) (k : ℕ) → (book .«aiou_plus_one» ≡ k → ⊥) → 0 ≡ cond (eqb (book .«aiou_plus_one») k) (book .count) 0
-under-other book k e = rw (ne-eqb _ _ e)
+  pub under-other : (book .«aiou_plus_one» ≡ aiou → ⊥) → 0 ≡ cond (isUnder book aiou siou) (book .count) 0
+  under-other n = rw (other-aiou book aiou siou n)
 
--- the blocks of a payload that reads as a GAD, taken into a sound book
-module _ (book : Book) (s p : List ℕ) (w : sound book s ≡ true) (aiou n : ℕ) (ea : aiou ≡ aiouOf p + 1) (en : n ≡ cond (eqb (book .«aiou_plus_one») aiou) (book .count) 0) where
-  areas-before : areasIn n s ≡ before book s (aiouOf p)
-  unfolding before areasIn
-  areas-before = ap (λ n. areasIn n s) en ∙ go (eqb (book .«aiou_plus_one») aiou) ∙ ap (λ k. cond (eqb (book .«aiou_plus_one») k) (areasIn (book .count) s) []) ea
-    where
-      go : (t : Bool) → areasIn (cond t (book .count) 0) s ≡ cond t (areasIn (book .count) s) []
-      go true = refl
-      go false = refl
+  pub under-update : (book .«siou_plus_one» ≡ siou → ⊥) → 0 ≡ cond (isUnder book aiou siou) (book .count) 0
+  under-update n = rw (other-siou book aiou siou n)
 
-  outcome-is : takeBits book s p ≡ takeAll (blocksOf p) (areasIn n s)
-  outcome-is = ap (takeAll (blocksOf p)) (sym areas-before)
-
+-- the areas of a sound book that a GAD of this AIOU and SIOU adds to
+module _ (book : Book) (s : List ℕ) (w : sound book s ≡ true) (aiou siou n : ℕ) (en : n ≡ cond (isUnder book aiou siou) (book .count) 0) where
   pub count-few : n ≤ mostAreas
-  count-few = subst (λ n. n ≤ mostAreas) (sym en) (go (eqb (book .«aiou_plus_one») aiou))
+  count-few = subst (λ n. n ≤ mostAreas) (sym en) (go (isUnder book aiou siou))
     where
       go : (t : Bool) → cond t (book .count) 0 ≤ mostAreas
       go true = sound-count book s w
@@ -507,7 +500,7 @@ module _ (book : Book) (s p : List ℕ) (w : sound book s ≡ true) (aiou n : �
 
   pub count-image : ((i : ℕ) → Fits w8 (getD s i 0)) → Image n s
   unfolding areasIn bytesOfAll
-  count-image known = subst (λ n. Image n s) (sym en) (go (eqb (book .«aiou_plus_one») aiou))
+  count-image known = subst (λ n. Image n s) (sym en) (go (isUnder book aiou siou))
     where
       go : (t : Bool) → Image (cond t (book .count) 0) s
       go true = sound-image book s w (record { byte = λ i. known i .fits })
@@ -516,34 +509,48 @@ module _ (book : Book) (s p : List ℕ) (w : sound book s ≡ true) (aiou n : �
   pub count-ascending : ((i : ℕ) → Fits w8 (getD s i 0)) → Ascending 0 (areasIn n s)
   count-ascending known = count-image known .ascending
 
+-- blocks that are judged taken are taken
+pub is-taken : (s p : List ℕ) (n : ℕ) (v : Judged) → v ≡ judgedBy (takeAll (blocksOf p) (areasIn n s)) → (m : ℕ) → v ≡ Held m → isTaken (takeAll (blocksOf p) (areasIn n s)) ≡ true
+is-taken s p n v ev m q = ap isTaken (is-held (takeAll (blocksOf p) (areasIn n s)) m (sym q ∙ ev) .is)
+
+-- the blocks of a payload that reads as a GAD, taken into a sound book
+module _ (book : Book) (s p : List ℕ) (w : sound book s ≡ true) (aiou siou n : ℕ) (ea : aiou ≡ aiouOf p + 1) (eu : siou ≡ siouOf p + 1) (en : n ≡ cond (isUnder book aiou siou) (book .count) 0) where
+  areas-before : areasIn n s ≡ before book s (aiouOf p) (siouOf p)
+  unfolding before areasIn
+  areas-before = ap (λ n. areasIn n s) en ∙ go (isUnder book aiou siou) ∙ ap₂ (λ a u. cond (isUnder book a u) (areasIn (book .count) s) []) ea eu
+    where
+      go : (t : Bool) → areasIn (cond t (book .count) 0) s ≡ cond t (areasIn (book .count) s) []
+      go true = refl
+      go false = refl
+
+  outcome-is : takeBits book s p ≡ takeAll (blocksOf p) (areasIn n s)
+  outcome-is = ap (takeAll (blocksOf p)) (sym areas-before)
+
   module _ (v : Judged) (ev : v ≡ judgedBy (takeAll (blocksOf p) (areasIn n s))) where
     refusal-is : (r : answer.Fault) → v ≡ Refused r → refused r ≡ takeBits book s p
     refusal-is r q = sym (is-refused _ r (sym q ∙ ev)) ∙ sym outcome-is
 
-    pub take-refused : (r : answer.Fault) → v ≡ Refused r → Taken.Refused r ≡ answerOf (takeBits book s p) (aiouOf p)
-    take-refused r q = ap (λ o. answerOf o (aiouOf p)) (refusal-is r q)
+    pub take-refused : (r : answer.Fault) → v ≡ Refused r → Taken.Refused r ≡ answerOf (takeBits book s p) (aiouOf p) (siouOf p)
+    take-refused r q = ap (λ o. answerOf o (aiouOf p) (siouOf p)) (refusal-is r q)
 
     pub left-refused : (r : answer.Fault) → v ≡ Refused r → s ≡ leftBy (takeBits book s p) s
     left-refused r q = ap (λ o. leftBy o s) (refusal-is r q)
 
-    pub is-taken : (m : ℕ) → v ≡ Held m → isTaken (takeAll (blocksOf p) (areasIn n s)) ≡ true
-    is-taken m q = ap isTaken (is-held (takeAll (blocksOf p) (areasIn n s)) m (sym q ∙ ev) .is)
-
-    pub take-held : (m : ℕ) → v ≡ Held m → (r : Book) → r ≡ bookOf aiou m
-        → Taken.Holds r ≡ answerOf (takeBits book s p) (aiouOf p)
+    pub take-held : (m : ℕ) → v ≡ Held m → (r : Book) → r ≡ bookOf aiou siou m
+        → Taken.Holds r ≡ answerOf (takeBits book s p) (aiouOf p) (siouOf p)
     take-held m q r er =
         let w : IsHeld (takeAll (blocksOf p) (areasIn n s)) m = is-held _ m (sym q ∙ ev) in
-        ap Taken.Holds er ∙ ap₂ (λ a m. Taken.Holds (bookOf a m)) ea (sym (w .many)) ∙ ap (λ o. answerOf o (aiouOf p)) (sym (w .is) ∙ sym outcome-is)
+        ap Taken.Holds er ∙ ap₂ (λ a u. Taken.Holds (bookOf a u m)) ea eu ∙ ap (λ m. Taken.Holds (bookOf (aiouOf p + 1) (siouOf p + 1) m)) (sym (w .many)) ∙ ap (λ o. answerOf o (aiouOf p) (siouOf p)) (sym (w .is) ∙ sym outcome-is)
 
     -- as many areas as before are the same ones
     pub left-same : (m : ℕ) → v ≡ Held m → m ≡ n → ((i : ℕ) → Fits w8 (getD s i 0)) → s ≡ leftBy (takeBits book s p) s
     left-same m q e known =
-        let w : IsHeld (takeAll (blocksOf p) (areasIn n s)) m = is-held _ m (sym q ∙ ev) in
-        let same : w .list ≡ areasIn n s
-        = all-same (blocksOf p) (areasIn n s) (w .list) (took-all (blocksOf p) (areasIn n s) (w .list) (w .is)) (w .many ∙ e ∙ sym (length-areas n s)) in
+        let h : IsHeld (takeAll (blocksOf p) (areasIn n s)) m = is-held _ m (sym q ∙ ev) in
+        let same : h .list ≡ areasIn n s
+        = all-same (blocksOf p) (areasIn n s) (h .list) (took-all (blocksOf p) (areasIn n s) (h .list) (h .is)) (h .many ∙ e ∙ sym (length-areas n s)) in
         sym (take-append-drop (6 * n) s)
-        ∙ ap₂ (λ x k. x ++ drop (6 * k) s) (count-image known .image ∙ ap bytesOfAll (sym same)) (sym (w .many ∙ e))
-        ∙ ap (λ o. leftBy o s) (sym (w .is) ∙ sym outcome-is)
+        ∙ ap₂ (λ x k. x ++ drop (6 * k) s) (count-image book s w aiou siou n en known .image ∙ ap bytesOfAll (sym same)) (sym (h .many ∙ e))
+        ∙ ap (λ o. leftBy o s) (sym (h .is) ∙ sym outcome-is)
 
   pub left-held : (z : List ℕ) → z ≡ leftBy (takeAll (blocksOf p) (areasIn n s)) s → z ≡ leftBy (takeBits book s p) s
   left-held z ez = ez ∙ ap (λ o. leftBy o s) (sym outcome-is)

@@ -3,7 +3,7 @@
 use Prim.Native.Nat.{ℕ}
 use Rattle.area.specs.declared.AreaId.{AreaId}
 use Rattle.bits.specs.Part.{PartOf, part-determined}
-use Rattle.book.specs.Book.{bookOf, found, foundAt, headSound, noBook, sound}
+use Rattle.book.specs.Book.{bookOf, found, foundAt, headSound, noBook, siouSound, sound}
 use Rattle.book.specs.Take.{bytesAfter, looked, numberOfTaken, takenOf}
 use Rattle.book.specs.declared.Book.{Book}
 use Rattle.book.specs.declared.Found.{Found}
@@ -13,17 +13,23 @@ use mathlib.Core.Bool.{Bool}
 use mathlib.Core.List.{List}
 use mathlib.Core.Path.{_∙_, _≡_, sym}
 
-pub book-of-determined : («aiou_plus_one» count : ℕ) (r₁ r₂ : Book)
-    → r₁ ≡ bookOf «aiou_plus_one» count
-    → r₂ ≡ bookOf «aiou_plus_one» count
+pub book-of-determined : («aiou_plus_one» «siou_plus_one» count : ℕ) (r₁ r₂ : Book)
+    → r₁ ≡ bookOf «aiou_plus_one» «siou_plus_one» count
+    → r₂ ≡ bookOf «aiou_plus_one» «siou_plus_one» count
     → r₁ ≡ r₂
-book-of-determined «aiou_plus_one» count r₁ r₂ e0₁ e0₂ = e0₁ ∙ sym e0₂
+book-of-determined «aiou_plus_one» «siou_plus_one» count r₁ r₂ e0₁ e0₂ = e0₁ ∙ sym e0₂
 
 pub no-book-determined : (r₁ r₂ : Book)
     → r₁ ≡ noBook
     → r₂ ≡ noBook
     → r₁ ≡ r₂
 no-book-determined r₁ r₂ e0₁ e0₂ = e0₁ ∙ sym e0₂
+
+pub siou-is-sound-determined : («aiou_plus_one» «siou_plus_one» : ℕ) (r₁ r₂ : Bool)
+    → r₁ ≡ siouSound «aiou_plus_one» «siou_plus_one»
+    → r₂ ≡ siouSound «aiou_plus_one» «siou_plus_one»
+    → r₁ ≡ r₂
+siou-is-sound-determined «aiou_plus_one» «siou_plus_one» r₁ r₂ e0₁ e0₂ = e0₁ ∙ sym e0₂
 
 pub head-is-sound-determined : (book : Book) (r₁ r₂ : Bool)
     → r₁ ≡ headSound book

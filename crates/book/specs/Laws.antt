@@ -1,19 +1,19 @@
 -- Laws: the areas of a book and its bytes. Proved; assumes nothing.
 use mathlib.Core.Path.{_≡_, refl, ap, ap₂, sym, _∙_}
-use mathlib.Core.Bool.{true, _&&_, Bool·beq}
+use mathlib.Core.Bool.{Bool, true, false, not, _&&_, _||_, Bool·beq}
 use mathlib.Core.List.{List, [], _∷_, _++_, append-assoc}
 use Prim.Native.Nat.{ℕ, zero, suc, _+_, _*_, _/_, _%_, _^_, _≤_, _<_}
 use native.Mathlib.Omega.{arith}
 use lib.Dec.{leb, eqb}
 use lib.ListN.{length, getD, take, drop, length-append, length-drop}
 use lib.Seq.{take-add, drop-drop}
-use borrow.Author.Tests.{le-leb, leb-true, eq-eqb, eqb-true}
+use borrow.Author.Tests.{le-leb, leb-true, eq-eqb, eqb-true, ne-eqb}
 use Rattle.bits.specs.Bits.{Bytes}
 use Rattle.bits.specs.Laws.{bytes-drop}
 use Rattle.area.specs.Area.{sf031, isArea, bytesOf, numberIn}
 use Rattle.area.specs.Laws.{number-bytes, bytes-number, area-lt, half-number, both-left, both-right}
 use Rattle.sizes.specs.Sizes.{mostAreas, bookBytes}
-use Rattle.book.specs.Book.{areaIn, areasIn, bytesOfAll, headSound, areasSound, sound}
+use Rattle.book.specs.Book.{areaIn, areasIn, bytesOfAll, siouSound, headSound, areasSound, sound}
 use Rattle.book.specs.declared.Book.{Book}
 
 -- ---- areas in a row
@@ -56,12 +56,39 @@ pub data Areas : List ℕ → Type 0 where
   none : Areas []
   more : {a : ℕ} {l : List ℕ} → isArea a ≡ true → Areas l → Areas (a ∷ l)
 
--- a sound head says an AIOU of 15 at most, and at most so many areas
-pub head-parts : (book : Book) → headSound book ≡ true → (book .«aiou_plus_one» ≤ 16) × (book .count ≤ mostAreas)
+-- a sound head says an AIOU of 15 at most, at most so many areas, and a sound SIOU
+pub head-parts : (book : Book) → headSound book ≡ true → (book .«aiou_plus_one» ≤ 16) × (book .count ≤ mostAreas) × (siouSound (book .«aiou_plus_one») (book .«siou_plus_one») ≡ true)
 unfolding headSound
 head-parts book e =
-    let r : (leb (book .«aiou_plus_one») 16 && leb (book .count) mostAreas) ≡ true = both-right (Bool·beq (eqb (book .«aiou_plus_one») 0) (eqb (book .count) 0)) _ e in
-    (leb-true _ _ (both-left (leb (book .«aiou_plus_one») 16) (leb (book .count) mostAreas) r), leb-true _ _ (both-right (leb (book .«aiou_plus_one») 16) (leb (book .count) mostAreas) r))
+    let u : (siouSound (book .«aiou_plus_one») (book .«siou_plus_one») && (leb (book .«aiou_plus_one») 16 && leb (book .count) mostAreas)) ≡ true
+    = both-right (Bool·beq (eqb (book .«aiou_plus_one») 0) (eqb (book .count) 0)) _ e in
+    let r : (leb (book .«aiou_plus_one») 16 && leb (book .count) mostAreas) ≡ true = both-right (siouSound (book .«aiou_plus_one») (book .«siou_plus_one»)) _ u in (
+      leb-true _ _ (both-left (leb (book .«aiou_plus_one») 16) (leb (book .count) mostAreas) r),
+      leb-true _ _ (both-right (leb (book .«aiou_plus_one») 16) (leb (book .count) mostAreas) r),
+      both-left (siouSound (book .«aiou_plus_one») (book .«siou_plus_one»)) _ u,
+    )
+
+-- a sound SIOU is 511 at most, or unknown; it is unknown where there is no AIOU
+pub siou-most : (aiou-plus-one siou-plus-one : ℕ) → siouSound aiou-plus-one siou-plus-one ≡ true → siou-plus-one ≤ 512
+unfolding siouSound
+siou-most aiou-plus-one siou-plus-one e = leb-true siou-plus-one 512 (both-left (leb siou-plus-one 512) _ e)
+
+pub siou-none : (siou-plus-one : ℕ) → siouSound 0 siou-plus-one ≡ true → siou-plus-one ≡ 0
+unfolding siouSound
+siou-none siou-plus-one e = eqb-true siou-plus-one 0 (both-right (leb siou-plus-one 512) _ e)
+
+-- with an AIOU every SIOU up to 511 is sound, and with or without one an unknown one
+pub siou-some : (aiou siou-plus-one : ℕ) → siou-plus-one ≤ 512 → siouSound (suc aiou) siou-plus-one ≡ true
+unfolding siouSound
+siou-some aiou siou-plus-one h = rw (le-leb siou-plus-one 512 h, ne-eqb (suc aiou) 0 (λ q. omega arith))
+
+pub siou-unknown : (aiou-plus-one : ℕ) → siouSound aiou-plus-one 0 ≡ true
+unfolding siouSound
+siou-unknown aiou-plus-one = go (eqb aiou-plus-one 0)
+  where
+    go : (b : Bool) → (true && (not b || true)) ≡ true
+    go true = refl
+    go false = refl
 
 -- what it is that bytes are sound, area by area
 module _ (n least : ℕ) (s : List ℕ) (e : areasSound (suc n) least s ≡ true) where

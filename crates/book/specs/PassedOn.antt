@@ -65,8 +65,8 @@ unfolding outcome
 outcome-placeless book s payload m codes used e =
     first (ltb (length s) bookBytes) (refused (nowhere refusal.Room)) _ refl (
     first (not (sound book s)) (refused (nowhere refusal.State)) _ refl (
-    subst (λ o. Placeless (reading o (λ m. takeAll (areasOf (m .blocks)) (before book s (m .aiou))) (λ why. refused why))) (sym e)
-    (all-placeless (areasOf (m .blocks)) (before book s (m .aiou)))))
+    subst (λ o. Placeless (reading o (λ m. takeAll (areasOf (m .blocks)) (before book s (m .aiou) (m .siou))) (λ why. refused why))) (sym e)
+    (all-placeless (areasOf (m .blocks)) (before book s (m .aiou) (m .siou)))))
 
 -- ---- so a place is the payload's
 
@@ -74,15 +74,15 @@ module _ (why : answer.Fault) (sf at : ℕ) (p : why .place ≡ At sf at) where
   no-place : Nowhere ≡ why .place → ⊥
   no-place e = let z : Nowhere ≡ At sf at = e ∙ p in let y : _≡_ {A = ℕ} 0 1 = cc in omega arith
 
-  not-placeless : (o : Outcome) (aiou : ℕ) → Placeless o → answerOf o aiou ≡ Refused why → ⊥
-  not-placeless (taken l) aiou h e = let z : _≡_ {A = ℕ} 0 1 = cc in omega arith
-  not-placeless (refused w) aiou h e = let z : w ≡ why = cc in no-place (sym h ∙ ap (λ (x : answer.Fault). x .place) z)
+  not-placeless : (o : Outcome) (aiou siou : ℕ) → Placeless o → answerOf o aiou siou ≡ Refused why → ⊥
+  not-placeless (taken l) aiou siou h e = let z : _≡_ {A = ℕ} 0 1 = cc in omega arith
+  not-placeless (refused w) aiou siou h e = let z : w ≡ why = cc in no-place (sym h ∙ ap (λ (x : answer.Fault). x .place) z)
 
-  the-payload's : (a b : Bool) (w : answer.Fault) (aiou : ℕ)
-      → answerOf (stop a (refused (nowhere refusal.Room)) (stop b (refused (nowhere refusal.State)) (refused w))) aiou ≡ Refused why → w ≡ why
-  the-payload's true b w aiou e = absurd (not-placeless (refused (nowhere refusal.Room)) aiou refl e)
-  the-payload's false true w aiou e = absurd (not-placeless (refused (nowhere refusal.State)) aiou refl e)
-  the-payload's false false w aiou e = cc
+  the-payload's : (a b : Bool) (w : answer.Fault) (aiou siou : ℕ)
+      → answerOf (stop a (refused (nowhere refusal.Room)) (stop b (refused (nowhere refusal.State)) (refused w))) aiou siou ≡ Refused why → w ≡ why
+  the-payload's true b w aiou siou e = absurd (not-placeless (refused (nowhere refusal.Room)) aiou siou refl e)
+  the-payload's false true w aiou siou e = absurd (not-placeless (refused (nowhere refusal.State)) aiou siou refl e)
+  the-payload's false false w aiou siou e = cc
 
   pub passed-on : (book : Book) (s payload : List ℕ) → takenOf book s payload ≡ Refused why → judged 2 0 payload ≡ reader.Refused why
   unfolding judged outcome
@@ -91,11 +91,11 @@ module _ (why : answer.Fault) (sf at : ℕ) (p : why .place ≡ At sf at) where
       go : (o : layout.Outcome Message) → judging 2 0 payload ≡ o → takenOf book s payload ≡ Refused why → readAnswerBy (judging 2 0 payload) ≡ reader.Refused why
       go (layout.accepted v codes used) k e =
           let m = gad-only payload v codes used k in
-          absurd (not-placeless (outcome book s payload) _ (outcome-placeless book s payload (m .0) codes used (k ∙ ap (λ x. layout.accepted x codes used) (m .1))) e)
+          absurd (not-placeless (outcome book s payload) _ _ (outcome-placeless book s payload (m .0) codes used (k ∙ ap (λ x. layout.accepted x codes used) (m .1))) e)
       go (layout.refused w) k e =
-          ap readAnswerBy k ∙ ap reader.Refused (the-payload's (ltb (length s) bookBytes) (not (sound book s)) w 0 (ap answered (sym k) ∙ e))
+          ap readAnswerBy k ∙ ap reader.Refused (the-payload's (ltb (length s) bookBytes) (not (sound book s)) w 0 0 (ap answered (sym k) ∙ e))
         where
           answered : layout.Outcome Message → Taken
           answered o =
               answerOf (stop (ltb (length s) bookBytes) (refused (nowhere refusal.Room)) (stop (not (sound book s)) (refused (nowhere refusal.State))
-              (reading o (λ m. takeAll (areasOf (m .blocks)) (before book s (m .aiou))) (λ why. refused why)))) (reading o (λ m. m .aiou) (λ why. 0))
+              (reading o (λ m. takeAll (areasOf (m .blocks)) (before book s (m .aiou) (m .siou))) (λ why. refused why)))) (reading o (λ m. m .aiou) (λ why. 0)) (reading o (λ m. m .siou) (λ why. 0))

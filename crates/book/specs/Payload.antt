@@ -30,7 +30,10 @@ use Rattle.book.specs.Take.{areaOf, areasOf, Outcome, takeAll, before}
 use Rattle.book.specs.TakeLaws.{InRange}
 use Rattle.book.specs.declared.Book.{Book}
 
--- SF068 AIOU; SF030, which means code plus one; and so many blocks
+-- SF005 SIOU; SF068 AIOU; SF030, which means code plus one; and so many blocks
+abbrev pub siouOf : List ℕ → ℕ
+siouOf payload = bits.field payload 0 9
+
 abbrev pub aiouOf : List ℕ → ℕ
 aiouOf payload = bits.field payload 9 4
 
@@ -57,11 +60,11 @@ blocksOf payload = blocksFrom (blockCount payload) 0 payload
 
 -- the areas held after a payload that is accepted, or the first refusal of a block
 abbrev pub takeBits : Book → List ℕ → List ℕ → Outcome
-takeBits book s payload = takeAll (blocksOf payload) (before book s (aiouOf payload))
+takeBits book s payload = takeAll (blocksOf payload) (before book s (aiouOf payload) (siouOf payload))
 
 -- the GAD m stands at those bits, and all of them are there
 pub record AtBits (payload : List ℕ) (m : Gad) : Type 0 where
-  pub siou : m .siou ≡ bits.field payload 0 9
+  pub siou : m .siou ≡ siouOf payload
   pub aiou : m .aiou ≡ aiouOf payload
   pub areas : areasOf (m .blocks) ≡ blocksOf payload
   pub in-range : InRange (blocksOf payload)
@@ -173,9 +176,9 @@ gad-accepted f payload v codes used e =
     let aiou = past payload v (siou .1) in
     let reserved = past payload v (aiou .1) in
     let count = past payload v (reserved .1) in
-    let b = blocks-stand payload v (λ blocks. done (f (record { siou = bits.field payload 0 9; aiou = aiouOf payload; blocks = blocks }))) (blockCount payload) 0 (count .1) in
-    let end : accepted (f (record { siou = bits.field payload 0 9; aiou = aiouOf payload; blocks = b .codes })) [] 0 ≡ accepted v (b .rest .codes) (b .rest .used) = b .rest .reads in (
-      record { siou = bits.field payload 0 9; aiou = aiouOf payload; blocks = b .codes },
+    let b = blocks-stand payload v (λ blocks. done (f (record { siou = siouOf payload; aiou = aiouOf payload; blocks = blocks }))) (blockCount payload) 0 (count .1) in
+    let end : accepted (f (record { siou = siouOf payload; aiou = aiouOf payload; blocks = b .codes })) [] 0 ≡ accepted v (b .rest .codes) (b .rest .used) = b .rest .reads in (
+      record { siou = siouOf payload; aiou = aiouOf payload; blocks = b .codes },
       cc,
       record { siou = refl; aiou = refl; areas = b .areas; in-range = b .range; there = omega (arith, b .rest .inside) },
     )

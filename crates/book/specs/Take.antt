@@ -1,5 +1,5 @@
--- Definitions to believe: what a GAD does to the book (document 01, "Book and run").
-use mathlib.Core.Bool.{cond, not}
+-- Definitions to believe: what a GAD does to the book (document 01, "Book and run"; document 02, request 5, "One solution update per book").
+use mathlib.Core.Bool.{Bool, cond, not, _&&_}
 use mathlib.Core.List.{List, [], _∷_, _++_, map}
 use Prim.Native.Nat.{ℕ, _+_, _*_, _^_}
 use lib.Dec.{ltb, eqb}
@@ -57,7 +57,7 @@ pub data Outcome : Type 0 where
   taken : List ℕ → Outcome
   refused : answer.Fault → Outcome
 
--- "An identical repeat changes nothing." CONFLICT: "same area ID and AIOU, other definition". BOOK_FULL: "a 33rd area ID".
+-- "An identical repeat changes nothing." CONFLICT: "same area ID and AIOU, other definition", and the same SIOU, since another begins a new book. BOOK_FULL: "a 33rd area ID".
 abbrev pub placed : ℕ → List ℕ → Found → Outcome
 placed a l (Area b) = cond (eqb a b) (taken l) (refused (nowhere Conflict))
 placed a l Nothing = cond (ltb (length l) mostAreas) (taken (insert a l)) (refused (nowhere BookFull))
@@ -75,28 +75,32 @@ unfoldable pub takeAll : List ℕ → List ℕ → Outcome
 takeAll [] l = taken l
 takeAll (a ∷ blocks) l = andThen (takeBlock a l) (λ l. takeAll blocks l)
 
--- "A GAD with another AIOU begins a new book; with the same one it adds." With no book, every AIOU is another.
-unfoldable pub before : Book → List ℕ → ℕ → List ℕ
-before book s aiou = cond (eqb (book .«aiou_plus_one») (aiou + 1)) (areasIn (book .count) s) []
+-- whether a book is one of this AIOU and this SIOU, each said plus one. `noBook` has neither; an unknown SIOU, which a book says as 0, equals no SIOU.
+unfoldable pub isUnder : Book → (aiou-plus-one siou-plus-one : ℕ) → Bool
+isUnder book aiou-plus-one siou-plus-one = eqb (book .«aiou_plus_one») aiou-plus-one && eqb (book .«siou_plus_one») siou-plus-one
+
+-- "A GAD with another AIOU begins a new book; with the same one it adds." "A GAD with another SIOU begins a new book, as another AIOU does." (document 02, request 5) With no book, every AIOU is another.
+unfoldable pub before : Book → List ℕ → (aiou siou : ℕ) → List ℕ
+before book s aiou siou = cond (isUnder book (aiou + 1) (siou + 1)) (areasIn (book .count) s) []
 
 -- "Order: ROOM, STATE, .. payload refusals, .. for GAD the book's refusals"; a payload's own are the reader's, LENGTH and then the first fault in reading order
 unfoldable pub outcome : Book → List ℕ → List ℕ → Outcome
 outcome book s payload =
     stop (ltb (length s) bookBytes) (refused (nowhere Room))
     (stop (not (sound book s)) (refused (nowhere State))
-    (reading (judging 2 0 payload) (λ m. takeAll (areasOf (m .blocks)) (before book s (m .aiou))) (λ why. refused why)))
+    (reading (judging 2 0 payload) (λ m. takeAll (areasOf (m .blocks)) (before book s (m .aiou) (m .siou))) (λ why. refused why)))
 
--- what `take` answers, and what it leaves of the lent bytes: "only bytes of areas held are written", and a refusal changes nothing
-abbrev pub answerOf : Outcome → ℕ → Taken
-answerOf (taken l) aiou = Holds (bookOf (aiou + 1) (length l))
-answerOf (refused r) aiou = Refused r
+-- what `take` answers, "The book now also holds the SIOU of the GAD that filled it.", and what it leaves of the lent bytes: "only bytes of areas held are written", and a refusal changes nothing
+abbrev pub answerOf : Outcome → (aiou siou : ℕ) → Taken
+answerOf (taken l) aiou siou = Holds (bookOf (aiou + 1) (siou + 1) (length l))
+answerOf (refused r) aiou siou = Refused r
 
 abbrev pub leftBy : Outcome → List ℕ → List ℕ
 leftBy (taken l) s = bytesOfAll l ++ drop (6 * length l) s
 leftBy (refused r) s = s
 
 abbrev pub takenOf : Book → List ℕ → List ℕ → Taken
-takenOf book s payload = answerOf (outcome book s payload) (reading (judging 2 0 payload) (λ m. m .aiou) (λ why. 0))
+takenOf book s payload = answerOf (outcome book s payload) (reading (judging 2 0 payload) (λ m. m .aiou) (λ why. 0)) (reading (judging 2 0 payload) (λ m. m .siou) (λ why. 0))
 
 abbrev pub bytesAfter : Book → List ℕ → List ℕ → List ℕ
 bytesAfter book s payload = leftBy (outcome book s payload) s

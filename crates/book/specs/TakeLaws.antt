@@ -6,16 +6,36 @@ use Prim.Native.Nat.{ℕ, zero, suc, _^_, _≤_, _<_}
 use native.Mathlib.Omega.{arith}
 use lib.Dec.{ltb, eqb}
 use lib.ListN.{length, getD}
-use borrow.Author.Tests.{lt-ltb, ltb-true, ltb-false, eq-eqb, eqb-true, eqb-false}
+use borrow.Author.Tests.{lt-ltb, ltb-true, ltb-false, eq-eqb, eqb-true, eqb-false, ne-eqb}
 use Rattle.answer.specs.Stop.{stop}
 use Rattle.answer.specs.Place.{nowhere}
 use Rattle.answer.specs.declared.Refusal.the-variants.{AreaOff, Conflict, BookFull}
 use Rattle.area.specs.Area.{sf031, inRange, areaOff, isArea}
 use Rattle.sizes.specs.Sizes.{mostAreas}
-use Rattle.book.specs.Take.{lookup, insert, Outcome, taken, refused, placed, takeBlock, andThen, takeAll}
+use Rattle.book.specs.Take.{lookup, insert, Outcome, taken, refused, placed, takeBlock, andThen, takeAll, isUnder}
 use Rattle.book.specs.Laws.{Ascending, Areas}
+use Rattle.book.specs.declared.Book.{Book}
 use Rattle.book.specs.declared.Found.{Found}
 use Rattle.book.specs.declared.Found.the-variants.{Area, Nothing}
+
+-- ---- of one AIOU and SIOU
+
+module _ (book : Book) (aiou siou : ℕ) where
+  pub is-under : book .«aiou_plus_one» ≡ aiou → book .«siou_plus_one» ≡ siou → isUnder book aiou siou ≡ true
+  unfolding isUnder
+  is-under q u = ap₂ (λ x y. x && y) (eq-eqb (book .«aiou_plus_one») aiou q) (eq-eqb (book .«siou_plus_one») siou u)
+
+  pub other-aiou : (book .«aiou_plus_one» ≡ aiou → ⊥) → isUnder book aiou siou ≡ false
+  unfolding isUnder
+  other-aiou n = ap (λ x. x && eqb (book .«siou_plus_one») siou) (ne-eqb (book .«aiou_plus_one») aiou n)
+
+  pub other-siou : (book .«siou_plus_one» ≡ siou → ⊥) → isUnder book aiou siou ≡ false
+  unfolding isUnder
+  other-siou n = ap (λ y. eqb (book .«aiou_plus_one») aiou && y) (ne-eqb (book .«siou_plus_one») siou n) ∙ go (eqb (book .«aiou_plus_one») aiou)
+    where
+      go : (x : Bool) → (x && false) ≡ false
+      go true = refl
+      go false = refl
 
 -- ---- looking up
 

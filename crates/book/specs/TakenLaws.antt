@@ -15,42 +15,42 @@ use Rattle.gad.specs.Gad.{Gad}
 use Rattle.message.specs.Messages.{Message, gadMessage}
 use Rattle.sheet.specs.Sheet.{judging}
 use Rattle.sizes.specs.Sizes.{mostAreas, bookBytes}
-use Rattle.book.specs.Book.{bookOf, areasIn, bytesOfAll, headSound, sound}
-use Rattle.book.specs.Laws.{Ascending, Areas, length-areas, head-parts, sound-head, sound-room, sound-areas, sound-ascending, sound-each, length-bytes, sound-bytes}
-use Rattle.book.specs.Take.{reading, areasOf, Outcome, taken, refused, takeAll, before, outcome, answerOf, leftBy, takenOf, bytesAfter}
+use Rattle.book.specs.Book.{bookOf, areasIn, bytesOfAll, siouSound, headSound, sound}
+use Rattle.book.specs.Laws.{Ascending, Areas, length-areas, head-parts, sound-head, sound-room, sound-areas, sound-ascending, sound-each, length-bytes, sound-bytes, siou-some}
+use Rattle.book.specs.Take.{reading, areasOf, Outcome, taken, refused, takeAll, isUnder, before, outcome, answerOf, leftBy, takenOf, bytesAfter}
 use Rattle.book.specs.Payload.{blockAt, blocksFrom, AtBits, gad-only, gad-at-bits}
 use Rattle.book.specs.TakeLaws.{TookAll, took-all, Good, InRange, stays-good, some-area}
 use Rattle.book.specs.declared.Book.{Book}
 use Rattle.book.specs.declared.Taken.the-variants.{Holds, Refused}
 
 module _ (book : Book) (s payload : List ℕ) (w : sound book s ≡ true) where
-  outcome-sound : outcome book s payload ≡ reading (judging 2 0 payload) (λ m. takeAll (areasOf (m .blocks)) (before book s (m .aiou))) (λ why. refused why)
+  outcome-sound : outcome book s payload ≡ reading (judging 2 0 payload) (λ m. takeAll (areasOf (m .blocks)) (before book s (m .aiou) (m .siou))) (λ why. refused why)
   unfolding outcome
   outcome-sound = rw (le-ltb (length s) bookBytes (sound-room book s w), w)
 
   -- the payload's refusal,
   module _ (why : answer.Fault) (e : judging 2 0 payload ≡ layout.refused why) where
     pub outcome-refused : outcome book s payload ≡ refused why
-    outcome-refused = outcome-sound ∙ ap (λ o. reading o (λ m. takeAll (areasOf (m .blocks)) (before book s (m .aiou))) (λ why. refused why)) e
+    outcome-refused = outcome-sound ∙ ap (λ o. reading o (λ m. takeAll (areasOf (m .blocks)) (before book s (m .aiou) (m .siou))) (λ why. refused why)) e
 
     pub answer-refused : takenOf book s payload ≡ Refused why
-    answer-refused = ap (λ o. answerOf o (reading (judging 2 0 payload) (λ m. m .aiou) (λ why. 0))) outcome-refused
+    answer-refused = ap (λ o. answerOf o (reading (judging 2 0 payload) (λ m. m .aiou) (λ why. 0)) (reading (judging 2 0 payload) (λ m. m .siou) (λ why. 0))) outcome-refused
 
   -- or its blocks into the book
   module _ (m : Gad) (codes : List ℕ) (used : ℕ) (e : judging 2 0 payload ≡ layout.accepted (gadMessage m) codes used) where
-    pub outcome-read : outcome book s payload ≡ takeAll (areasOf (m .blocks)) (before book s (m .aiou))
-    outcome-read = outcome-sound ∙ ap (λ o. reading o (λ m. takeAll (areasOf (m .blocks)) (before book s (m .aiou))) (λ why. refused why)) e
+    pub outcome-read : outcome book s payload ≡ takeAll (areasOf (m .blocks)) (before book s (m .aiou) (m .siou))
+    outcome-read = outcome-sound ∙ ap (λ o. reading o (λ m. takeAll (areasOf (m .blocks)) (before book s (m .aiou) (m .siou))) (λ why. refused why)) e
 
-    pub answer-read : takenOf book s payload ≡ answerOf (takeAll (areasOf (m .blocks)) (before book s (m .aiou))) (m .aiou)
-    answer-read = ap₂ answerOf outcome-read (ap (λ o. reading o (λ m. m .aiou) (λ why. 0)) e)
+    pub answer-read : takenOf book s payload ≡ answerOf (takeAll (areasOf (m .blocks)) (before book s (m .aiou) (m .siou))) (m .aiou) (m .siou)
+    answer-read = ap₂ (λ o r. answerOf o (reading r (λ m. m .aiou) (λ why. 0)) (reading r (λ m. m .siou) (λ why. 0))) outcome-read e
 
 -- ---- the areas before and afterwards
 
 module _ (book : Book) (s : List ℕ) (w : sound book s ≡ true) where
   -- the areas that a GAD adds to
-  good-before : (aiou : ℕ) → Good (before book s aiou)
+  good-before : (aiou siou : ℕ) → Good (before book s aiou siou)
   unfolding before
-  good-before aiou = go (eqb (book .«aiou_plus_one») (aiou + 1))
+  good-before aiou siou = go (isUnder book (aiou + 1) (siou + 1))
     where
       go : (b : Bool) → Good (cond b (areasIn (book .count) s) [])
       go true =
@@ -61,11 +61,11 @@ module _ (book : Book) (s : List ℕ) (w : sound book s ≡ true) where
           }
       go false = record { ascending = Ascending.none; few = omega arith; areas = Areas.none }
 
--- good areas, with an AIOU of 15 at most, make a sound book
-pub made-sound : (n s : List ℕ) (aiou : ℕ) → bookBytes ≤ length s → 1 ≤ length n → aiou < 2 ^ 4 → Good n
-    → sound (bookOf (aiou + 1) (length n)) (bytesOfAll n ++ drop (6 * length n) s) ≡ true
+-- good areas, with an AIOU of 15 and a SIOU of 511 at most, make a sound book
+pub made-sound : (n s : List ℕ) (aiou siou : ℕ) → bookBytes ≤ length s → 1 ≤ length n → aiou < 2 ^ 4 → siou < 2 ^ 9 → Good n
+    → sound (bookOf (aiou + 1) (siou + 1) (length n)) (bytesOfAll n ++ drop (6 * length n) s) ≡ true
 unfolding sound headSound
-made-sound n s aiou room one small g =
+made-sound n s aiou siou room one small low g =
     let long : length (bytesOfAll n ++ drop (6 * length n) s) ≡ length s
     = length-append (bytesOfAll n) (drop (6 * length n) s) ∙ omega (arith, length-bytes n, length-drop (6 * length n) s, g .few) in
     let z₀ : leb bookBytes (length (bytesOfAll n ++ drop (6 * length n) s)) ≡ true = le-leb bookBytes (length (bytesOfAll n ++ drop (6 * length n) s)) (omega arith) in
@@ -73,7 +73,8 @@ made-sound n s aiou room one small g =
     let z₂ : eqb (length n) 0 ≡ false = ne-eqb (length n) 0 (λ q. omega arith) in
     let z₃ : leb (aiou + 1) 16 ≡ true = le-leb (aiou + 1) 16 (omega arith) in
     let z₄ : leb (length n) mostAreas ≡ true = le-leb (length n) mostAreas (g .few) in
-    rw (z₀, z₁, z₂, z₃, z₄) (sound-bytes n (drop (6 * length n) s) 0 (g .ascending) (g .areas))
+    let z₅ : siouSound (aiou + 1) (siou + 1) ≡ true = subst (λ k. siouSound k (siou + 1) ≡ true) {y = aiou + 1} (omega arith) (siou-some aiou (siou + 1) (omega arith)) in
+    rw (z₀, z₁, z₂, z₃, z₄, z₅) (sound-bytes n (drop (6 * length n) s) 0 (g .ascending) (g .areas))
 
 -- a payload that is taken says a GAD
 pub record Says (payload : List ℕ) : Type 0 where
@@ -102,18 +103,18 @@ module _ (book : Book) (s payload : List ℕ) (after : Book) (w : sound book s �
   -- the areas held afterwards
   pub record Left : Type 0 where
     pub areas : List ℕ
-    pub is : takeAll (areasOf (m .blocks)) (before book s (m .aiou)) ≡ taken areas
-    pub head : after ≡ bookOf (m .aiou + 1) (length areas)
+    pub is : takeAll (areasOf (m .blocks)) (before book s (m .aiou) (m .siou)) ≡ taken areas
+    pub head : after ≡ bookOf (m .aiou + 1) (m .siou + 1) (length areas)
 
   pub left : Left
-  left = go (takeAll (areasOf (m .blocks)) (before book s (m .aiou))) refl (sym (answer-read book s payload w m codes used r) ∙ e)
+  left = go (takeAll (areasOf (m .blocks)) (before book s (m .aiou) (m .siou))) refl (sym (answer-read book s payload w m codes used r) ∙ e)
     where
-      go : (o : Outcome) → takeAll (areasOf (m .blocks)) (before book s (m .aiou)) ≡ o → answerOf o (m .aiou) ≡ Holds after → Left
+      go : (o : Outcome) → takeAll (areasOf (m .blocks)) (before book s (m .aiou) (m .siou)) ≡ o → answerOf o (m .aiou) (m .siou) ≡ Holds after → Left
       go (taken l) q e = record { areas = l; is = q; head = cc }
       go (refused r) q e = let z : _≡_ {A = ℕ} 0 1 = cc in absurd (omega arith)
 
-  pub all-taken : TookAll (areasOf (m .blocks)) (before book s (m .aiou)) (left .areas)
-  all-taken = took-all (areasOf (m .blocks)) (before book s (m .aiou)) (left .areas) (left .is)
+  pub all-taken : TookAll (areasOf (m .blocks)) (before book s (m .aiou) (m .siou)) (left .areas)
+  all-taken = took-all (areasOf (m .blocks)) (before book s (m .aiou) (m .siou)) (left .areas) (left .is)
 
   stands : AtBits payload m
   stands = gad-at-bits payload m codes used r
@@ -121,10 +122,10 @@ module _ (book : Book) (s payload : List ℕ) (after : Book) (w : sound book s �
   -- a GAD has a block
   one-after : 1 ≤ length (left .areas)
   unfolding blocksFrom
-  one-after = some-area (blockAt payload 0) (blocksFrom (field payload 14 5) 1 payload) (before book s (m .aiou)) (left .areas) (subst (λ l. TookAll l (before book s (m .aiou)) (left .areas)) (stands .areas) all-taken)
+  one-after = some-area (blockAt payload 0) (blocksFrom (field payload 14 5) 1 payload) (before book s (m .aiou) (m .siou)) (left .areas) (subst (λ l. TookAll l (before book s (m .aiou) (m .siou)) (left .areas)) (stands .areas) all-taken)
 
   pub good-after : Good (left .areas)
-  good-after = stays-good (areasOf (m .blocks)) (before book s (m .aiou)) (left .areas) (subst (λ l. InRange l) (sym (stands .areas)) (stands .in-range)) all-taken (good-before book s w (m .aiou))
+  good-after = stays-good (areasOf (m .blocks)) (before book s (m .aiou) (m .siou)) (left .areas) (subst (λ l. InRange l) (sym (stands .areas)) (stands .in-range)) all-taken (good-before book s w (m .aiou) (m .siou))
 
   pub bytes-are : bytesAfter book s payload ≡ bytesOfAll (left .areas) ++ drop (6 * length (left .areas)) s
   bytes-are = ap (λ o. leftBy o s) (outcome-read book s payload w m codes used r ∙ left .is)
@@ -132,4 +133,5 @@ module _ (book : Book) (s payload : List ℕ) (after : Book) (w : sound book s �
   pub sound-after : sound after (bytesAfter book s payload) ≡ true
   sound-after =
       ap₂ sound (left .head) bytes-are
-      ∙ made-sound (left .areas) s (m .aiou) (sound-room book s w) one-after (subst (λ a. a < 2 ^ 4) (sym (stands .aiou)) (field-lt payload 9 4)) good-after
+      ∙ made-sound (left .areas) s (m .aiou) (m .siou) (sound-room book s w) one-after (subst (λ a. a < 2 ^ 4) (sym (stands .aiou)) (field-lt payload 9 4))
+      (subst (λ u. u < 2 ^ 9) (sym (stands .siou)) (field-lt payload 0 9)) good-after

@@ -1,16 +1,15 @@
-// The area book: one AIOU and up to 32 areas, ascending by ID, in lent bytes (document 01, "Book and run").
+// The area book: one AIOU, one SIOU and up to 32 areas, ascending by ID, in lent bytes (document 01, "Book and run"; document 02, request 5).
 ghost use mathlib.Core.Path.{_≡_};
 ghost use mathlib.Core.Bool.{true, cond};
 ghost use mathlib.Core.List.{_++_};
 ghost use Prim.Native.Nat.{_+_, _*_, _^_, _<_, _≤_};
-ghost use lib.Dec.{eqb};
 ghost use lib.ListN.{length, getD, drop};
 ghost use Rattle.sizes.specs.Sizes.{mostAreas, bookBytes};
 ghost use Rattle.bits.specs.Part.{PartOf};
 ghost use Rattle.area.specs.Area.{sf031, numberIn};
-ghost use Rattle.book.specs.Book.{bookOf, noBook, areasIn, bytesOfAll, headSound, areasSound, sound, placeOf, found, foundAt};
-ghost use Rattle.book.specs.Take.{lookup, looked, insert, taken, takeAll, answerOf, leftBy, takenOf, bytesAfter, numberOfTaken};
-ghost use Rattle.book.specs.Payload.{mostBlocks, aiouOf, blockCount, blockStart, blockAt, blocksFrom, blocksOf, takeBits};
+ghost use Rattle.book.specs.Book.{bookOf, noBook, areasIn, bytesOfAll, siouSound, headSound, areasSound, sound, placeOf, found, foundAt};
+ghost use Rattle.book.specs.Take.{lookup, looked, insert, taken, takeAll, isUnder, answerOf, leftBy, takenOf, bytesAfter, numberOfTaken};
+ghost use Rattle.book.specs.Payload.{mostBlocks, siouOf, aiouOf, blockCount, blockStart, blockAt, blocksFrom, blocksOf, takeBits};
 ghost use Rattle.book.specs.Laws.{Ascending};
 ghost use Rattle.book.specs.TakeLaws.{orElse};
 ghost use Rattle.book.specs.Search.{Below, Passed, Reached};
@@ -21,9 +20,11 @@ use answer::Refusal;
 use area::AreaId;
 use sheet::ReadAnswer;
 
-// What is known of a book besides its bytes: AIOU + 1, or 0 where it has no AIOU, and how many areas it has.
+// What is known of a book besides its bytes: AIOU + 1, or 0 where it has no AIOU; SIOU + 1, or 0 where that is unknown; and how many areas
+// it has.
 pub struct Book {
     pub aiou_plus_one: u8,
+    pub siou_plus_one: u16,
     pub count: usize,
 }
 
@@ -45,12 +46,13 @@ pub enum Taken {
     Refused(Fault),
 }
 
-// The book with this AIOU + 1 and so many areas, and the one without areas. Every book is made by one of the two.
-pub fn book_of(aiou_plus_one: u8, count: usize) -> Book
-    ensures { λ r. ⌜ r ≡ bookOf «aiou_plus_one» count ⌝ }
+// The book with this AIOU + 1, this SIOU + 1 and so many areas, and the one without areas. Every book is made by one of the two.
+pub fn book_of(aiou_plus_one: u8, siou_plus_one: u16, count: usize) -> Book
+    ensures { λ r. ⌜ r ≡ bookOf «aiou_plus_one» «siou_plus_one» count ⌝ }
 {
     Book {
         aiou_plus_one: aiou_plus_one,
+        siou_plus_one: siou_plus_one,
         count: count,
     }
 }
@@ -58,7 +60,7 @@ pub fn book_of(aiou_plus_one: u8, count: usize) -> Book
 pub fn no_book() -> Book
     ensures { λ r. ⌜ r ≡ noBook ⌝ }
 {
-    book_of(0, 0)
+    book_of(0, 0, 0)
 }
 
 fn wide(x: u8) -> usize
@@ -67,12 +69,34 @@ fn wide(x: u8) -> usize
     x as usize
 }
 
-// Whether AIOU and count are those of a sound book.
+fn wide_siou(x: u16) -> u64
+    ensures { λ r. ⌜ r ≡ x ⌝ }
+{
+    x as u64
+}
+
+// Whether SIOU + 1 is that of a sound book with this AIOU + 1.
+pub fn siou_is_sound(aiou_plus_one: u8, siou_plus_one: u64) -> bool
+    ensures { λ r. ⌜ r ≡ siouSound «aiou_plus_one» «siou_plus_one» ⌝ }
+{
+    if 512 < siou_plus_one {
+        return false;
+    }
+    if aiou_plus_one == 0 {
+        return siou_plus_one == 0;
+    }
+    true
+}
+
+// Whether AIOU, SIOU and count are those of a sound book.
 pub fn head_is_sound(book: Book) -> bool
     ensures { λ r. ⌜ r ≡ headSound book ⌝ }
 {
     let aiou = book.aiou_plus_one;
     let count = book.count;
+    if !siou_is_sound(aiou, wide_siou(book.siou_plus_one)) {
+        return false;
+    }
     if aiou == 0 {
         return count == 0;
     }
@@ -200,6 +224,21 @@ fn aiou_plus_one(payload: &[u8]) -> u8
     ensures { λ r. ⌜ r ≡ aiouOf (now (payload .entry)) + 1 ⌝ }
 {
     octet(bits::get(payload, 9, 4) + 1)
+}
+
+fn two_octets(x: u64) -> u16
+    requires { ⌜ x < 65536 ⌝ }
+    ensures { λ r. ⌜ r ≡ x ⌝ }
+{
+    x as u16
+}
+
+// SIOU + 1 of it.
+fn siou_plus_one(payload: &[u8]) -> u16
+    requires { ⌜ 3 ≤ length (now payload) ⌝ }
+    ensures { λ r. ⌜ r ≡ siouOf (now (payload .entry)) + 1 ⌝ }
+{
+    two_octets(bits::get(payload, 0, 9) + 1)
 }
 
 // SF030 means code plus one.
@@ -467,32 +506,36 @@ fn insert_all(bytes: &mut [u8], count: usize, payload: &[u8])
     }
 }
 
-// The areas that a GAD adds to: the book's, if the AIOU is the book's; else none, for a new book begins.
-fn count_under(book: Book, aiou: u8) -> usize
-    ensures { λ r. ⌜ r ≡ cond (eqb (book .«aiou_plus_one») aiou) (book .count) 0 ⌝ }
+// The areas that a GAD adds to: the book's, if AIOU and SIOU are the book's; else none, for a new book begins.
+fn count_under(book: Book, aiou: u8, siou: u16) -> usize
+    ensures { λ r. ⌜ r ≡ cond (isUnder book aiou siou) (book .count) 0 ⌝ }
 {
-    if book.aiou_plus_one == aiou {
-        return book.count;
+    if book.aiou_plus_one != aiou {
+        return 0;
     }
-    0
+    if book.siou_plus_one != siou {
+        return 0;
+    }
+    book.count
 }
 
 // The blocks of a payload that reads as a GAD, taken into a sound book.
 fn take_blocks(book: Book, bytes: &mut [u8], payload: &[u8]) -> Taken
     requires { ⌜ (bookBytes ≤ length (now bytes)) × (sound book (now bytes) ≡ true) × (blockStart (blockCount (now payload)) ≤ 8 * length (now payload)) ⌝ }
-    ensures { λ r. ⌜ r ≡ answerOf (takeBits book (now (bytes .entry)) (now (payload .entry))) (aiouOf (now (payload .entry))) ⌝ }
+    ensures { λ r. ⌜ r ≡ answerOf (takeBits book (now (bytes .entry)) (now (payload .entry))) (aiouOf (now (payload .entry))) (siouOf (now (payload .entry))) ⌝ }
     ensures { λ _. ⌜ now (bytes .exit) ≡ leftBy (takeBits book (now (bytes .entry)) (now (payload .entry))) (now (bytes .entry)) ⌝ }
 {
     let aiou = aiou_plus_one(payload);
-    let count = count_under(book, aiou);
+    let siou = siou_plus_one(payload);
+    let count = count_under(book, aiou, siou);
     match judge(bytes, count, payload) {
         Judged::Refused(refusal) => Taken::Refused(refusal),
         Judged::Held(held) => {
             if held == count {
-                return Taken::Holds(book_of(aiou, held));
+                return Taken::Holds(book_of(aiou, siou, held));
             }
             insert_all(bytes, count, payload);
-            Taken::Holds(book_of(aiou, held))
+            Taken::Holds(book_of(aiou, siou, held))
         }
     }
 }

@@ -1,4 +1,4 @@
--- Definitions to believe: the sizes of document 01, each once, in its order.
+-- Definitions to believe: the sizes of document 01, as document 02 has changed them, each once, in its order.
 use Prim.Native.Nat.{ℕ, _+_, _*_}
 
 -- "The frame": "payload of 0 or over 1,023 bytes" is LENGTH; writing a payload wants that room
@@ -31,10 +31,10 @@ areaBytes = 6
 abbrev pub bookBytes : ℕ
 bookBytes = areaBytes * mostAreas
 
--- "Log and kept book": form number, AIOU + 1 and count, a byte each, and seven for the 47 bits of an
--- area: "Writing checks ROOM (227 bytes), STATE."
+-- "Log and kept book", and document 02, request 5: form number, AIOU + 1 and count, a byte each, two
+-- for SIOU + 1, and seven for the 47 bits of an area: "(229 bytes of room)"
 abbrev pub keptRoom : ℕ
-keptRoom = 3 + 7 * mostAreas
+keptRoom = 5 + 7 * mostAreas
 
 -- "Log room: 4,096 bytes per frame, always enough."
 abbrev pub logRoom : ℕ

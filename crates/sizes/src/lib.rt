@@ -23,9 +23,10 @@ pub const AREA_BYTES: usize = 6;
 
 pub const BOOK_BYTES: usize = AREA_BYTES * MOST_AREAS;
 
-// "Kept book: form number 1, AIOU + 1, count, areas as numbers": three bytes, and seven for the 47
-// bits of an area. "Writing checks ROOM (227 bytes)".
-pub const KEPT_ROOM: usize = 3 + 7 * MOST_AREAS;
+// "The kept book gets form 2 with SIOU + 1 after AIOU + 1, .. (229 bytes of room)" (document 02,
+// request 5): form number, AIOU + 1 and count, a byte each, two for SIOU + 1, and seven for the 47
+// bits of an area.
+pub const KEPT_ROOM: usize = 5 + 7 * MOST_AREAS;
 
 // "Log room: 4,096 bytes per frame, always enough."
 pub const LOG_ROOM: usize = 4096;

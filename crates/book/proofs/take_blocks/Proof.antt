@@ -7,6 +7,9 @@ use Rattle.book.proofs.take_blocks.Tie as tie
 aiou-plus-one-requires : tie.Need-aiou-plus-one-requires
 aiou-plus-one-requires c κs = search needs
 
+siou-plus-one-requires : tie.Need-siou-plus-one-requires
+siou-plus-one-requires c κs = search needs
+
 count-under-requires : tie.Need-count-under-requires
 count-under-requires c κs = search needs
 
@@ -51,6 +54,7 @@ take-blocks-spec =
     tie.close
     (tie.spec
     aiou-plus-one-requires
+    siou-plus-one-requires
     count-under-requires
     judge-requires
     enum-known-refusal
