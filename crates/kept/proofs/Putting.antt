@@ -1,11 +1,10 @@
 -- One lemma for each turn and each answer of the functions that write, in plain variables, premises worded as the code makes them. Assumes nothing.
-use mathlib.Core.Path.{_≡_, ap, ap₂, sym, _∙_, subst}
+use mathlib.Core.Path.{_≡_, refl, ap, ap₂, sym, _∙_, subst}
 use mathlib.Core.Bool.{Bool, true, false, not}
 use mathlib.Core.List.{List, [], _∷_, _++_, append-assoc, append-nil}
 use Prim.Native.Nat.{ℕ, _+_, _-_, _*_, _/_, _^_, _≤_, _<_}
 use native.Mathlib.Omega.{arith}
 use native.Mathlib.Numerals.{add-one}
-use native.Mathlib.Nat.{zero-add}
 use lib.Dec.{ltb}
 use lib.ListN.{length, getD, take, drop, length-append, length-drop, take-append-drop}
 use lib.Seq.{take-all, length-take-le, take-suc}
@@ -16,15 +15,15 @@ use Rattle.answer.specs.declared.Refusal.the-variants.{Room, State}
 use Rattle.sizes.specs.Sizes.{mostAreas, bookBytes, keptRoom}
 use Rattle.area.specs.Area.{numberAt}
 use Rattle.book.specs.Book.{areasIn, headSound, sound}
-use Rattle.book.specs.Laws.{head-parts, sound-head, length-areas, small-at, areas-at}
+use Rattle.book.specs.Laws.{head-parts, siou-most, sound-head, length-areas, small-at, areas-at}
 use Rattle.book.proofs.Reading.{number-there, sound-count, sound-image}
 use Rattle.book.specs.Judge.{Image}
 use Rattle.book.specs.declared.Book.{Book}
 use Rattle.groups.specs.Groups.{groupsOf, groupsOfAll, bytesPut, putInto}
 use Rattle.groups.proofs.Behind.{room-behind, lay-behind, lay-on, lay-to}
 use Rattle.groups.specs.Laws.{groups-all-append, length-le, length-last, put-some, left-some}
-use Rattle.kept.specs.Walk.{headBytes}
-use Rattle.kept.specs.Kept.{form, keptOf, keptBytes, written, outAfter}
+use Rattle.kept.specs.Walk.{issueBytes, headBytes}
+use Rattle.kept.specs.Kept.{newestForm, numbersIn, keptBytes, written, outAfter}
 use Rattle.kept.specs.declared.Written.the-variants.{Bytes, Refused}
 
 -- a number put behind at bytes
@@ -172,8 +171,8 @@ module _ (book : Book) (s out : List ℕ) where
 
         module _ (e₃ e₄ : ℕ) (q₃ : e₃ ≡ length (headBytes book)) (q₄ : e₄ ≡ e₃ + length (groupsOfAll (areasIn (book .count) s))) where
           kept-is : headBytes book ++ groupsOfAll (areasIn (book .count) s) ≡ keptBytes book s
-          unfolding keptOf
-          kept-is = sym (groups-all-append (form ∷ book .«aiou_plus_one» ∷ book .count ∷ []) (areasIn (book .count) s))
+          unfolding numbersIn
+          kept-is = sym (groups-all-append (newestForm ∷ book .«aiou_plus_one» ∷ book .«siou_plus_one» ∷ book .count ∷ []) (areasIn (book .count) s))
 
           kept-ends : e₄ ≡ length (keptBytes book s)
           kept-ends =
@@ -205,53 +204,88 @@ module _ (book : Book) (s : List ℕ) (b : Bool) (eb : b ≡ sound book s) (l : 
   pub book-image : ((i : ℕ) → Fits w8 (getD s i 0)) → Image (book .count) s
   book-image known = sound-image book s (sym eb ∙ not-false b l) (record { byte = λ i. known i .fits })
 
-  pub book-room : (e : ℕ) (out o : List ℕ) → e ≤ 3 → length o ≡ length out → keptRoom ≤ length out → e + 7 * book .count ≤ length o
+  pub book-room : (e : ℕ) (out o : List ℕ) → e ≤ 5 → length o ≡ length out → keptRoom ≤ length out → e + 7 * book .count ≤ length o
   book-room e out o h n k = omega (arith, book-count)
 
 -- ---- the numbers before the areas
 
--- a count takes one group of seven bits, for a book holds fewer than 128 areas
-module _ (book : Book) (h : headSound book ≡ true) where
+-- numbers laid one behind the other from the start
+record Laid (out numbers : List ℕ) (e : ℕ) (o : List ℕ) : Type 0 where
+  ends : length (groupsOfAll numbers) ≡ e
+  is : o ≡ groupsOfAll numbers ++ drop e out
+
+laid-none : (out : List ℕ) → Laid out [] 0 out
+unfolding groupsOfAll
+laid-none out = record { ends = refl; is = refl }
+
+laid-more : (out numbers o new : List ℕ) (e f x : ℕ) → Laid out numbers e o → f ≡ e + length (groupsOf x) → new ≡ take e o ++ (groupsOf x ++ drop f o) → Laid out (numbers ++ (x ∷ [])) f new
+unfolding groupsOfAll
+laid-more out numbers o new e f x p q n =
+    let all : groupsOfAll numbers ++ groupsOf x ≡ groupsOfAll (numbers ++ (x ∷ []))
+    = ap (λ g. groupsOfAll numbers ++ g) (sym (append-nil (groupsOf x))) ∙ sym (groups-all-append numbers (x ∷ [])) in
+    record {
+      ends = ap length (sym all) ∙ length-append (groupsOfAll numbers) (groupsOf x) ∙ ap (λ k. k + length (groupsOf x)) (p .ends) ∙ sym q;
+      is = lay-to out o (groupsOfAll numbers) (groupsOf x) new e f (p .is) (p .ends) q n ∙ ap (λ l. l ++ drop f out) all;
+    }
+
+-- The form number and AIOU + 1 take one group of seven bits, and SIOU + 1 two at most.
+pub room-form : (out : List ℕ) → 4 ≤ length out → 0 + length (groupsOf newestForm) ≤ length out
+room-form out k = omega (arith, length-last newestForm (omega arith))
+
+module _ (book : Book) (h : headSound book ≡ true) (e₁ : ℕ) (q₁ : e₁ ≡ 0 + length (groupsOf newestForm)) (a : ℕ) (qa : a ≡ book .«aiou_plus_one») where
+  form-one : e₁ ≡ 1
+  form-one = omega (arith, length-last newestForm (omega arith))
+
+  aiou-one : length (groupsOf a) ≡ 1
+  aiou-one = length-last a (omega (arith, head-parts book h .0))
+
+  pub room-aiou : (o₁ out : List ℕ) → length o₁ ≡ length out → 4 ≤ length out → e₁ + length (groupsOf a) ≤ length o₁
+  room-aiou o₁ out n k = omega (arith, form-one, aiou-one)
+
+  module _ (e₂ : ℕ) (q₂ : e₂ ≡ e₁ + length (groupsOf a)) (u : ℕ) (qu : u ≡ book .«siou_plus_one») where
+    siou-two : length (groupsOf u) ≤ 2
+    siou-two = length-le 1 u (omega (arith, siou-most (book .«aiou_plus_one») (book .«siou_plus_one») (head-parts book h .2)))
+
+    pub room-siou : (o₁ o₂ out : List ℕ) → length o₂ ≡ length o₁ → length o₁ ≡ length out → 4 ≤ length out → e₂ + length (groupsOf u) ≤ length o₂
+    room-siou o₁ o₂ out m n k = omega (arith, form-one, aiou-one, siou-two)
+
+    module _ (e₃ : ℕ) (q₃ : e₃ ≡ e₂ + length (groupsOf u)) where
+      pub issues-four : e₃ ≤ 4
+      issues-four = omega (arith, form-one, aiou-one, siou-two)
+
+      module _ (out o₁ o₂ o₃ : List ℕ) (r₁ : o₁ ≡ take 0 out ++ (groupsOf newestForm ++ drop e₁ out)) (r₂ : o₂ ≡ take e₁ o₁ ++ (groupsOf a ++ drop e₂ o₁))
+          (r₃ : o₃ ≡ take e₂ o₂ ++ (groupsOf u ++ drop e₃ o₂)) where
+        all-laid : Laid out (newestForm ∷ book .«aiou_plus_one» ∷ book .«siou_plus_one» ∷ []) e₃ o₃
+        all-laid =
+            let p₁ : Laid out (newestForm ∷ []) e₁ o₁ = laid-more out [] out o₁ 0 e₁ newestForm (laid-none out) q₁ r₁ in
+            let p₂ : Laid out (newestForm ∷ a ∷ []) e₂ o₂ = laid-more out (newestForm ∷ []) o₁ o₂ e₁ e₂ a p₁ q₂ r₂ in
+            subst (λ l. Laid out l e₃ o₃) (ap₂ (λ x y. newestForm ∷ x ∷ y ∷ []) qa qu) (laid-more out (newestForm ∷ a ∷ []) o₂ o₃ e₂ e₃ u p₂ q₃ r₃)
+
+        pub issues-end : e₃ ≡ length (issueBytes book)
+        issues-end = sym (all-laid .ends)
+
+        pub issues-laid : o₃ ≡ issueBytes book ++ drop e₃ out
+        issues-laid = all-laid .is
+
+-- The count takes one group, since a book holds fewer than 128 areas.
+module _ (book : Book) (h : headSound book ≡ true) (e₃ : ℕ) (k : e₃ ≤ 4) where
   count-one : length (groupsOf (book .count)) ≡ 1
   count-one = length-last (book .count) (omega (arith, head-parts book h .1))
 
-  module _ (e₁ a : ℕ) (q₁ : e₁ ≡ 0 + length (groupsOf 1)) (qa : a ≡ book .«aiou_plus_one») where
-    aiou-one : length (groupsOf a) ≡ 1
-    aiou-one = length-last a (omega (arith, head-parts book h .0))
+  pub room-count : (o₃ out : List ℕ) → length o₃ ≡ length out → 5 ≤ length out → e₃ + length (groupsOf (book .count)) ≤ length o₃
+  room-count o₃ out n l = omega (arith, count-one)
 
-    pub room-aiou : (o₁ out : List ℕ) → length o₁ ≡ length out → 3 ≤ length out → e₁ + length (groupsOf a) ≤ length o₁
-    room-aiou o₁ out n k = omega (arith, length-last 1 (omega arith), aiou-one)
+  module _ (e₄ : ℕ) (q₄ : e₄ ≡ e₃ + length (groupsOf (book .count))) where
+    pub head-five : e₄ ≤ 5
+    head-five = omega (arith, count-one)
 
-    module _ (e₂ : ℕ) (q₂ : e₂ ≡ e₁ + length (groupsOf a)) where
-      pub room-count : (o₁ o₂ out : List ℕ) → length o₂ ≡ length o₁ → length o₁ ≡ length out → 3 ≤ length out
-          → e₂ + length (groupsOf (book .count)) ≤ length o₂
-      room-count o₁ o₂ out n m k = omega (arith, length-last 1 (omega arith), aiou-one, count-one)
+    module _ (q₃ : e₃ ≡ length (issueBytes book)) (out o₃ o₄ : List ℕ) (r₃ : o₃ ≡ issueBytes book ++ drop e₃ out) (r₄ : o₄ ≡ take e₃ o₃ ++ (groupsOf (book .count) ++ drop e₄ o₃)) where
+      with-count : Laid out (newestForm ∷ book .«aiou_plus_one» ∷ book .«siou_plus_one» ∷ book .count ∷ []) e₄ o₄
+      with-count =
+          laid-more out (newestForm ∷ book .«aiou_plus_one» ∷ book .«siou_plus_one» ∷ []) o₃ o₄ e₃ e₄ (book .count) (record { ends = sym q₃; is = r₃ }) q₄ r₄
 
-      module _ (e₃ : ℕ) (q₃ : e₃ ≡ e₂ + length (groupsOf (book .count))) where
-        pub head-three : e₃ ≤ 3
-        head-three = omega (arith, length-last 1 (omega arith), aiou-one, count-one)
+      pub head-ends : e₄ ≡ length (headBytes book)
+      head-ends = sym (with-count .ends)
 
-        joined : (groupsOf 1 ++ groupsOf a) ++ groupsOf (book .count) ≡ headBytes book
-        unfolding groupsOfAll
-        joined = ap (λ a. (groupsOf 1 ++ groupsOf a) ++ groupsOf (book .count)) qa ∙ simp (append-assoc, append-nil)
-
-        ends₁ : length (groupsOf 1) ≡ e₁
-        ends₁ = sym (q₁ ∙ zero-add (length (groupsOf 1)))
-
-        ends₂ : length (groupsOf 1 ++ groupsOf a) ≡ e₂
-        ends₂ = length-append (groupsOf 1) (groupsOf a) ∙ ap (λ k. k + length (groupsOf a)) ends₁ ∙ sym q₂
-
-        pub head-ends : e₃ ≡ length (headBytes book)
-        head-ends =
-            q₃ ∙ ap (λ k. k + length (groupsOf (book .count))) (sym ends₂)
-            ∙ sym (length-append (groupsOf 1 ++ groupsOf a) (groupsOf (book .count))) ∙ ap length joined
-
-        pub head-laid : (out o₁ o₂ o₃ : List ℕ) → o₁ ≡ take 0 out ++ (groupsOf 1 ++ drop e₁ out) → o₂ ≡ take e₁ o₁ ++ (groupsOf a ++ drop e₂ o₁)
-            → o₃ ≡ take e₂ o₂ ++ (groupsOf (book .count) ++ drop e₃ o₂) → o₃ ≡ headBytes book ++ drop e₃ out
-        head-laid out o₁ o₂ o₃ r₁ r₂ r₃ =
-            let p₂ : List ℕ = groupsOf 1 ++ groupsOf a in
-            let w₂ : o₂ ≡ p₂ ++ drop e₂ out = lay-to out o₁ (groupsOf 1) (groupsOf a) o₂ e₁ e₂ r₁ ends₁ q₂ r₂ in
-            lay-to out o₂ p₂ (groupsOf (book .count)) o₃ e₂ e₃ w₂ ends₂ q₃ r₃ ∙ ap (λ p. p ++ drop e₃ out) joined
-
-pub room-form : (out : List ℕ) → 3 ≤ length out → 0 + length (groupsOf 1) ≤ length out
-room-form out k = omega (arith, length-last 1 (omega arith))
+      pub head-laid : o₄ ≡ headBytes book ++ drop e₄ out
+      head-laid = with-count .is

@@ -7,21 +7,22 @@ use native.Mathlib.Omega.{arith}
 use lib.Dec.{leb, ltb, eqb}
 use lib.ListN.{length, drop, length-append, length-drop, drop-of-length-le}
 use lib.Seq.{drop-drop, drop-cons}
-use borrow.Author.Tests.{lt-ltb, le-ltb, lt-leb, le-leb, eq-eqb, ne-eqb}
+use borrow.Author.Tests.{lt-ltb, le-ltb, lt-leb, le-leb, not-true, not-false}
 use Rattle.answer.specs.Stop.{stop}
 use Rattle.answer.specs.declared.Refusal.{Refusal}
 use Rattle.answer.specs.declared.Refusal.the-variants.{Room, Form, Leftover}
 use Rattle.sizes.specs.Sizes.{mostAreas, bookBytes}
 use Rattle.area.specs.Area.{sf031, isArea, putAt}
-use Rattle.book.specs.Book.{bookOf, bytesOfAll, headSound}
-use Rattle.book.specs.Laws.{length-bytes, head-parts}
+use Rattle.book.specs.Book.{bookOf, bytesOfAll, siouSound, headSound}
+use Rattle.book.specs.Laws.{length-bytes, head-parts, siou-most}
 use Rattle.book.proofs.Taking.{put-image}
 use Rattle.book.specs.declared.Book.{Book}
 use Rattle.groups.specs.Groups.{nextOf}
 use Rattle.groups.specs.Rows.{next-le}
 use Rattle.groups.specs.declared.Next.{Next}
 use Rattle.groups.specs.declared.Next.the-variants as next
-use Rattle.kept.specs.Kept.{Said, said, refused, number, whole, not-kept, answerOf, leftBy, readKept, fits, withArea, readAreas, readCount, readAiou, readHead}
+use Rattle.kept.specs.Kept.{newestForm, isForm, headIn, Said, said, refused, number, whole, not-kept, answerOf, leftBy, readKept, fits, withArea, readAreas, readCount, readSiou, readAiou, readHead}
+use Rattle.kept.specs.RoundTrip.{past-none}
 use Rattle.kept.specs.ReadLaws.{head-sound}
 use Rattle.kept.specs.Walk.{HeadIs, Areas, EndIs, storedBy, isSaid, step-on, step-off, step-form, step-past}
 use Rattle.kept.specs.declared.Head.{Head}
@@ -31,57 +32,113 @@ use Rattle.kept.specs.declared.Ended.the-variants as ended
 use Rattle.kept.specs.declared.ReadKept.{ReadKept}
 use Rattle.kept.specs.declared.ReadKept.the-variants as answering
 
+-- ---- the forms
+
+module _ (f : ℕ) where
+  pub form-under : f < 1 → false ≡ isForm f
+  form-under h = let z : leb 1 f ≡ false = lt-leb 1 f h in rw z
+
+  pub form-upto : 1 ≤ f → (b : Bool) → b ≡ leb f newestForm → b ≡ isForm f
+  form-upto h b e = let z : leb 1 f ≡ true = le-leb 1 f h in rw z e
+
+  module _ (book : Book) (b : Bool) (eb : b ≡ headSound book) where
+    pub head-unsound : not b ≡ true → false ≡ headIn f book
+    unfolding headIn
+    head-unsound k = let z : headSound book ≡ false = sym eb ∙ not-true b k in rw z
+
+    module _ (k : not b ≡ false) where
+      is-sound : headSound book ≡ true
+      is-sound = sym eb ∙ not-false b k
+
+      pub head-said : 2 ≤ f → true ≡ headIn f book
+      unfolding headIn
+      head-said h = let z : leb 2 f ≡ true = le-leb 2 f h in rw (is-sound, z)
+
+      pub head-unsaid : f < 2 → (u : Bool) → u ≡ eqb (book .«siou_plus_one») 0 → u ≡ headIn f book
+      unfolding headIn
+      head-unsaid h u e = let z : leb 2 f ≡ false = lt-leb 2 f h in rw (is-sound, z) e
+
 -- ---- the head
 
-module _ (s : List ℕ) (at : ℕ) (h : at ≤ length s) (v : Next) (e : v ≡ nextOf s at) where
-  pub count-refused : (aiou : ℕ) (r : Refusal) → v ≡ next.Refused r → readCount aiou (drop at s) ≡ refused r
+module _ (s : List ℕ) (at : ℕ) (h : at ≤ length s) (v : Next) (e : v ≡ nextOf s at) (f : ℕ) where
+  pub count-refused : (aiou siou : ℕ) (r : Refusal) → v ≡ next.Refused r → readCount f aiou siou (drop at s) ≡ refused r
   unfolding readCount
-  count-refused aiou r q = step-off s at v e _ r q
+  count-refused aiou siou r q = step-off s at v e _ r q
 
-  pub aiou-refused : (r : Refusal) → v ≡ next.Refused r → readAiou (drop at s) ≡ refused r
+  pub siou-refused : (aiou : ℕ) → 2 ≤ f → (r : Refusal) → v ≡ next.Refused r → readSiou f aiou (drop at s) ≡ refused r
+  unfolding readSiou
+  siou-refused aiou k r q = let z : leb 2 f ≡ true = le-leb 2 f k in rw z (step-off s at v e _ r q)
+
+  pub aiou-refused : (r : Refusal) → v ≡ next.Refused r → readAiou f (drop at s) ≡ refused r
   unfolding readAiou
   aiou-refused r q = step-off s at v e _ r q
 
   module _ (x end : ℕ) (q : v ≡ next.Number x end) where
-    pub end-there : end ≤ length s
-    end-there = next-le s at v h e x end q
+    module _ (aiou siou : ℕ) (book : Book) (eo : book ≡ bookOf aiou siou x) (b : Bool) (eb : b ≡ headIn f book) where
+      is-in : not (headIn f (bookOf aiou siou x)) ≡ not b
+      is-in = ap not (sym (eb ∙ ap (headIn f) eo))
 
-    module _ (aiou : ℕ) (book : Book) (eo : book ≡ bookOf aiou x) (b : Bool) (eb : b ≡ headSound book) where
-      is-sound : not (headSound (bookOf aiou x)) ≡ not b
-      is-sound = ap not (sym (eb ∙ ap headSound eo))
-
-      pub count-unsound : not b ≡ true → readCount aiou (drop at s) ≡ refused Form
+      pub count-form : not b ≡ true → readCount f aiou siou (drop at s) ≡ refused Form
       unfolding readCount
-      count-unsound k = step-form s at v e (λ count. not (headSound (bookOf aiou count))) (λ count s. said (bookOf aiou count) s) x end q (is-sound ∙ k)
+      count-form k = step-form s at v e (λ count. not (headIn f (bookOf aiou siou count))) (λ count s. said (bookOf aiou siou count) s) x end q (is-in ∙ k)
 
-      pub count-sound : not b ≡ false → readCount aiou (drop at s) ≡ said book (drop end s)
+      pub count-said : not b ≡ false → readCount f aiou siou (drop at s) ≡ said book (drop end s)
       unfolding readCount
-      count-sound k =
-          step-past s at v e (λ count. not (headSound (bookOf aiou count))) (λ count s. said (bookOf aiou count) s) x end q (is-sound ∙ k)
+      count-said k =
+          step-past s at v e (λ count. not (headIn f (bookOf aiou siou count))) (λ count s. said (bookOf aiou siou count) s) x end q (is-in ∙ k)
           ∙ ap (λ z. said z (drop end s)) (sym eo)
 
-    pub aiou-over : 16 < x → readAiou (drop at s) ≡ refused Form
-    unfolding readAiou
-    aiou-over k = step-form s at v e (ltb 16) readCount x end q (lt-ltb 16 x k)
+    module _ (aiou : ℕ) (k : 2 ≤ f) (b : Bool) (eb : b ≡ siouSound aiou x) where
+      pub siou-form : not b ≡ true → readSiou f aiou (drop at s) ≡ refused Form
+      unfolding readSiou
+      siou-form l =
+          let z : leb 2 f ≡ true = le-leb 2 f k in
+          rw z (step-form s at v e (λ siou. not (siouSound aiou siou)) (readCount f aiou) x end q (ap not (sym eb) ∙ l))
 
-    pub aiou-on : x ≤ 16 → (d : ℕ) → d ≡ x → (r : Head) → HeadIs s (readCount d (drop end s)) r → HeadIs s (readAiou (drop at s)) r
+      module _ (l : not b ≡ false) where
+        pub siou-small : x ≤ 512
+        siou-small = siou-most aiou x (sym eb ∙ not-false b l)
+
+        pub siou-on : (d : ℕ) → d ≡ x → (r : Head) → HeadIs s (readCount f aiou d (drop end s)) r → HeadIs s (readSiou f aiou (drop at s)) r
+        unfolding readSiou
+        siou-on d ed r =
+            let z : leb 2 f ≡ true = le-leb 2 f k in
+            subst (λ o. HeadIs s o r)
+            (ap (λ d. readCount f aiou d (drop end s)) ed
+            ∙ sym (rw z (step-past s at v e (λ siou. not (siouSound aiou siou)) (readCount f aiou) x end q (ap not (sym eb) ∙ l))))
+
+    pub aiou-over : 16 < x → readAiou f (drop at s) ≡ refused Form
+    unfolding readAiou
+    aiou-over k = step-form s at v e (ltb 16) (readSiou f) x end q (lt-ltb 16 x k)
+
+    pub aiou-on : x ≤ 16 → (d : ℕ) → d ≡ x → (r : Head) → HeadIs s (readSiou f d (drop end s)) r → HeadIs s (readAiou f (drop at s)) r
     unfolding readAiou
     aiou-on k d ed r =
-        subst (λ o. HeadIs s o r) (ap (λ d. readCount d (drop end s)) ed ∙ sym (step-past s at v e (ltb 16) readCount x end q (le-ltb 16 x k)))
+        subst (λ o. HeadIs s o r) (ap (λ d. readSiou f d (drop end s)) ed ∙ sym (step-past s at v e (ltb 16) (readSiou f) x end q (le-ltb 16 x k)))
+
+-- a number that was read ends inside
+pub end-there : (s : List ℕ) (at : ℕ) → at ≤ length s → (v : Next) → v ≡ nextOf s at → (x end : ℕ) → v ≡ next.Number x end → end ≤ length s
+end-there s at h v e x end q = next-le s at v h e x end q
+
+-- form 1 says no SIOU: it is unknown
+pub siou-unsaid : (s : List ℕ) (at f aiou : ℕ) → f < 2 → (r : Head) → HeadIs s (readCount f aiou 0 (drop at s)) r → HeadIs s (readSiou f aiou (drop at s)) r
+siou-unsaid s at f aiou h r =
+    let z : leb 2 f ≡ false = lt-leb 2 f h in
+    subst (λ o. HeadIs s o r) (sym (past-none f aiou (drop at s) z))
 
 module _ (s : List ℕ) (v : Next) (e : v ≡ nextOf s 0) where
   pub head-refused : (r : Refusal) → v ≡ next.Refused r → readHead s ≡ refused r
   unfolding readHead
   head-refused r q = step-off s 0 v e _ r q
 
-  module _ (x end : ℕ) (q : v ≡ next.Number x end) where
-    pub head-other : (x ≡ 1 → ⊥) → readHead s ≡ refused Form
+  module _ (x end : ℕ) (q : v ≡ next.Number x end) (b : Bool) (eb : b ≡ isForm x) where
+    pub head-other : not b ≡ true → readHead s ≡ refused Form
     unfolding readHead
-    head-other k = step-form s 0 v e (λ f. not (eqb f 1)) (λ f s. readAiou s) x end q (ap not (ne-eqb x 1 k))
+    head-other k = step-form s 0 v e (λ f. not (isForm f)) readAiou x end q (ap not (sym eb) ∙ k)
 
-    pub head-on : x ≡ 1 → (r : Head) → HeadIs s (readAiou (drop end s)) r → HeadIs s (readHead s) r
+    pub head-on : not b ≡ false → (r : Head) → HeadIs s (readAiou x (drop end s)) r → HeadIs s (readHead s) r
     unfolding readHead
-    head-on k r = subst (λ o. HeadIs s o r) (sym (step-past s 0 v e (λ f. not (eqb f 1)) (λ f s. readAiou s) x end q (ap not (eq-eqb x 1 k))))
+    head-on k r = subst (λ o. HeadIs s o r) (sym (step-past s 0 v e (λ f. not (isForm f)) readAiou x end q (ap not (sym eb) ∙ k)))
 
 -- ---- an area
 

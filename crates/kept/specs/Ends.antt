@@ -1,4 +1,4 @@
--- Definitions to believe: bytes that are a kept book, that go on after its end, that end before it does, that break its form (document 01, "Log and kept book").
+-- Definitions to believe: bytes that are a kept book, that go on after its end, that end before it does, that break its form (document 01, "Log and kept book"; document 02, request 5).
 use mathlib.Core.Path.{_≡_}
 use mathlib.Core.Bool.{true}
 use mathlib.Core.List.{List, [], _∷_, _++_}
@@ -7,23 +7,31 @@ use Rattle.answer.specs.declared.Refusal.the-variants.{Form}
 use Rattle.bits.specs.Bits.{Bytes}
 use Rattle.book.specs.Book.{areasIn, sound}
 use Rattle.book.specs.declared.Book.{Book}
-use Rattle.groups.specs.Groups.{groupsOfAll, size, readGroups}
+use Rattle.groups.specs.Groups.{groupsOf, groupsOfAll, size, readGroups}
 use Rattle.groups.specs.declared.Read.the-variants as reading
-use Rattle.kept.specs.Kept.{form, keptBytes}
+use Rattle.kept.specs.Kept.{isForm, headIn, numbersIn, keptIn}
 
--- a sound book, in its bytes
+-- Bytes of a form: they begin with its number.
+pub record OfForm (number : ℕ) (s : List ℕ) : Type 0 where
+  pub rest : List ℕ
+  pub is : s ≡ groupsOf number ++ rest
+
+-- a sound book, in its bytes, and a form that can say it
 pub record SoundBook : Type 0 where
   pub book : Book
   pub bytes : List ℕ
   pub are-bytes : Bytes bytes
   pub is-sound : sound book bytes ≡ true
+  pub form : ℕ
+  pub is-form : isForm form ≡ true
+  pub in-form : headIn form book ≡ true
 
--- its kept book, and the numbers of that: "form number 1, AIOU + 1, count, areas as numbers, ascending"
+-- its kept book in that form, and the numbers of that
 abbrev pub keptBook : SoundBook → List ℕ
-keptBook b = keptBytes (b .book) (b .bytes)
+keptBook b = keptIn (b .form) (b .book) (areasIn (b .book .count) (b .bytes))
 
 abbrev pub numbersOf : SoundBook → List ℕ
-numbersOf b = form ∷ b .book .«aiou_plus_one» ∷ b .book .count ∷ areasIn (b .book .count) (b .bytes)
+numbersOf b = numbersIn (b .form) (b .book) (areasIn (b .book .count) (b .bytes))
 
 -- Bytes are the kept book of a sound book.
 pub record IsBook (s : List ℕ) : Type 0 where

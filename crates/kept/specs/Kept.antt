@@ -1,5 +1,5 @@
--- Document 01, "Log and kept book": the kept book. Definitions to believe.
-use mathlib.Core.Bool.{Bool, not, _&&_, _||_}
+-- Definitions to believe: the kept book (document 01, "Log and kept book"; document 02, request 5, "One solution update per book").
+use mathlib.Core.Bool.{Bool, cond, not, _&&_, _||_}
 use mathlib.Core.List.{List, [], _∷_, _++_}
 use Prim.Native.Nat.{ℕ, zero, suc, _+_, _*_}
 use lib.Dec.{leb, ltb, eqb}
@@ -10,7 +10,7 @@ use Rattle.answer.specs.declared.Refusal.{Refusal}
 use Rattle.answer.specs.declared.Refusal.the-variants.{Room, State, Form, Leftover}
 use Rattle.area.specs.Area.{sf031, isArea}
 use Rattle.sizes.specs.Sizes.{bookBytes, keptRoom}
-use Rattle.book.specs.Book.{bookOf, areasIn, bytesOfAll, headSound, sound}
+use Rattle.book.specs.Book.{bookOf, areasIn, bytesOfAll, siouSound, headSound, sound}
 use Rattle.book.specs.declared.Book.{Book}
 use Rattle.groups.specs.Groups.{groupsOfAll, readGroups}
 use Rattle.groups.specs.declared.Read.{Read}
@@ -20,18 +20,36 @@ use Rattle.kept.specs.declared.Written.the-variants as writing
 use Rattle.kept.specs.declared.ReadKept.{ReadKept}
 use Rattle.kept.specs.declared.ReadKept.the-variants as answering
 
--- "form number 1"
-abbrev pub form : ℕ
-form = 1
+-- ---- the forms of a kept book, by their numbers
 
--- "Kept book: form number 1, AIOU + 1, count, areas as numbers, ascending. Empty book: 1, 0, 0."
-unfoldable pub keptOf : Book → List ℕ → List ℕ
-keptOf book areas = groupsOfAll (form ∷ book .«aiou_plus_one» ∷ book .count ∷ areas)
+-- "The kept book gets form 2 ..": it is the one that is written, and the highest that is read
+abbrev pub newestForm : ℕ
+newestForm = 2
+
+-- ".. Form 1 is still read"
+abbrev pub isForm : (form : ℕ) → Bool
+isForm form = leb 1 form && leb form newestForm
+
+-- "form 2 with SIOU + 1 after AIOU + 1, 0 for unknown or no book"
+abbrev pub hasSiou : (form : ℕ) → Bool
+hasSiou form = leb 2 form
+
+-- the heads of sound books that a form can say: "Form 1 is still read, its SIOU unknown"
+unfoldable pub headIn : (form : ℕ) → Book → Bool
+headIn form book = headSound book && (hasSiou form || eqb (book .«siou_plus_one») 0)
+
+-- the numbers of a kept book: "form number .., AIOU + 1, count, areas as numbers, ascending", with "SIOU + 1 after AIOU + 1" from form 2 on
+unfoldable pub numbersIn : (form : ℕ) → Book → (areas : List ℕ) → List ℕ
+numbersIn form book areas = form ∷ book .«aiou_plus_one» ∷ cond (hasSiou form) (book .«siou_plus_one» ∷ book .count ∷ areas) (book .count ∷ areas)
+
+-- its bytes in a form, and in the one that is written
+abbrev pub keptIn : (form : ℕ) → Book → (areas : List ℕ) → List ℕ
+keptIn form book areas = groupsOfAll (numbersIn form book areas)
 
 abbrev pub keptBytes : Book → List ℕ → List ℕ
-keptBytes book s = keptOf book (areasIn (book .count) s)
+keptBytes book s = keptIn newestForm book (areasIn (book .count) s)
 
--- "Writing checks ROOM (227 bytes), STATE."
+-- "Writing checks ROOM (..), STATE.", "(229 bytes of room)"
 abbrev pub noRoom : List ℕ → List ℕ → Bool
 noRoom s out = ltb (length s) bookBytes || ltb (length out) keptRoom
 
@@ -78,17 +96,23 @@ unfoldable pub readAreas : ℕ → ℕ → List ℕ → Said (List ℕ)
 readAreas zero least s = said [] s
 readAreas (suc n) least s = number s (λ a rest. stop (not (fits n least a)) (refused Form) (withArea a (readAreas n (suc (sf031 a)) rest)))
 
--- form number, AIOU + 1, count: the head of a sound book
-unfoldable pub readCount : ℕ → List ℕ → Said Book
-readCount aiou s =
-    number s (λ count s. stop (not (headSound (bookOf aiou count))) (refused Form)
-    (said (bookOf aiou count) s))
+-- form number, AIOU + 1, from form 2 on SIOU + 1, count: a head that the form can say
+unfoldable pub readCount : (form aiou siou : ℕ) → List ℕ → Said Book
+readCount form aiou siou s =
+    number s (λ count s. stop (not (headIn form (bookOf aiou siou count))) (refused Form)
+    (said (bookOf aiou siou count) s))
 
-unfoldable pub readAiou : List ℕ → Said Book
-readAiou s = number s (λ aiou s. stop (ltb 16 aiou) (refused Form) (readCount aiou s))
+unfoldable pub readSiou : (form aiou : ℕ) → List ℕ → Said Book
+readSiou form aiou s =
+    cond (hasSiou form)
+    (number s (λ siou s. stop (not (siouSound aiou siou)) (refused Form) (readCount form aiou siou s)))
+    (readCount form aiou 0 s)
+
+unfoldable pub readAiou : (form : ℕ) → List ℕ → Said Book
+readAiou form s = number s (λ aiou s. stop (ltb 16 aiou) (refused Form) (readSiou form aiou s))
 
 unfoldable pub readHead : List ℕ → Said Book
-readHead s = number s (λ f s. stop (not (eqb f form)) (refused Form) (readAiou s))
+readHead s = number s (λ form s. stop (not (isForm form)) (refused Form) (readAiou form s))
 
 -- a book and its areas, and then LEFTOVER
 pub data Outcome : Type 0 where

@@ -1,10 +1,11 @@
 pub mod Kept
 pub mod Ends
 pub mod Walk
+pub mod AreaRows
 pub mod RoundTrip
 pub mod ReadLaws
 pub mod EndsLaws
-pub mod FormLaws
+pub mod StopLaws
 pub mod Theorems
 pub mod Determined
 pub mod Examples

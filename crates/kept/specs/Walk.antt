@@ -16,15 +16,18 @@ use Rattle.groups.specs.declared.Read.{Read}
 use Rattle.groups.specs.declared.Read.the-variants as reading
 use Rattle.groups.specs.declared.Next.{Next}
 use Rattle.groups.specs.declared.Next.the-variants as next
-use Rattle.kept.specs.Kept.{form, Said, said, refused, behind, number}
+use Rattle.kept.specs.Kept.{newestForm, Said, said, refused, behind, number}
 use Rattle.kept.specs.declared.Head.{Head}
 use Rattle.kept.specs.declared.Head.the-variants as head
 use Rattle.kept.specs.declared.Ended.{Ended}
 use Rattle.kept.specs.declared.Ended.the-variants as ended
 
--- what is written before the areas
+-- what is written before the count, and before the areas
+abbrev pub issueBytes : Book → List ℕ
+issueBytes book = groupsOfAll (newestForm ∷ book .«aiou_plus_one» ∷ book .«siou_plus_one» ∷ [])
+
 abbrev pub headBytes : Book → List ℕ
-headBytes book = groupsOfAll (form ∷ book .«aiou_plus_one» ∷ book .count ∷ [])
+headBytes book = groupsOfAll (newestForm ∷ book .«aiou_plus_one» ∷ book .«siou_plus_one» ∷ book .count ∷ [])
 
 -- the head was read up to a place, or refused
 abbrev pub HeadIs : List ℕ → Said Book → Head → Type 0
