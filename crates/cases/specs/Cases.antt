@@ -11,8 +11,8 @@ use Rattle.answer.specs.declared.Refusal.the-variants.{Field, AreaOff}
 use Rattle.area.specs.Area.{areaOff}
 use Rattle.bits.specs.Bits.{bitsOf, toBits, number, field}
 use Rattle.sizes.specs.Sizes.{bookBytes, logRoom}
-use Rattle.book.specs.Book.{bookOf, noBook, areasIn, sound, headSound, areasSound}
-use Rattle.book.specs.Take.{lookup, insert, takeBlock, takeAll, before, outcome, takenOf}
+use Rattle.book.specs.Book.{bookOf, noBook, areasIn, sound, siouSound, headSound, areasSound}
+use Rattle.book.specs.Take.{lookup, insert, takeBlock, takeAll, isUnder, before, outcome, takenOf}
 use Rattle.book.specs.declared.Taken as took
 use Rattle.book.specs.declared.Taken.the-variants as gad
 use Rattle.checks.specs.Crc.{shift, crcBits, crc, lowFirst, reversed4, frameCrc, messageCrc}
@@ -141,7 +141,7 @@ measured =
     -- 6. One-area GAD: 66 bits, 9 bytes.
     at (payloadOf 2 0 (5 ∷ 3 ∷ 0 ∷ 0 ∷ 7 ∷ 1234 ∷ 2000 ∷ 3 ∷ 4 ∷ 9 ∷ 9 ∷ [])) (takes (Written 66 9)) ∷
     -- 7. 8 rows at 3.2 degrees: latitude code 224 fits (-90.0), 223 AREA_OFF.
-    at (intoBook (gadOf (eightRows 224))) (leaves (gad.Holds (bookOf 1 1))) ∷
+    at (intoBook (gadOf (eightRows 224))) (leaves (gad.Holds (bookOf 1 1 1))) ∷
     at (intoBook (gadOf (eightRows 223))) (leaves (gad.Refused (nowhere AreaOff))) ∷
     -- 8. 43,199 is BF D1 02.
     at (inGroups 43199) (bytes (0xBF ∷ 0xD1 ∷ 0x02 ∷ [])) ∷
@@ -152,7 +152,7 @@ measured =
     []
 
 pub measured-hold : map (λ (c : Case). said 0 (c .asked)) measured ≡ map (λ (c : Case). c .answer) measured
-unfolding measured decimal valueOf sf lineOf find table quotient div ofInt round judgedSheet judgingSheet writeL judge bitsOf numbered maskSize maskSizes areaOff groupsOf groups groupsOfAll newDesk frameTaken loggedBy verdict isGap noRoom byHeader deskSound sound headSound areasSound plain body start description checkOver bytesOf checked badFrameCrc badMessageCrc frameOf payloadIn authenticated authentication frameCrc messageCrc crc crcBits shift lowFirst reversed4 toBits number field judging readL logOf entriesOf reasonFor outcome before areasIn takeAll takeBlock lookup insert
+unfolding measured decimal valueOf sf lineOf find table quotient div ofInt round judgedSheet judgingSheet writeL judge bitsOf numbered maskSize maskSizes areaOff groupsOf groups groupsOfAll newDesk frameTaken loggedBy verdict isGap noRoom byHeader deskSound sound siouSound headSound areasSound plain body start description checkOver bytesOf checked badFrameCrc badMessageCrc frameOf payloadIn authenticated authentication frameCrc messageCrc crc crcBits shift lowFirst reversed4 toBits number field judging readL logOf entriesOf reasonFor outcome before isUnder areasIn takeAll takeBlock lookup insert
 measured-hold = refl
 
 -- a new desk for solution 0, processor 0 and GPS; document 01's definitions do not look at the second

@@ -85,7 +85,9 @@ fn into_book(latitude: u16) -> book::Taken {
 // The area is taken.
 fn fits(latitude: u16) -> bool {
     match into_book(latitude) {
-        book::Taken::Holds(book) => book.aiou_plus_one == 1 && book.count == 1,
+        book::Taken::Holds(book) => book.aiou_plus_one == 1
+            && book.siou_plus_one == 1
+            && book.count == 1,
         book::Taken::Refused(_) => false,
     }
 }
@@ -129,7 +131,10 @@ fn taken(desk: Desk, tag_kind: u8, tag: u64, log: &mut [u8]) -> Taken {
 // A run with this tag and no book.
 fn is_open(run: Run, tag: u64) -> bool {
     match run {
-        Run::Open { tag: t, book } => t == tag && book.aiou_plus_one == 0 && book.count == 0,
+        Run::Open { tag: t, book } => t == tag
+            && book.aiou_plus_one == 0
+            && book.siou_plus_one == 0
+            && book.count == 0,
         Run::Closed => false,
     }
 }

@@ -117,8 +117,8 @@ outcome-refuses book s payload =
     on false why e rest h = h
 
     go : (o : layout.Outcome Message) → ((why : answer.Fault) → o ≡ layout.refused why → answers why ≡ true)
-        → takeAnswers (gads.reading o (λ m. gads.takeAll (gads.areasOf (m .blocks)) (gads.before book s (m .aiou))) (λ why. gads.refused why)) ≡ true
-    go (layout.accepted (gadMessage body) codes bits) h = all-refuses (gads.areasOf (body .blocks)) (gads.before book s (body .aiou))
+        → takeAnswers (gads.reading o (λ m. gads.takeAll (gads.areasOf (m .blocks)) (gads.before book s (m .aiou) (m .siou))) (λ why. gads.refused why)) ≡ true
+    go (layout.accepted (gadMessage body) codes bits) h = all-refuses (gads.areasOf (body .blocks)) (gads.before book s (body .aiou) (body .siou))
     go (layout.accepted (ocbMessage constellation body) codes bits) h = refl
     go (layout.accepted (hpacMessage constellation body) codes bits) h = refl
     go (layout.accepted (bpacMessage body) codes bits) h = refl
@@ -231,14 +231,14 @@ module _ (desk : Desk) (live run : List ℕ) where
     by-gad : Answered (byPayload desk live header payload (judging 2 0 payload))
     by-gad = go (judging 2 0 payload) refl
       where
-        taken : (o : gads.Outcome) (aiou : ℕ) → takeAnswers o ≡ true → Answered (byBook (gads.answerOf o aiou) (gads.leftBy o live))
-        taken (gads.taken l) aiou e = defined _ (bytesOfAll l ++ drop (6 * length l) live) (λ b. bytes-append (areas-bytes l) (bytes-drop (6 * length l) b))
-        taken (gads.refused why) aiou e = not-taken why e
+        taken : (o : gads.Outcome) (aiou siou : ℕ) → takeAnswers o ≡ true → Answered (byBook (gads.answerOf o aiou siou) (gads.leftBy o live))
+        taken (gads.taken l) aiou siou e = defined _ (bytesOfAll l ++ drop (6 * length l) live) (λ b. bytes-append (areas-bytes l) (bytes-drop (6 * length l) b))
+        taken (gads.refused why) aiou siou e = not-taken why e
 
         go : (o : layout.Outcome Message) → judging 2 0 payload ≡ o → Answered (byPayload desk live header payload o)
         go (layout.accepted message codes bits) e =
             subst (λ m. Answered (byMessage desk live header payload m)) (sym (gad-only payload message codes bits e .1))
-            (taken (gads.outcome (desk .book) live payload) _ (outcome-refuses (desk .book) live payload))
+            (taken (gads.outcome (desk .book) live payload) _ _ (outcome-refuses (desk .book) live payload))
         go (layout.refused why) e = not-taken why (gad-refuses payload why e)
 
     by-header : Answered (byHeader desk live header payload)

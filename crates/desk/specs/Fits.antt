@@ -21,7 +21,7 @@ use Rattle.frame.specs.declared.Frame.{Frame}
 use Rattle.frame.specs.declared.Checked.{Checked}
 use Rattle.frame.specs.declared.Checked.the-variants as check
 use Rattle.sizes.specs.Sizes.{tags, bookBytes, logRoom}
-use Rattle.book.specs.Book.{noBook, headSound, areasSound, sound}
+use Rattle.book.specs.Book.{noBook, siouSound, headSound, areasSound, sound}
 use Rattle.book.specs.Take.{takenOf, bytesAfter}
 use Rattle.book.specs.Laws.{sound-room}
 use Rattle.book.specs.Theorems.{stays-sound}
@@ -62,7 +62,7 @@ pub all-three : {a b c : Bool} → a ≡ true → b ≡ true → c ≡ true → 
 all-three p q r = rw (p, q, r)
 
 pub empty-sound : (live : List ℕ) → bookBytes ≤ length live → sound noBook live ≡ true
-unfolding sound headSound areasSound
+unfolding sound siouSound headSound areasSound
 empty-sound live h = rw (le-leb bookBytes (length live) h)
 
 pub handling-sound : (desk : Desk) (second : ℕ) (live run : List ℕ) → deskSound desk live run ≡ true → deskSound (handling desk second) live run ≡ true

@@ -24,6 +24,7 @@ use Rattle.groups.specs.Groups.{groupsOfAll}
 use Rattle.log.specs.Log.{opened, reasonFor, reasonOf, logOf}
 use Rattle.book.specs.Book.{noBook, areasIn}
 use Rattle.book.specs.Take.{Outcome, reading, areasOf, takeAll, before, outcome, answerOf, leftBy}
+use Rattle.book.specs.TakeLaws.{other-aiou}
 use Rattle.book.specs.declared.Book.{Book}
 use Rattle.desk.specs.Desk.{deskWith, deskSound}
 use Rattle.desk.specs.Take.{Handed, hands, Verdict, refused, defines, continues, opens, byBook, byPayload, ours, isSealed, byHeader, byFrame, outage, counted, isGap, handling, noRoom, verdict, takenBy, liveBy, runBytesBy, loggedBy, logBy, saidBy, deskBy, dated, accepting, leaving, leavingBy, Result, results, resultBy, settledBy, frameTaken, settledAs, settled, withSecond, BookHanded, bookTaken}
@@ -148,7 +149,7 @@ pub from-none : (live payload : List ℕ) → bookBytes ≤ length live → (mes
 unfolding outcome before
 from-none live payload h message codes bits q =
     rw (le-ltb (length live) bookBytes h, empty-sound live h, q)
-    (ap (λ b. takeAll (areasOf (message .blocks)) (cond b (areasIn 0 live) [])) (ne-eqb 0 (message .aiou + 1) (λ z. omega arith)))
+    (ap (λ b. takeAll (areasOf (message .blocks)) (cond b (areasIn 0 live) [])) (other-aiou noBook (message .aiou + 1) (message .siou + 1) (λ z. omega arith)))
 
 settled-said : (desk : Desk) (second : ℕ) (answer : Taken) → settled desk second answer .said ≡ answer .said
 settled-said desk second answer = go (answer .said)
@@ -258,7 +259,7 @@ module _ (handed : Handed) (w : deskSound (handed .desk) (handed .live) (handed 
         ∙ ap (λ b. stop b (refused (nowhere refusal.Sealed)) (rest (judging (header .«message_type») (header .subtype) payload))) p
         ∙ ap₂ (λ x y. rest (judging x y payload)) k z
 
-    pub gap-gad : verdict handed ≡ byBook (answerOf fromNone (message .aiou)) (leftBy fromNone (handed .live))
+    pub gap-gad : verdict handed ≡ byBook (answerOf fromNone (message .aiou) (message .siou)) (leftBy fromNone (handed .live))
     unfolding plainVerdict
     gap-gad =
         let h : bookBytes ≤ length (handed .live) = has-room (handed .live) (handed .run) (handed .log) room .live-room in
@@ -267,7 +268,7 @@ module _ (handed : Handed) (w : deskSound (handed .desk) (handed .live) (handed 
         ∙ ap₂ (λ a b. stop a (refused (nowhere refusal.Room)) (stop (not b) (refused (nowhere refusal.State)) (byFrame (emptied handed) (handed .live) (checked (handed .frame)) (handed .frame)))) room empty-is-sound
         ∙ judged
         ∙ ap (byPayload (emptied handed) (handed .live) header payload) r
-        ∙ ap₂ (λ x y. byBook (answerOf x (reading y (λ m. m .aiou) (λ why. 0))) (leftBy x (handed .live))) n r
+        ∙ ap₂ (λ x y. byBook (answerOf x (reading y (λ m. m .aiou) (λ why. 0)) (reading y (λ m. m .siou) (λ why. 0))) (leftBy x (handed .live))) n r
 
 -- A message of the open run is one after a gap as without: told by the run's copy.
 pub still-the-run : (handed : Handed) (book : Book) (message : Hpac) → plainVerdict handed ≡ continues book message → verdict handed ≡ continues book message
@@ -290,9 +291,9 @@ still-told handed book message q =
     (ap (λ v. leaves v .answer .said) e ∙ sym (ap (λ v. plain v .answer .said) q), ap (λ v. leaves v .log) e ∙ sym (ap (λ v. plain v .log) q))
 
 -- Where there is no book every area is left out for reason 1.
-pub no-book-reason : (bytes : List ℕ) (aiou : ℕ) (area : Area) → reasonOf noBook bytes aiou area ≡ 1
+pub no-book-reason : (bytes : List ℕ) (aiou siou : ℕ) (area : Area) → reasonOf noBook bytes aiou siou area ≡ 1
 unfolding reasonFor
-no-book-reason bytes aiou area = refl
+no-book-reason bytes aiou siou area = refl
 
 -- "449 is no gap, 450 is"
 pub no-gap-449 : (second : ℕ) → isGap (At second) (second + 449) ≡ false

@@ -15,4 +15,5 @@ pub mod Entries
 pub mod Theorems
 pub mod Gap
 pub mod Display
+pub mod Updates
 pub mod Determined

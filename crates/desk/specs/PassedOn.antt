@@ -57,9 +57,9 @@ module _ (why : answer.Fault) (sf at : ℕ) (p : why .place ≡ At sf at) where
       go true e = let z : _≡_ {A = ℕ} 0 1 = cc in omega arith
       go false e = let z : _≡_ {A = ℕ} 0 1 = cc in omega arith
 
-  not-gad : (o : gads.Outcome) (aiou : ℕ) (live : List ℕ) → Placeless o → byBook (gads.answerOf o aiou) (gads.leftBy o live) ≡ refused why → ⊥
-  not-gad (gads.taken l) aiou live h e = let z : _≡_ {A = ℕ} 0 1 = cc in omega arith
-  not-gad (gads.refused w) aiou live h e = let z : w ≡ why = cc in no-place (sym h ∙ ap (λ (x : answer.Fault). x .place) z)
+  not-gad : (o : gads.Outcome) (aiou siou : ℕ) (live : List ℕ) → Placeless o → byBook (gads.answerOf o aiou siou) (gads.leftBy o live) ≡ refused why → ⊥
+  not-gad (gads.taken l) aiou siou live h e = let z : _≡_ {A = ℕ} 0 1 = cc in omega arith
+  not-gad (gads.refused w) aiou siou live h e = let z : w ≡ why = cc in no-place (sym h ∙ ap (λ (x : answer.Fault). x .place) z)
 
   -- ---- so a place is the payload's
 
@@ -90,7 +90,7 @@ module _ (why : answer.Fault) (sf at : ℕ) (p : why .place ≡ At sf at) where
     not-read (hpacMessage constellation body) codes used o e q =
         not-run (desk .run) (tagOf header) body (past (badTag header) refusal.Tag (byRun (desk .run) (tagOf header) body) q .1)
     not-read (gadMessage body) codes used o e q =
-        not-gad (gads.outcome (desk .book) live payload) _ live (outcome-placeless (desk .book) live payload body codes used (two-zero body codes used o e)) q
+        not-gad (gads.outcome (desk .book) live payload) _ _ live (outcome-placeless (desk .book) live payload body codes used (two-zero body codes used o e)) q
     not-read (ocbMessage constellation body) codes used o e q = not-plain refusal.NotOurs q
     not-read (bpacMessage body) codes used o e q = not-plain refusal.NotOurs q
 

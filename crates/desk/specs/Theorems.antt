@@ -13,7 +13,7 @@ use Rattle.area.specs.declared.AreaId.{AreaId}
 use Rattle.area.specs.Area.{areaId}
 use Rattle.hpac.specs.Hpac.{Area, Hpac}
 use Rattle.sizes.specs.Sizes.{tags, bookBytes, logRoom}
-use Rattle.book.specs.Book.{noBook, headSound, areasSound, sound, isHeld, placeOf, found}
+use Rattle.book.specs.Book.{noBook, siouSound, headSound, areasSound, sound, isHeld, placeOf, found}
 use Rattle.book.specs.Laws.{sound-room}
 use Rattle.book.specs.declared.Book.{Book}
 use Rattle.log.specs.Log.{opened, bitsFor, reasonFor, reasonOf, troposphereIn, satellitesIn, entryOf, entriesOf as logEntries, logOf}
@@ -76,7 +76,7 @@ stays-sound held given e = sound-by (handled held given) (handled-sound held giv
 -- a new desk is sound, with any bytes lent for its books
 pub new-sound : (solution processor constellation : ℕ) (desk : Desk) (live run : List ℕ) → newDesk solution processor constellation ≡ Made desk → bookBytes ≤ length live
     → deskSound desk live run ≡ true
-unfolding newDesk deskSound sound headSound areasSound
+unfolding newDesk deskSound sound siouSound headSound areasSound
 new-sound solution processor constellation desk live run e h = go (sourceInRange solution processor) refl (constellationFor constellation) e
   where
     go : (b : Bool) → sourceInRange solution processor ≡ b → (s : Subtype) → cond b (madeFor solution processor s) (Refused Field) ≡ Made desk → deskSound desk live run ≡ true
@@ -89,17 +89,17 @@ new-sound solution processor constellation desk live run e h = go (sourceInRange
 -- ---- which definition placed this residual
 
 -- the log of a message is settled by what each ID finds in the book
-entry-same : (book : Book) (s t : List ℕ) → ((id : AreaId) → found book s id ≡ found book t id) → (aiou : ℕ) (x : Area) → entryOf book s aiou x ≡ entryOf book t aiou x
+entry-same : (book : Book) (s t : List ℕ) → ((id : AreaId) → found book s id ≡ found book t id) → (aiou siou : ℕ) (x : Area) → entryOf book s aiou siou x ≡ entryOf book t aiou siou x
 unfolding reasonFor
-entry-same book s t h aiou x = rw (h (areaId (x .id)))
+entry-same book s t h aiou siou x = rw (h (areaId (x .id)))
 
 entries-same : (book : Book) (s t : List ℕ) → ((id : AreaId) → found book s id ≡ found book t id) → (message : Hpac) → logEntries book s message ≡ logEntries book t message
 unfolding logEntries
 entries-same book s t h message = go (message .areas)
   where
-    go : (xs : List Area) → map (entryOf book s (message .aiou)) xs ≡ map (entryOf book t (message .aiou)) xs
+    go : (xs : List Area) → map (entryOf book s (message .aiou) (message .siou)) xs ≡ map (entryOf book t (message .aiou) (message .siou)) xs
     go [] = refl
-    go (x ∷ xs) = ap₂ (λ a b. a ∷ b) (entry-same book s t h (message .aiou) x) (go xs)
+    go (x ∷ xs) = ap₂ (λ a b. a ∷ b) (entry-same book s t h (message .aiou) (message .siou) x) (go xs)
 
 log-same : (book : Book) (s t : List ℕ) → ((id : AreaId) → found book s id ≡ found book t id) → (message : Hpac) → logOf book s message ≡ logOf book t message
 unfolding logOf
@@ -169,10 +169,10 @@ pub which-definition : (start : Course) → KeptOn start → (before : List Give
 which-definition start k before given = told (along start before) given (always-kept start before k)
 
 -- In it an area is placed, entry 2, with the 47 bits that its ID has in that book.
-pub placed-with : (opening : Snapshot) (aiou : ℕ) (x : Area) → reasonOf (opening .book) (opening .bytes) aiou x ≡ 0
-    → entryOf (opening .book) (opening .bytes) aiou x
+pub placed-with : (opening : Snapshot) (aiou siou : ℕ) (x : Area) → reasonOf (opening .book) (opening .bytes) aiou siou x ≡ 0
+    → entryOf (opening .book) (opening .bytes) aiou siou x
     ≡ entry.placed (x .id) (bitsFor (opening .book) (opening .bytes) (x .id)) (troposphereIn x) (satellitesIn x)
-placed-with opening aiou x e = rw e
+placed-with opening aiou siou x e = rw e
 
 -- ---- an area book that is changed between two messages never mixes in one run
 

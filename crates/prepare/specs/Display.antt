@@ -27,7 +27,7 @@ for-bytes : (opening : Snapshot) (books : Held) (second : ℕ) (event : Event) �
 for-bytes opening books second (frame header bytes) = under-bytes opening (verdictOn books second bytes)
 for-bytes opening books second (noise count) = refl
 
-placed-bytes : (c : Course) → Sound (c .held) → (seconds : Seconds) (events : List Event)
+pub placed-bytes : (c : Course) → Sound (c .held) → (seconds : Seconds) (events : List Event)
     → placedLog (c .held) seconds (c .opening) events ≡ joined bytesOf (entriesAll (c .held) seconds (c .opening) events)
 unfolding placedLog entriesAll
 placed-bytes c s seconds [] = refl

@@ -11,5 +11,6 @@ pub mod Placing
 pub mod Entries
 pub mod Theorems
 pub mod Display
+pub mod Updates
 pub mod Moves
 pub mod Determined
