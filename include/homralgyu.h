@@ -41,7 +41,7 @@ extern "C" {
 #define HOMRALGYU_LONGEST_FRAME 1103 /* also a tray */
 #define HOMRALGYU_SHEET_ROOM 8184
 #define HOMRALGYU_BOOK_BYTES 192
-#define HOMRALGYU_KEPT_ROOM 227
+#define HOMRALGYU_KEPT_ROOM 229
 #define HOMRALGYU_LOG_ROOM 4096
 
 /* An answer of 64 bits, taken apart: document 01's number; the number of the field at fault, 20 for SF020, or 0 if there is no place; and
@@ -138,24 +138,31 @@ uint8_t homralgyu_stream_call(uint8_t *bytes, size_t bytes_len, uint64_t *tray, 
 uint8_t homralgyu_stream_finish(uint8_t *bytes, size_t bytes_len, uint64_t *tray, size_t tray_len, uint64_t *told, size_t told_len,
                                 uint64_t *header, size_t header_len);
 
-/* A book is two numbers, AIOU and count of areas, and 192 bytes, six an area. Without areas it has no AIOU: the number does not count
- * and is written as 0.
- *
- * Takes the payload of a GAD into the book, whole or not at all.
- * Refusals in order: ROOM (book, 2; bytes, 192), STATE (the book is not sound), LENGTH, the payload's first fault (SHORT or FIELD, with SF
+/* A book is three numbers and 192 bytes, six an area. The first two are those of the GAD that filled it. Without areas it has neither: neither
+ * number counts, and both are written as 0. With areas, an AIOU over 15 or a SIOU + 1 over 512 is STATE. */
+enum homralgyu_book {
+    HOMRALGYU_BOOK_AIOU,          /* SF068, 0 to 15 */
+    HOMRALGYU_BOOK_SIOU_PLUS_ONE, /* SF005 + 1, 1 to 512; or 0, the SIOU is unknown */
+    HOMRALGYU_BOOK_AREAS,         /* their count, 0 to 32 */
+    HOMRALGYU_BOOK                /* the room that the numbers want: 3 */
+};
+
+/* Takes the payload of a GAD into the book, whole or not at all. A GAD with another AIOU or another SIOU than the book's begins a new book, one with
+ * both the same adds to it. Over a book of unknown SIOU every SIOU is another.
+ * Refusals in order: ROOM (book, 3; bytes, 192), STATE (the book is not sound), LENGTH, the payload's first fault (SHORT or FIELD, with SF
  * number and bit of the payload), then at the first faulty block AREA_OFF, CONFLICT, BOOK_FULL, without a place.
  * Writes the book's numbers, and six bytes an area. */
 uint64_t homralgyu_book_take(uint64_t *book, size_t book_len, uint8_t *bytes, size_t bytes_len, const uint8_t *payload,
                              size_t payload_len);
 
-/* Writes a book as a kept book.
- * Refusals in order: ROOM (book, 2; written, 1; bytes, 192; out, 227), STATE (the book is not sound).
+/* Writes a book as a kept book, of form 2.
+ * Refusals in order: ROOM (book, 3; written, 1; bytes, 192; out, 229), STATE (the book is not sound).
  * Writes the kept book into out, and how many bytes it has into written. */
 uint8_t homralgyu_kept_write(const uint64_t *book, size_t book_len, const uint8_t *bytes, size_t bytes_len, uint8_t *out,
                              size_t out_len, uint64_t *written, size_t written_len);
 
-/* Reads a kept book.
- * Refusals in order: ROOM (book, 2; bytes, 192), the first fault in reading order, SHORT or FORM, then LEFTOVER.
+/* Reads a kept book, of form 1 or 2. One of form 1, which has no SIOU, is a book of unknown SIOU.
+ * Refusals in order: ROOM (book, 3; bytes, 192), the first fault in reading order, SHORT or FORM, then LEFTOVER.
  * Writes the book's numbers, and six bytes an area. */
 uint8_t homralgyu_kept_read(const uint8_t *kept, size_t kept_len, uint64_t *book, size_t book_len, uint8_t *bytes, size_t bytes_len);
 
@@ -227,20 +234,23 @@ uint64_t homralgyu_hpac_area(uint8_t subtype, uint8_t id, const uint64_t *sheet,
 uint64_t homralgyu_bpac_area(uint8_t id, const uint64_t *sheet, size_t sheet_len, uint64_t *view, size_t view_len, double *floats,
                              size_t floats_len);
 
-/* A desk is eleven numbers and the bytes of two books, 192 each: the live book's and the run's. */
+/* A desk is thirteen numbers and the bytes of two books, 192 each: the live book's and the run's. The three numbers of a book stand together as enum
+ * homralgyu_book has them: &desk[HOMRALGYU_DESK_AIOU] is the live book to be kept. */
 enum homralgyu_desk {
     HOMRALGYU_DESK_SOLUTION,      /* TF010, 0 to 127 */
     HOMRALGYU_DESK_PROCESSOR,     /* TF011, 0 to 15 */
     HOMRALGYU_DESK_CONSTELLATION, /* 0 GPS, 1 GLONASS, 2 Galileo, 3 BeiDou, 4 QZSS */
-    HOMRALGYU_DESK_AIOU,          /* of the live book; without areas it does not count and is written as 0 */
-    HOMRALGYU_DESK_AREAS,         /* of the live book: their count */
+    HOMRALGYU_DESK_AIOU,          /* of the live book, as the two below; without areas AIOU and SIOU + 1 do not count and are written as 0 */
+    HOMRALGYU_DESK_SIOU_PLUS_ONE, /* 0 if it is unknown */
+    HOMRALGYU_DESK_AREAS,         /* their count */
     HOMRALGYU_DESK_OPEN,          /* 1 if a run is open, 0 if none is */
-    HOMRALGYU_DESK_TAG,           /* of the open run, as the two below; without one they do not count and are written as 0 */
-    HOMRALGYU_DESK_RUN_AIOU,
+    HOMRALGYU_DESK_TAG,           /* of the open run; the three below are its book's. Without one all four do not count and are written as 0 */
+    HOMRALGYU_DESK_RUN_AIOU,      /* as of the live book */
+    HOMRALGYU_DESK_RUN_SIOU_PLUS_ONE,
     HOMRALGYU_DESK_RUN_AREAS,
     HOMRALGYU_DESK_DATED,         /* 1 if some frame was accepted, 0 if none was yet */
     HOMRALGYU_DESK_SECOND,        /* of the last accepted frame, any; without one it does not count and is written as 0 */
-    HOMRALGYU_DESK                /* the room that a desk wants: 11 */
+    HOMRALGYU_DESK                /* the room that a desk wants: 13 */
 };
 
 /* Seconds. Each frame is handed to a desk with the second it came in: a running count of seconds that the caller keeps, as of a clock that nobody
@@ -249,8 +259,8 @@ enum homralgyu_desk {
  * second earlier than the last accepted frame's counts as that one, so the second kept never falls. Before the first accepted frame no time
  * counts as passed.
  * A gap: if 450 seconds or more have passed since the last accepted frame (SF068), this one is judged and handled with an empty live book. If it
- * is accepted, the old book is gone: a GAD leaves its own areas, an HPAC message none. If it is refused, the old book stays. An open run keeps
- * its copy.
+ * is accepted, the old book is gone: a GAD leaves its own areas, AIOU and SIOU, an HPAC message no area, no AIOU and an unknown SIOU. If it is
+ * refused, the old book stays. An open run keeps its copy.
  * What the caller has to see to, since no call can:
  *   - the same count goes on for as long as a desk is in use. On one that is kept over a restart of the machine or handed to another, where the
  *     count has another start, no gap is seen until the new count has caught up with the old one; where it is 450 or more ahead, a gap is seen
@@ -261,25 +271,30 @@ enum homralgyu_desk {
  *   - homralgyu_prepare_call and homralgyu_prepare_finish hand a frame over with the second of the call that tells it. Behind bytes that look like
  *     the start of a longer frame that may be a later call than the one that brought its last byte; behind a stall it counts as come after the gap;
  *   - lookup and keeping get no second: after a gap they show the old book until a frame is accepted;
- *   - a kept book that is taken before any accepted frame is used however old it is; one that is taken later counts as old as the last accepted
- *     frame: if the next accepted one comes 450 seconds or more after that, the book is emptied, however new it is;
+ *   - a kept book that is taken before any accepted frame is used however old it is, for messages of its AIOU and SIOU; one that is taken later
+ *     counts as old as the last accepted frame: if the next accepted one comes 450 seconds or more after that, the book is emptied, however new it
+ *     is;
  *   - the copy of an open run has no second: a message of its tag is told by it after any outage, also one of 510 seconds, after which SF005 has
- *     the solution taken as changed, and one of twelve hours, after which the tag comes round. */
+ *     the solution taken as changed, and one of twelve hours, after which the tag comes round;
+ *   - a book that an older version kept (form 1) has an unknown SIOU: it is looked up as ever, but no area of it is ever placed, and the next GAD that
+ *     is taken begins a new one;
+ *   - a book places by its own SIOU alone. Where the SIOU of HPAC messages moves on, none of their areas is placed until a GAD of the new SIOU has
+ *     come and after it a run has opened. */
 
 /* A new desk, without a book, a run and a last accepted frame; its books' bytes may be anything.
- * Refusals in order: ROOM (desk, 11), FIELD (solution over 127, processor over 15, constellation over 4).
+ * Refusals in order: ROOM (desk, 13), FIELD (solution over 127, processor over 15, constellation over 4).
  * Writes the desk. */
 uint8_t homralgyu_desk_new(uint8_t solution, uint8_t processor, uint8_t constellation, uint64_t *desk, size_t desk_len);
 
 /* Whether a desk and its two books are sound: 0 if they are.
- * Refusals in order: ROOM (desk, 11; live, 192; run, 192), STATE (a number out of its range, an unsound live book, or, if a run is open, an
+ * Refusals in order: ROOM (desk, 13; live, 192; run, 192), STATE (a number out of its range, an unsound live book, or, if a run is open, an
  * unsound book of the run). */
 uint8_t homralgyu_desk_is_sound(const uint64_t *desk, size_t desk_len, const uint8_t *live, size_t live_len, const uint8_t *run,
                                 size_t run_len);
 
 /* Takes a frame that came in at this second: a GAD into the live book; an HPAC message into the run log by the run's book, after opening a run if
  * its tag is another; after a gap with an empty live book.
- * Refusals in order: ROOM (desk, 11; written, 1; live, 192; run, 192; log, 4,096), STATE (the desk is not sound), those of homralgyu_frame_check,
+ * Refusals in order: ROOM (desk, 13; written, 1; live, 192; run, 192; log, 4,096), STATE (the desk is not sound), those of homralgyu_frame_check,
  * NOT_OURS, SEALED, the payload's first fault (SHORT, FIELD or MASK_EMPTY, with SF number and bit of the frame's payload, counted from its first
  * bit), then for HPAC TAG, for GAD AREA_OFF, CONFLICT, BOOK_FULL, without a place. SHORT with SF number 0 is the frame's own.
  * Writes the desk, of both books bytes of areas that they hold, the entries of the run log into log, and how many bytes they have into written. */
@@ -287,21 +302,21 @@ uint64_t homralgyu_desk_take(const uint8_t *frame, size_t frame_len, uint64_t se
                              size_t live_len, uint8_t *run, size_t run_len, uint8_t *log, size_t log_len, uint64_t *written,
                              size_t written_len);
 
-/* Takes a book (two numbers and its bytes, as homralgyu_kept_read gives them) as the live book. An open run stays as it is, and so does the
+/* Takes a book (three numbers and its bytes, as homralgyu_kept_read gives them) as the live book. An open run stays as it is, and so does the
  * second of the last accepted frame.
- * Refusals in order: ROOM (desk, 11; book, 2; bytes, 192; live, 192; run, 192), STATE (the desk or the book is not sound).
+ * Refusals in order: ROOM (desk, 13; book, 3; bytes, 192; live, 192; run, 192), STATE (the desk or the book is not sound).
  * Writes the desk, and six bytes an area into live. */
 uint8_t homralgyu_desk_take_book(uint64_t *desk, size_t desk_len, uint8_t *live, size_t live_len, const uint8_t *run, size_t run_len,
                                  const uint64_t *book, size_t book_len, const uint8_t *bytes, size_t bytes_len);
 
 /* Looks an area up by its ID: out of the run's book if a run is open, else out of the live book.
  * Refusals: ROOM (area, 6; found, 1).
- * Writes the area's six bytes into area, and 6 into found. An absent ID, a desk under eleven numbers, a book under 192 bytes, and a desk or book
+ * Writes the area's six bytes into area, and 6 into found. An absent ID, a desk under thirteen numbers, a book under 192 bytes, and a desk or book
  * that is not sound are no refusals: 0 is written into found, and nothing into area. */
 uint8_t homralgyu_desk_find(const uint64_t *desk, size_t desk_len, const uint8_t *live, size_t live_len, const uint8_t *run,
                             size_t run_len, uint8_t id, uint8_t *area, size_t area_len, uint64_t *found, size_t found_len);
 
-/* The same in one book, of two numbers and its bytes. */
+/* The same in one book, of three numbers and its bytes. */
 uint8_t homralgyu_book_find(const uint64_t *book, size_t book_len, const uint8_t *bytes, size_t bytes_len, uint8_t id, uint8_t *area,
                             size_t area_len, uint64_t *found, size_t found_len);
 
@@ -320,7 +335,7 @@ enum homralgyu_told {
 /* homralgyu_prepare_call takes input until an event is due or all of it is used, and gives a frame to the desk, with this second;
  * homralgyu_prepare_finish is called at the stream's end until it says done. Tray and its bytes are those of homralgyu_stream_call, desk and
  * the bytes of its two books, live and run, those of homralgyu_desk_take.
- * Refusals in order: ROOM (tray, 3; desk, 11; told, 7; header, 15; bytes, 1,103; live, 192; run, 192; log, 4,096), STATE (the tray or
+ * Refusals in order: ROOM (tray, 3; desk, 13; told, 7; header, 15; bytes, 1,103; live, 192; run, 192; log, 4,096), STATE (the tray or
  * the desk is not sound). A frame that the desk refuses is an event like another, with the refusal's number and place in told, as
  * homralgyu_desk_take has them; books and log stay.
  * Writes the tray and its bytes, the desk and its books, told, and the frame's entries of the run log from the log's start on. Of a
@@ -342,7 +357,7 @@ enum homralgyu_entry {
     HOMRALGYU_ENTRY_AIOU_PLUS_ONE, /* AIOU + 1, 0 without a book, */
     HOMRALGYU_ENTRY_COUNT,         /* the count of areas in its book; nothing more is written */
     HOMRALGYU_ENTRY_ID = 2,        /* of an area: its ID, */
-    HOMRALGYU_ENTRY_REASON,        /* if it is left out the reason, 1 to 4 as below, and nothing more is written; */
+    HOMRALGYU_ENTRY_REASON,        /* if it is left out the reason, 1 to 5 as below, and nothing more is written; */
     HOMRALGYU_ENTRY_BITS = 3,      /* if it is placed the 47 bits as a number, which lie as below, */
     HOMRALGYU_ENTRY_T,             /* T, how many troposphere residuals it has, */
     HOMRALGYU_ENTRY_T_SIZE,        /* their SF051 code, 0 if T is 0, */
@@ -351,8 +366,9 @@ enum homralgyu_entry {
     HOMRALGYU_ENTRY                /* the room that an entry wants: 8 */
 };
 
-/* The reasons for which an area is left out: 1 the run has no book, 2 the message has another AIOU than the run's book, 3 the ID is not in
- * that book, 4 SF039 differs from the area's count of nodes.
+/* The reasons for which an area is left out, the first that applies of 1 the run has no book, 2 the message has another AIOU than the run's book, 5 it
+ * has another SIOU, or that of the book is unknown, 3 the ID is not in that book, 4 SF039 differs from the area's count of nodes. An entry of a run
+ * does not tell the SIOU.
  *
  * The 47 bits are SF031 (8 bits), SF032 (11), SF033 (12), SF034 (3), SF035 (3), SF036 (5) and SF037 (5), the first highest: SF037 is
  * bits % 32, SF036 bits / 32 % 32. homralgyu_value gives degrees for SF032, SF033, SF036 and SF037 (latitude and longitude of the reference

@@ -1,7 +1,8 @@
 /* One job in C: messages come as a stream with noise before them, in portions of 40 bytes. Each event of the stream is printed by its number;
  * then a desk is made, the same stream is prepared, a portion a second, and each event is printed with the log bytes that it adds, and these are
  * read back entry by entry; of the last message a byte is lost, and the desk says where it ends too early. Then an area is looked up, a message
- * comes before and after a gap, and the book is kept and taken in by a second desk. Last come views of two sheets, and where a third is at fault. */
+ * comes before and after a gap, the provider restarts its solver while a run is open, and the book is kept and taken in by a second desk, and one
+ * that an older version kept by a third. Last come views of two sheets, and where a third is at fault. */
 #include "homralgyu.h"
 
 #include <stdio.h>
@@ -285,18 +286,92 @@ static void tell_gap(const struct job *job)
     tell_later(job, &message, OUTAGE);
 }
 
+/* The three numbers of a book. */
+static void tell_book(const char *what, const uint64_t *book)
+{
+    printf("%s: AIOU %u, SIOU ", what, (unsigned)book[HOMRALGYU_BOOK_AIOU]);
+    if (book[HOMRALGYU_BOOK_SIOU_PLUS_ONE] == 0)
+        printf("unknown");
+    else
+        printf("%u", (unsigned)book[HOMRALGYU_BOOK_SIOU_PLUS_ONE] - 1);
+    printf(", areas %u\n", (unsigned)book[HOMRALGYU_BOOK_AREAS]);
+}
+
+/* A frame at the second of the last accepted one, and the entries that it adds. */
+static void take(struct job *job, const struct input *frame)
+{
+    uint64_t written[1];
+    must(homralgyu_desk_take(frame->bytes, frame->size, job->desk[HOMRALGYU_DESK_SECOND], job->desk, HOMRALGYU_DESK, job->live,
+                             sizeof job->live, job->run, sizeof job->run, job->log, sizeof job->log, written, 1),
+         "desk_take");
+    read_log(job->log, written[0]);
+}
+
+/* Area 5 as in make_input, defined by a GAD with this SIOU. */
+static void take_definition(struct job *job, uint64_t siou)
+{
+    const uint64_t gad[] = {siou, 3, 0, 0, 5, 900, 0, 1, 0, 0, 0};
+    struct input frame = {.size = 0};
+    add(&frame, GAD, SOLUTION, 0, gad, sizeof gad / sizeof *gad);
+    take(job, &frame);
+}
+
+/* A message for area 5 with this SIOU and tag. */
+static void take_message(struct job *job, uint64_t siou, uint64_t tag)
+{
+    const uint64_t bare[] = {siou, 3, 0, 0, 5, 9, 0, 0};
+    struct input frame = {.size = 0};
+    add(&frame, HPAC, SOLUTION, tag, bare, sizeof bare / sizeof *bare);
+    printf("a message of SIOU %u, tag %u:\n", (unsigned)siou, (unsigned)tag);
+    take(job, &frame);
+}
+
+/* On a copy of this desk, whose run of tag 9 is open with SIOU 0: the provider restarts its solver, keeps its AIOU and bumps its SIOU. No area is
+ * joined with residuals of another solution: in the open run those of the new one are left out, for reason 5, in the next one those of the old. */
+static void tell_restart(const struct job *job)
+{
+    struct job then = *job;
+    take_definition(&then, 299);
+    tell_book("the live book", &then.desk[HOMRALGYU_DESK_AIOU]);
+    tell_book("the run's book", &then.desk[HOMRALGYU_DESK_RUN_AIOU]);
+    take_message(&then, 299, 9);
+    take_message(&then, 0, 9);
+    take_message(&then, 299, 10);
+    take_message(&then, 0, 10);
+}
+
+/* A kept book, taken in by a desk. */
+static void take_kept(struct job *to, const uint8_t *kept, size_t size)
+{
+    uint8_t bytes[HOMRALGYU_BOOK_BYTES];
+    uint64_t book[HOMRALGYU_BOOK];
+    print_bytes("kept", kept, size);
+    must(homralgyu_kept_read(kept, size, book, HOMRALGYU_BOOK, bytes, sizeof bytes), "kept_read");
+    tell_book("read", book);
+    must(homralgyu_desk_take_book(to->desk, HOMRALGYU_DESK, to->live, sizeof to->live, to->run, sizeof to->run, book, HOMRALGYU_BOOK,
+                                  bytes, sizeof bytes),
+         "desk_take_book");
+}
+
 /* The live book of one desk, kept, and taken in by another. */
 static void hand_over(const struct job *from, struct job *to)
 {
-    uint8_t kept[HOMRALGYU_KEPT_ROOM], bytes[HOMRALGYU_BOOK_BYTES];
-    uint64_t written[1], book[2];
-    must(homralgyu_kept_write(&from->desk[HOMRALGYU_DESK_AIOU], 2, from->live, sizeof from->live, kept, sizeof kept, written, 1),
+    uint8_t kept[HOMRALGYU_KEPT_ROOM];
+    uint64_t written[1];
+    must(homralgyu_kept_write(&from->desk[HOMRALGYU_DESK_AIOU], HOMRALGYU_BOOK, from->live, sizeof from->live, kept, sizeof kept,
+                              written, 1),
          "kept_write");
-    print_bytes("kept", kept, written[0]);
-    must(homralgyu_kept_read(kept, written[0], book, 2, bytes, sizeof bytes), "kept_read");
-    must(homralgyu_desk_take_book(to->desk, HOMRALGYU_DESK, to->live, sizeof to->live, to->run, sizeof to->run, book, 2, bytes,
-                                  sizeof bytes),
-         "desk_take_book");
+    take_kept(to, kept, written[0]);
+}
+
+/* The same book as an older version kept it, in form 1, which has no SIOU: no area of it is ever placed. */
+static void take_older(struct job *to)
+{
+    const uint8_t kept[] = {0x01, 0x04, 0x01, 0x80, 0xC0, 0x80, 0x80, 0x84, 0x57};
+    take_kept(to, kept, sizeof kept);
+    take_message(to, 0, 9);
+    take_definition(to, 0);
+    take_message(to, 0, 10);
 }
 
 /* An area of a GAD in degrees, and a satellite with an orbit block and its yaw. */
@@ -329,19 +404,22 @@ static void look_wrong(void)
 
 int main(void)
 {
-    static struct job stream, job, next; /* zeros: a tray has to start so */
+    static struct job stream, job, next, last; /* zeros: a tray has to start so */
     static struct input input;
     make_input(&input);
     listen(&stream, &input);
     printf("a desk for constellation 5: %u\n", homralgyu_desk_new(SOLUTION, PROCESSOR, 5, job.desk, HOMRALGYU_DESK));
     must(homralgyu_desk_new(SOLUTION, PROCESSOR, GPS, job.desk, HOMRALGYU_DESK), "desk_new");
     must(homralgyu_desk_new(SOLUTION, PROCESSOR, GPS, next.desk, HOMRALGYU_DESK), "desk_new");
+    must(homralgyu_desk_new(SOLUTION, PROCESSOR, GPS, last.desk, HOMRALGYU_DESK), "desk_new");
     prepare(&job, &input);
     find(&job, 5);
     find(&job, 6);
     tell_gap(&job);
+    tell_restart(&job);
     hand_over(&job, &next);
     find(&next, 5);
+    take_older(&last);
     look();
     look_wrong();
     return 0;

@@ -1,26 +1,32 @@
 //! The wrapper in use: a frame written, found in a stream behind three bytes of noise, and its payload read; where a payload and a sheet are at fault;
-//! then a desk that takes two messages, the run log read back, a desk before and after a gap, and views of two sheets.
+//! then a desk that takes two messages, the run log read back, a desk before and after a gap, one whose provider restarts its
+//! solver, a book kept and an older one read, and views of two sheets.
 
-use homralgyu::{Desk, Entry, Event, Fault, Parts, Stream};
+use homralgyu::{Book, Desk, Entry, Event, Fault, Parts, Stream};
+
+/// A sheet of GPS as a payload, and its bits.
+fn payload_of(message_type: u8, sheet: &[u64]) -> Result<(Vec<u8>, usize), Fault> {
+    let mut payload = vec![0; homralgyu::LONGEST_PAYLOAD];
+    let (bits, bytes) = homralgyu::write_sheet(message_type, 0, sheet, &mut payload)?;
+    payload.truncate(bytes);
+    Ok((payload, bits))
+}
+
+/// A payload as a plain frame.
+fn framed(message_type: u8, tag: u64, payload: &[u8]) -> Result<Vec<u8>, Fault> {
+    let parts =
+        Parts { message_type, check_type: 2, subtype: 0, tag_kind: 0, tag, solution: 5, processor: 11 };
+    let mut frame = vec![0; homralgyu::LONGEST_FRAME];
+    let length = homralgyu::write(&parts, payload, &mut frame)?;
+    frame.truncate(length);
+    Ok(frame)
+}
 
 /// A sheet of GPS as a plain frame.
 fn frame_of(message_type: u8, sheet: &[u64]) -> Result<Vec<u8>, Fault> {
-    let mut payload = [0; homralgyu::LONGEST_PAYLOAD];
-    let (bits, bytes) = homralgyu::write_sheet(message_type, 0, sheet, &mut payload)?;
-    println!("payload of {bits} bits in {bytes} bytes");
-    let parts = Parts {
-        message_type,
-        check_type: 2,
-        subtype: 0,
-        tag_kind: 0,
-        tag: 43199,
-        solution: 5,
-        processor: 11,
-    };
-    let mut frame = vec![0; homralgyu::LONGEST_FRAME];
-    let length = homralgyu::write(&parts, &payload[..bytes], &mut frame)?;
-    frame.truncate(length);
-    Ok(frame)
+    let (payload, bits) = payload_of(message_type, sheet)?;
+    println!("payload of {bits} bits in {} bytes", payload.len());
+    framed(message_type, 43199, &payload)
 }
 
 fn find_and_read() -> Result<(), Fault> {
@@ -94,7 +100,8 @@ fn desk() -> Result<(), Fault> {
     let slant = frame_of(1, &[0, 3, 0, 0, 5, 2, 0, 2, 0, 0, 1 << 31, 0, 0, 0, 0, 15, 8])?;
     let written = desk.take(&slant, 1001, &mut log)?;
     read_log(&log[..written])?;
-    gap(&definition, &message)
+    gap(&definition, &message)?;
+    restart()
 }
 
 /// A message that opens a run, 449 seconds behind the definition and 450, which is a gap; and a frame that is cut, after a gap.
@@ -116,6 +123,60 @@ fn gap(definition: &[u8], message: &[u8]) -> Result<(), Fault> {
         );
     }
     Ok(())
+}
+
+/// Area 5, defined by a GAD with this SIOU.
+fn definition_by(siou: u64) -> Result<Vec<u8>, Fault> {
+    framed(2, 0, &payload_of(2, &[siou, 3, 0, 0, 5, 900, 0, 1, 0, 0, 0])?.0)
+}
+
+/// The entries that an HPAC message with this SIOU and tag adds for area 5, of which it has no grids.
+fn tell(desk: &mut Desk, siou: u64, tag: u64) -> Result<(), Fault> {
+    let message = framed(1, tag, &payload_of(1, &[siou, 3, 0, 0, 5, 9, 0, 0])?.0)?;
+    let mut log = [0; homralgyu::LOG_ROOM];
+    let written = desk.take(&message, 1000, &mut log)?;
+    let mut rest = &log[..written];
+    while !rest.is_empty() {
+        let (entry, used) = homralgyu::read_entry(rest)?;
+        match entry {
+            Entry::Placed { id, nodes, .. } => println!("SIOU {siou}: area {id} placed on {nodes} nodes"),
+            other => println!("SIOU {siou}: {other:?}"),
+        }
+        rest = &rest[used..];
+    }
+    Ok(())
+}
+
+/// A provider restarts its solver: it keeps its AIOU and bumps its SIOU, and its GAD comes while a run is open. No area is
+/// joined with residuals of another solution: in the open run those of the new one are left out, for reason 5, and in the next
+/// one those of the old one.
+fn restart() -> Result<(), Fault> {
+    let mut log = [0; homralgyu::LOG_ROOM];
+    let mut desk = Desk::new(5, 11, 0)?;
+    desk.take(&definition_by(298)?, 1000, &mut log)?;
+    tell(&mut desk, 298, 100)?;
+    desk.take(&definition_by(299)?, 1000, &mut log)?;
+    println!("live book: AIOU {:?}, SIOU {:?}", desk.book().aiou(), desk.book().siou());
+    tell(&mut desk, 299, 100)?;
+    tell(&mut desk, 298, 100)?;
+    tell(&mut desk, 299, 101)?;
+    tell(&mut desk, 298, 101)?;
+    keep(&desk)
+}
+
+/// The live book kept, and one that an older version kept, in form 1, which has no SIOU: no area of it is ever placed.
+fn keep(desk: &Desk) -> Result<(), Fault> {
+    let mut kept = [0; homralgyu::KEPT_ROOM];
+    let written = desk.book().keep(&mut kept)?;
+    println!("kept {:02X?}", &kept[..written]);
+    println!("read back: SIOU {:?}", Book::kept(&kept[..written])?.siou());
+    let older = Book::kept(&[0x01, 0x04, 0x01, 0x80, 0xC0, 0x80, 0x80, 0x84, 0x57])?;
+    println!("of form 1: AIOU {:?}, SIOU {:?}, area 5 {:02X?}", older.aiou(), older.siou(), older.find(5));
+    let mut desk = Desk::new(5, 11, 0)?;
+    desk.take_book(&older)?;
+    tell(&mut desk, 299, 102)?;
+    desk.take(&definition_by(299)?, 1000, &mut [0; homralgyu::LOG_ROOM])?;
+    tell(&mut desk, 299, 103)
 }
 
 /// The run log entry by entry, with the residuals of each area that is placed.

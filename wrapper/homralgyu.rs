@@ -31,7 +31,7 @@ pub const SHEET_ROOM: usize = 8184;
 /// The bytes of a book.
 pub const BOOK_BYTES: usize = 192;
 /// The bytes that writing a kept book wants.
-pub const KEPT_ROOM: usize = 227;
+pub const KEPT_ROOM: usize = 229;
 /// The bytes of log that a frame wants.
 pub const LOG_ROOM: usize = 4096;
 
@@ -1216,10 +1216,11 @@ fn event(told: &[u64; 3], header: &[u64; 15]) -> Event {
     }
 }
 
-/// An area book: AIOU, count and the areas' bytes.
+/// An area book: AIOU, SIOU, count and the areas' bytes.
 #[derive(Clone, Debug)]
 pub struct Book {
-    numbers: [u64; 2],
+    /// AIOU, SIOU + 1 or 0 if it is unknown, count of areas; without areas the first two are 0
+    numbers: [u64; 3],
     bytes: [u8; BOOK_BYTES],
 }
 
@@ -1232,27 +1233,40 @@ impl Default for Book {
 impl Book {
     /// an empty book
     pub fn new() -> Book {
-        Book { numbers: [0; 2], bytes: [0; BOOK_BYTES] }
+        Book { numbers: [0; 3], bytes: [0; BOOK_BYTES] }
     }
 
-    /// Takes a GAD payload, whole or not at all. A fault of the payload has its place, in bits; the book's refusals have none.
+    /// Takes a GAD payload, whole or not at all. One with another AIOU or another SIOU than the book's begins a new book, one
+    /// with both the same adds to it; over a book of unknown SIOU every SIOU is another. A fault of the payload has its place,
+    /// in bits; the book's refusals have none.
     pub fn take(&mut self, payload: &[u8]) -> Result<(), Fault> {
         placed(raw::book_take(&mut self.numbers, &mut self.bytes, payload), Unit::Bit)
     }
 
-    /// The areas, six bytes each, ascending by ID.
-    pub fn areas(&self) -> &[u8] {
-        &self.bytes[..6 * self.numbers[1] as usize]
+    /// SF068 of the GAD that filled the book; an empty book has none.
+    pub fn aiou(&self) -> Option<u8> {
+        (self.numbers[2] != 0).then_some(self.numbers[0] as u8)
     }
 
-    /// Writes the book as a kept book into `KEPT_ROOM` bytes or more: the bytes written.
+    /// SF005 of the GAD that filled the book; none if it is unknown, as in an empty book, and in one that an older version
+    /// kept. No area of a book of unknown SIOU is ever placed: the next GAD that is taken begins a new one.
+    pub fn siou(&self) -> Option<u16> {
+        (self.numbers[1] != 0).then(|| (self.numbers[1] - 1) as u16)
+    }
+
+    /// The areas, six bytes each, ascending by ID.
+    pub fn areas(&self) -> &[u8] {
+        &self.bytes[..6 * self.numbers[2] as usize]
+    }
+
+    /// Writes the book as a kept book, of form 2, into `KEPT_ROOM` bytes or more: the bytes written.
     pub fn keep(&self, out: &mut [u8]) -> Result<usize, Refusal> {
         let mut written = [0];
         answer(raw::kept_write(&self.numbers, &self.bytes, out, &mut written), ())
             .map(|()| written[0] as usize)
     }
 
-    /// The book that a kept book holds.
+    /// The book that a kept book holds, of form 1 or 2; one of form 1 has an unknown SIOU.
     pub fn kept(kept: &[u8]) -> Result<Book, Refusal> {
         let mut book = Book::new();
         answer(raw::kept_read(kept, &mut book.numbers, &mut book.bytes), ())?;
@@ -1278,7 +1292,8 @@ impl Book {
 /// comes round.
 ///
 /// Every accepted frame counts, HPAC too: while HPAC messages alone keep coming, a live book is used however long ago its
-/// GAD came.
+/// GAD came. But it places by its own SIOU alone: where that of HPAC messages moves on, none of their areas is placed until a
+/// GAD of the new SIOU has come and after it a run has opened.
 ///
 /// The same count goes on over the life of a desk. An earlier second counts as that of the last accepted frame. So on a desk
 /// that is kept over a restart of the machine or handed to another, where the count has another start, no gap is seen until
@@ -1288,7 +1303,7 @@ impl Book {
 /// time.
 #[derive(Clone, Debug)]
 pub struct Desk {
-    numbers: [u64; 11],
+    numbers: [u64; 13],
     live: [u8; BOOK_BYTES],
     run: [u8; BOOK_BYTES],
 }
@@ -1296,7 +1311,7 @@ pub struct Desk {
 impl Desk {
     /// A desk for one solution, processor and constellation (0 GPS to 4 QZSS), without a book, a run and a last accepted frame.
     pub fn new(solution: u8, processor: u8, constellation: u8) -> Result<Desk, Refusal> {
-        let mut desk = Desk { numbers: [0; 11], live: [0; BOOK_BYTES], run: [0; BOOK_BYTES] };
+        let mut desk = Desk { numbers: [0; 13], live: [0; BOOK_BYTES], run: [0; BOOK_BYTES] };
         answer(raw::desk_new(solution, processor, constellation, &mut desk.numbers), ())?;
         Ok(desk)
     }
@@ -1320,13 +1335,13 @@ impl Desk {
 
     /// The second of the last accepted frame, as it counted; before the first one there is none. A refused frame moves none.
     pub fn last_second(&self) -> Option<u64> {
-        (self.numbers[9] == 1).then_some(self.numbers[10])
+        (self.numbers[11] == 1).then_some(self.numbers[12])
     }
 
     /// Takes a book, as one that was kept, as the live book; an open run stays as it is, and so does the second of the last
     /// accepted frame. A book taken before any frame was accepted is used however old it is, since no frame has dated it;
     /// one taken later counts as old as the last accepted frame: if the next accepted one comes 450 seconds or more after
-    /// that, the book is emptied, however new it is.
+    /// that, the book is emptied, however new it is. One that an older version kept places nothing until a GAD comes.
     pub fn take_book(&mut self, book: &Book) -> Result<(), Refusal> {
         let number =
             raw::desk_take_book(&mut self.numbers, &mut self.live, &self.run, &book.numbers, &book.bytes);
@@ -1335,7 +1350,7 @@ impl Desk {
 
     /// The live book, to be kept. After a gap it is the old one until a frame is accepted.
     pub fn book(&self) -> Book {
-        Book { numbers: [self.numbers[3], self.numbers[4]], bytes: self.live }
+        Book { numbers: [self.numbers[3], self.numbers[4], self.numbers[5]], bytes: self.live }
     }
 
     /// The six bytes of the area with this ID, out of the run's book if a run is open, else out of the live book, which after
@@ -1459,7 +1474,7 @@ pub struct Troposphere {
 /// An entry of the run log.
 #[derive(Clone, Copy, PartialEq, Eq, Debug)]
 pub enum Entry {
-    /// a run was opened, with so many areas in its book
+    /// a run was opened, with so many areas in its book, whose SIOU is not told
     Opened { tag: u64, aiou: Option<u8>, count: u64 },
     /// an area was placed: its 47 bits, its troposphere residuals if there are any, and so many satellites. Its grid has
     /// so many nodes: every satellite has one residual a node, also where there are no troposphere residuals.
@@ -1467,8 +1482,9 @@ pub enum Entry {
     /// The 47 bits are SF031 (8 bits), SF032 (11), SF033 (12), SF034 (3), SF035 (3), SF036 (5) and SF037 (5), the first
     /// highest; `value` gives degrees for SF032, SF033, SF036 and SF037, and the counts of nodes for SF034 and SF035.
     Placed { id: u8, bits: u64, troposphere: Option<Troposphere>, satellites: u64, nodes: u64 },
-    /// an area was left out for this reason: 1 the run has no book, 2 the message has another AIOU than the run's book,
-    /// 3 the ID is not in that book, 4 SF039 differs from the area's count of nodes
+    /// an area was left out for this reason, the first that applies of 1 the run has no book, 2 the message has another AIOU
+    /// than the run's book, 5 it has another SIOU, or that of the book is unknown, 3 the ID is not in that book, 4 SF039
+    /// differs from the area's count of nodes
     LeftOut { id: u8, reason: u64 },
 }
 

@@ -1,5 +1,5 @@
 -- Laws: a book and a tray taken out of numbers and put back, and what is told of a stream's answer, worded as the code makes them.
-use mathlib.Core.Path.{_≡_, refl, sym, ap, ap₂, _∙_}
+use mathlib.Core.Path.{_≡_, refl, sym, ap, _∙_}
 use mathlib.Core.Bool.{true, false}
 use mathlib.Core.List.{List}
 use Prim.Native.Nat.{ℕ, _+_, _-_, _≤_, _<_}
@@ -25,17 +25,24 @@ aiou-under x h = ap (λ y. y + 1) (under 16 16 x refl h)
 pub aiou-over : (x : ℕ) → 16 ≤ x → 17 ≡ atMost 16 x + 1
 aiou-over x h = ap (λ y. y + 1) (over 16 16 x refl h)
 
-module _ (s : List ℕ) where
-  pub book-empty : (b : Book) (n : ℕ) → n ≡ getD s 1 0 → n ≡ 0 → b ≡ noBook → b ≡ bookIn s
-  unfolding bookIn
-  book-empty b n m h e = let z : eqb (getD s 1 0) 0 ≡ true = eq-eqb _ _ (sym m ∙ h) in rw z e
+pub siou-under : (x : ℕ) → x < 513 → x ≡ atMost 513 x
+siou-under x h = under 513 513 x refl h
 
-  pub book-areas : (b : Book) (x y a n : ℕ) → n ≡ getD s 1 0 → (n ≡ 0 → ⊥) → a ≡ getD s 0 0 → x ≡ atMost 16 a + 1 → y ≡ n → b ≡ bookWith x y
-      → b ≡ bookIn s
+pub siou-over : (x : ℕ) → 513 ≤ x → 513 ≡ atMost 513 x
+siou-over x h = over 513 513 x refl h
+
+module _ (s : List ℕ) where
+  pub book-empty : (b : Book) (n : ℕ) → n ≡ getD s 2 0 → n ≡ 0 → b ≡ noBook → b ≡ bookIn s
   unfolding bookIn
-  book-areas b x y a n m h l p q e =
-      let z : eqb (getD s 1 0) 0 ≡ false = ne-eqb _ _ (λ w. h (m ∙ w)) in
-      rw z (e ∙ ap₂ bookWith (p ∙ ap (λ w. atMost 16 w + 1) l) (q ∙ m))
+  book-empty b n m h e = let z : eqb (getD s 2 0) 0 ≡ true = eq-eqb _ _ (sym m ∙ h) in rw z e
+
+  pub book-areas : (b : Book) (x y z a i n : ℕ) → n ≡ getD s 2 0 → (n ≡ 0 → ⊥) → a ≡ getD s 0 0 → x ≡ atMost 16 a + 1 → i ≡ getD s 1 0 → y ≡ atMost 513 i → z ≡ n
+      → b ≡ bookWith x y z → b ≡ bookIn s
+  unfolding bookIn
+  book-areas b x y z a i n m h l p k o q e =
+      let u : eqb (getD s 2 0) 0 ≡ false = ne-eqb _ _ (λ w. h (m ∙ w)) in
+      let v : b ≡ bookWith (atMost 16 (getD s 0 0) + 1) (atMost 513 (getD s 1 0)) (getD s 2 0) = cc in
+      rw u v
 
 -- ---- a tray as numbers
 

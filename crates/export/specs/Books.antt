@@ -1,4 +1,4 @@
--- Definitions to believe: a book as two numbers, and the answers of `book` and `kept` in numbers.
+-- Definitions to believe: a book as three numbers, and the answers of `book` and `kept` in numbers.
 use mathlib.Core.Bool.{cond}
 use mathlib.Core.List.{List, [], _∷_}
 use Prim.Native.Nat.{ℕ, _+_, _-_}
@@ -17,18 +17,19 @@ use Rattle.kept.specs.Kept.{written, outAfter, readKept, answerOf, leftBy}
 use Rattle.export.specs.Numbers.{Told, refused, refusedAt, atMost}
 
 abbrev pub bookRoom : ℕ
-bookRoom = 2
+bookRoom = 3
 
--- AIOU and count. Numbers that a flag makes meaningless, as the AIOU of an empty book, do not count (DECISIONS). An AIOU over 15 is not sound, whatever it is.
+-- AIOU, SIOU + 1 or 0 where it is unknown, and count. Numbers that a flag makes meaningless, as AIOU and SIOU of an empty book, do not count (DECISIONS). An AIOU over 15 is not sound,
+-- whatever it is, nor is a SIOU + 1 over 512.
 unfoldable pub bookIn : List ℕ → Book
 bookIn s =
-    cond (eqb (getD s 1 0) 0)
+    cond (eqb (getD s 2 0) 0)
     noBook
-    (bookWith (atMost 16 (getD s 0 0) + 1) (getD s 1 0))
+    (bookWith (atMost 16 (getD s 0 0) + 1) (atMost 513 (getD s 1 0)) (getD s 2 0))
 
--- the AIOU of an empty book is told as 0
+-- AIOU and SIOU of an empty book are told as 0
 unfoldable pub bookOf : Book → List ℕ
-bookOf book = (book .«aiou_plus_one» - 1) ∷ book .count ∷ []
+bookOf book = (book .«aiou_plus_one» - 1) ∷ book .«siou_plus_one» ∷ book .count ∷ []
 
 -- a GAD taken
 unfoldable pub takeOf : (book bytes payload : List ℕ) → Taken

@@ -33,6 +33,12 @@ pub aiou-of-determined : (x : ℕ) (r₁ r₂ : ℕ)
     → r₁ ≡ r₂
 aiou-of-determined x r₁ r₂ e0₁ e0₂ = e0₁ ∙ sym e0₂
 
+pub siou-of-determined : (x : ℕ) (r₁ r₂ : ℕ)
+    → r₁ ≡ x
+    → r₂ ≡ x
+    → r₁ ≡ r₂
+siou-of-determined x r₁ r₂ e0₁ e0₂ = e0₁ ∙ sym e0₂
+
 pub book-in-determined : (book : List ℕ) (r₁ r₂ : Book)
     → r₁ ≡ bookIn book
     → r₂ ≡ bookIn book

@@ -123,9 +123,9 @@ module _ (bytes tray told header : List ℕ) where
 -- ---- a book
 
 -- An empty book is a count of 0, whatever stands beside it.
-pub empty : (aiou : ℕ) (lent : List ℕ) → bookIn (aiou ∷ 0 ∷ lent) ≡ noBook
+pub empty : (aiou siou-plus-one : ℕ) (lent : List ℕ) → bookIn (aiou ∷ siou-plus-one ∷ 0 ∷ lent) ≡ noBook
 unfolding bookIn
-empty aiou lent = refl
+empty aiou siou-plus-one lent = refl
 
 -- the book after a GAD, and after a kept book was read: the one that is answered, and with a refusal the old one
 abbrev pub afterTaken : Book → Taken → Book
@@ -139,12 +139,13 @@ afterRead old (reading.Refused refusal) = old
 -- a GAD is taken into a sound book only, and makes one
 was-sound : (old : Book) (s payload : List ℕ) (new : Book) → takenOf old s payload ≡ taking.Holds new → book.sound old s ≡ true
 unfolding taken.outcome
-was-sound old s payload new = go (ltb (length s) bookBytes) (book.sound old s) _ _
+was-sound old s payload new = go (ltb (length s) bookBytes) (book.sound old s) _ _ _
   where
-    go : (a b : Bool) (o : taken.Outcome) (aiou : ℕ) → taken.answerOf (stop a (taken.refused (nowhere Room)) (stop (not b) (taken.refused (nowhere State)) o)) aiou ≡ taking.Holds new → b ≡ true
-    go true b o aiou e = let w : _≡_ {A = ℕ} 0 1 = cc in absurd (omega arith)
-    go false false o aiou e = let w : _≡_ {A = ℕ} 0 1 = cc in absurd (omega arith)
-    go false true o aiou e = refl
+    go : (a b : Bool) (o : taken.Outcome) (aiou siou : ℕ)
+        → taken.answerOf (stop a (taken.refused (nowhere Room)) (stop (not b) (taken.refused (nowhere State)) o)) aiou siou ≡ taking.Holds new → b ≡ true
+    go true b o aiou siou e = let w : _≡_ {A = ℕ} 0 1 = cc in absurd (omega arith)
+    go false false o aiou siou e = let w : _≡_ {A = ℕ} 0 1 = cc in absurd (omega arith)
+    go false true o aiou siou e = refl
 
 made-sound : (old : Book) (s payload : List ℕ) (new : Book) → takenOf old s payload ≡ taking.Holds new → headSound new ≡ true
 made-sound old s payload new e = sound-head new (bytesAfter old s payload) (stays-sound old s payload new (was-sound old s payload new e) e)
@@ -176,7 +177,7 @@ next-read kept book bytes =
     ∙ ap (roomFor bookRoom book (bookIn book))
     (next-kept book (answerOf (readKept kept bytes)) (λ new e. sound-head new (leftBy (readKept kept bytes) bytes) (reads-sound kept bytes new e)))
 
--- So a book that was written as a kept book has its AIOU and count again when that is read, whatever numbers and bytes are lent for it,
+-- So a book that was written as a kept book has its AIOU, SIOU and count again when that is read, whatever numbers and bytes are lent for it,
 pub kept-back : (book bytes out lent areas : List ℕ) (n : ℕ) → Bytes bytes → keptOf book bytes out ≡ writing.Bytes n → bookRoom ≤ length lent → bookBytes ≤ length areas
     → bookIn (lentAfter bookRoom lent (toldRead (readOf (take n (keptLeaves book bytes out)) areas))) ≡ bookIn book
 unfolding keptOf keptLeaves roomFor

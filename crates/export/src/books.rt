@@ -15,8 +15,8 @@ use book::Taken;
 use kept::ReadKept;
 use kept::Written;
 
-// The numbers of a book: AIOU and count.
-pub const BOOK: usize = 2;
+// The numbers of a book: AIOU, SIOU + 1 or 0 where it is unknown, and count.
+pub const BOOK: usize = 3;
 
 // AIOU + 1, up to 17, with which no book is sound.
 fn aiou_in(x: u64) -> u8
@@ -26,6 +26,16 @@ fn aiou_in(x: u64) -> u8
         return (x + 1) as u8;
     }
     17
+}
+
+// SIOU + 1, up to 513, with which no book is sound.
+fn siou_in(x: u64) -> u16
+    ensures { λ r. ⌜ r ≡ atMost 513 x ⌝ }
+{
+    if x < 513 {
+        return x as u16;
+    }
+    513
 }
 
 fn size(x: u64) -> usize
@@ -44,22 +54,30 @@ pub fn aiou_of(x: u8) -> u64
     (x - 1) as u64
 }
 
-// The book that two numbers say.
+pub fn siou_of(x: u16) -> u64
+    ensures { λ r. ⌜ r ≡ x ⌝ }
+{
+    x as u64
+}
+
+// The book that three numbers say.
 pub fn book_in(book: &[u64]) -> Book
     ensures { λ r. ⌜ r ≡ bookIn (now (book .entry)) ⌝ }
 {
-    let areas = at(book, 1);
+    let areas = at(book, 2);
     if areas == 0 {
         return book::no_book();
     }
-    book::book_of(aiou_in(at(book, 0)), size(areas))
+    book::book_of(aiou_in(at(book, 0)), siou_in(at(book, 1)), size(areas))
 }
 
 // A book's numbers into the places from the start on.
 pub fn put_book(held: Book, book: &mut [u64])
     ensures { λ _. ⌜ now (book .exit) ≡ stored (bookOf held) (now (book .entry)) ⌝ }
 {
-    let numbers = [aiou_of(held.aiou_plus_one), count(held.count)];
+    let aiou = aiou_of(held.aiou_plus_one);
+    let siou_plus_one = siou_of(held.siou_plus_one);
+    let numbers = [aiou, siou_plus_one, count(held.count)];
     put(&numbers, book);
 }
 

@@ -1,4 +1,4 @@
 pub mod Laws
-pub mod Eleven
+pub mod Thirteen
 pub mod Telling
 pub mod Finding

@@ -1,4 +1,4 @@
--- Theorems on a desk as eleven numbers. A number out of its range makes a desk unsound; numbers that a flag makes meaningless do not count. A sound desk
+-- Theorems on a desk as thirteen numbers. A number out of its range makes a desk unsound; numbers that a flag makes meaningless do not count. A sound desk
 -- that is written and read again is the same desk, so calls in a row are what they are to `desk`. Proved; assumes nothing.
 use mathlib.Core.Path.{_≡_, refl, ap, sym, _∙_}
 use mathlib.Core.Bool.{Bool, true, false, cond, _&&_}
@@ -18,7 +18,7 @@ use Rattle.codes.specs.declared.Constellation.{Constellation}
 use Rattle.codes.specs.declared.Constellation.the-variants.{Gps, Glonass, Galileo, BeiDou, Qzss}
 use Rattle.sizes.specs.Sizes.{tags, mostAreas}
 use Rattle.book.specs.Book.{sound}
-use Rattle.book.specs.Laws.{sound-head, head-parts}
+use Rattle.book.specs.Laws.{sound-head, head-parts, siou-most}
 use Rattle.book.specs.declared.Book.{Book}
 use Rattle.desk.specs.Desk.{sourceInRange, runSound, deskSound}
 use Rattle.desk.specs.Take.{Verdict, refused, defines, continues, opens, copied, deskBy, takenBy, leaving, frameTaken, bookTaken}
@@ -62,16 +62,23 @@ no-live : (desk : Desk) (live run : List ℕ) → sound (desk .book) live ≡ fa
 unfolding deskSound
 no-live desk live run e = rw (e, never (sourceInRange (desk .solution) (desk .processor)))
 
--- of a book with areas: its AIOU is over 15, or it has too many of them
-module _ (aiou areas : ℕ) (bytes : List ℕ) where
+-- of a book with areas: its AIOU is over 15, its SIOU over 511, or it has too many of them
+module _ (aiou siou-plus-one areas : ℕ) (bytes : List ℕ) where
   abbrev said : Book
-  said = bookIn (aiou ∷ areas ∷ [])
+  said = bookIn (aiou ∷ siou-plus-one ∷ areas ∷ [])
 
   said-aiou : 15 < aiou → 0 < areas → said .«aiou_plus_one» ≡ 17
   unfolding bookIn
   said-aiou h k =
       let z : eqb areas 0 ≡ false = ne-eqb areas 0 (λ q. omega arith) in
       let m : atMost 16 aiou ≡ 16 = most-over 16 aiou (omega arith) in
+      rw (z, m)
+
+  said-siou : 512 < siou-plus-one → 0 < areas → said .«siou_plus_one» ≡ 513
+  unfolding bookIn
+  said-siou h k =
+      let z : eqb areas 0 ≡ false = ne-eqb areas 0 (λ q. omega arith) in
+      let m : atMost 513 siou-plus-one ≡ 513 = most-over 513 siou-plus-one (omega arith) in
       rw (z, m)
 
   said-areas : 0 < areas → said .count ≡ areas
@@ -85,6 +92,15 @@ module _ (aiou areas : ℕ) (bytes : List ℕ) where
       go true e = absurd (omega (arith, said-aiou h k, head-parts said (sound-head said bytes e)))
       go false e = refl
 
+  siou-over : 512 < siou-plus-one → 0 < areas → sound said bytes ≡ false
+  siou-over h k = go (sound said bytes) refl
+    where
+      go : (b : Bool) → sound said bytes ≡ b → b ≡ false
+      go true e =
+          let n : said .«siou_plus_one» ≤ 512 = siou-most (said .«aiou_plus_one») (said .«siou_plus_one») (head-parts said (sound-head said bytes e) .2) in
+          absurd (omega (arith, said-siou h k))
+      go false e = refl
+
   areas-over : mostAreas < areas → sound said bytes ≡ false
   areas-over h = go (sound said bytes) refl
     where
@@ -92,16 +108,17 @@ module _ (aiou areas : ℕ) (bytes : List ℕ) where
       go true e = absurd (omega (arith, said-areas (omega arith), head-parts said (sound-head said bytes e)))
       go false e = refl
 
-open-book : (flag tag aiou areas : ℕ) (bytes : List ℕ) → flag ≡ 1 → sound (bookIn (aiou ∷ areas ∷ [])) bytes ≡ false → runSound (runIn flag tag aiou areas) bytes ≡ false
+open-book : (flag tag aiou siou-plus-one areas : ℕ) (bytes : List ℕ) → flag ≡ 1 → sound (bookIn (aiou ∷ siou-plus-one ∷ areas ∷ [])) bytes ≡ false
+    → runSound (runIn flag tag aiou siou-plus-one areas) bytes ≡ false
 unfolding runIn
-open-book flag tag aiou areas bytes f e =
+open-book flag tag aiou siou-plus-one areas bytes f e =
     let y : eqb flag 0 ≡ false = ne-eqb flag 0 (λ q. omega arith) in
     rw (y, e, never (ltb tag tags))
 
 module _ (s live run : List ℕ) where
   pub solution-out : 127 < getD s 0 0 → deskSound (deskIn s) live run ≡ false
   unfolding deskIn solutionIn
-  solution-out h = no-solution (deskIn s) live run (go (leb (getD s 2 0) 4 && (leb (getD s 5 0) 1 && leb (getD s 9 0) 1)))
+  solution-out h = no-solution (deskIn s) live run (go (leb (getD s 2 0) 4 && (leb (getD s 6 0) 1 && leb (getD s 11 0) 1)))
     where
       go : (b : Bool) → cond b (atMost 128 (getD s 0 0)) 128 ≡ 128
       go true = most-over 128 (getD s 0 0) (omega arith)
@@ -113,81 +130,88 @@ module _ (s live run : List ℕ) where
 
   pub constellation-out : 4 < getD s 2 0 → deskSound (deskIn s) live run ≡ false
   unfolding deskIn solutionIn
-  constellation-out h = no-solution (deskIn s) live run (ap (λ b. cond (b && (leb (getD s 5 0) 1 && leb (getD s 9 0) 1)) (atMost 128 (getD s 0 0)) 128) (lt-leb (getD s 2 0) 4 h))
+  constellation-out h = no-solution (deskIn s) live run (ap (λ b. cond (b && (leb (getD s 6 0) 1 && leb (getD s 11 0) 1)) (atMost 128 (getD s 0 0)) 128) (lt-leb (getD s 2 0) 4 h))
 
-  pub flag-out : 1 < getD s 5 0 → deskSound (deskIn s) live run ≡ false
+  pub flag-out : 1 < getD s 6 0 → deskSound (deskIn s) live run ≡ false
   unfolding deskIn solutionIn
   flag-out h =
       no-solution (deskIn s) live run
-      (ap (λ b. cond (leb (getD s 2 0) 4 && (b && leb (getD s 9 0) 1)) (atMost 128 (getD s 0 0)) 128) (lt-leb (getD s 5 0) 1 h)
+      (ap (λ b. cond (leb (getD s 2 0) 4 && (b && leb (getD s 11 0) 1)) (atMost 128 (getD s 0 0)) 128) (lt-leb (getD s 6 0) 1 h)
       ∙ ap (λ b. cond b (atMost 128 (getD s 0 0)) 128) (never (leb (getD s 2 0) 4)))
 
   -- the flag of the last accepted frame
-  pub dated-out : 1 < getD s 9 0 → deskSound (deskIn s) live run ≡ false
+  pub dated-out : 1 < getD s 11 0 → deskSound (deskIn s) live run ≡ false
   unfolding deskIn solutionIn
   dated-out h =
       no-solution (deskIn s) live run
-      (ap (λ b. cond (leb (getD s 2 0) 4 && (leb (getD s 5 0) 1 && b)) (atMost 128 (getD s 0 0)) 128) (lt-leb (getD s 9 0) 1 h)
-      ∙ ap (λ b. cond (leb (getD s 2 0) 4 && b) (atMost 128 (getD s 0 0)) 128) (never (leb (getD s 5 0) 1))
+      (ap (λ b. cond (leb (getD s 2 0) 4 && (leb (getD s 6 0) 1 && b)) (atMost 128 (getD s 0 0)) 128) (lt-leb (getD s 11 0) 1 h)
+      ∙ ap (λ b. cond (leb (getD s 2 0) 4 && b) (atMost 128 (getD s 0 0)) 128) (never (leb (getD s 6 0) 1))
       ∙ ap (λ b. cond b (atMost 128 (getD s 0 0)) 128) (never (leb (getD s 2 0) 4)))
 
-  pub tag-out : getD s 5 0 ≡ 1 → tags ≤ getD s 6 0 → deskSound (deskIn s) live run ≡ false
+  pub tag-out : getD s 6 0 ≡ 1 → tags ≤ getD s 7 0 → deskSound (deskIn s) live run ≡ false
   unfolding deskIn runIn
   tag-out f h =
-      let y : eqb (getD s 5 0) 0 ≡ false = ne-eqb (getD s 5 0) 0 (λ q. omega arith) in
-      let z : ltb (getD s 6 0) tags ≡ false = le-ltb (getD s 6 0) tags h in
+      let y : eqb (getD s 6 0) 0 ≡ false = ne-eqb (getD s 6 0) 0 (λ q. omega arith) in
+      let z : ltb (getD s 7 0) tags ≡ false = le-ltb (getD s 7 0) tags h in
       no-run (deskIn s) live run (rw (y, z))
 
-  -- AIOU and count of the live book, and of the run's if a run is open
-  pub aiou-out : 0 < getD s 4 0 → 15 < getD s 3 0 → deskSound (deskIn s) live run ≡ false
+  -- AIOU, SIOU and count of the live book
+  pub aiou-out : 0 < getD s 5 0 → 15 < getD s 3 0 → deskSound (deskIn s) live run ≡ false
   unfolding deskIn
-  aiou-out k h = no-live (deskIn s) live run (aiou-over (getD s 3 0) (getD s 4 0) live h k)
+  aiou-out k h = no-live (deskIn s) live run (aiou-over (getD s 3 0) (getD s 4 0) (getD s 5 0) live h k)
 
-  pub areas-out : mostAreas < getD s 4 0 → deskSound (deskIn s) live run ≡ false
+  pub siou-out : 0 < getD s 5 0 → 512 < getD s 4 0 → deskSound (deskIn s) live run ≡ false
   unfolding deskIn
-  areas-out h = no-live (deskIn s) live run (areas-over (getD s 3 0) (getD s 4 0) live h)
+  siou-out k h = no-live (deskIn s) live run (siou-over (getD s 3 0) (getD s 4 0) (getD s 5 0) live h k)
 
-  pub run-aiou-out : getD s 5 0 ≡ 1 → 0 < getD s 8 0 → 15 < getD s 7 0 → deskSound (deskIn s) live run ≡ false
+  pub areas-out : mostAreas < getD s 5 0 → deskSound (deskIn s) live run ≡ false
   unfolding deskIn
-  run-aiou-out f k h =
-      no-run (deskIn s) live run
-      (open-book (getD s 5 0) (getD s 6 0) (getD s 7 0) (getD s 8 0) run f (aiou-over (getD s 7 0) (getD s 8 0) run h k))
+  areas-out h = no-live (deskIn s) live run (areas-over (getD s 3 0) (getD s 4 0) (getD s 5 0) live h)
 
-  pub run-areas-out : getD s 5 0 ≡ 1 → mostAreas < getD s 8 0 → deskSound (deskIn s) live run ≡ false
-  unfolding deskIn
-  run-areas-out f h =
-      no-run (deskIn s) live run
-      (open-book (getD s 5 0) (getD s 6 0) (getD s 7 0) (getD s 8 0) run f (areas-over (getD s 7 0) (getD s 8 0) run h))
+  -- and of the run's, if a run is open
+  module _ (f : getD s 6 0 ≡ 1) where
+    no-open : sound (bookIn (getD s 8 0 ∷ getD s 9 0 ∷ getD s 10 0 ∷ [])) run ≡ false → deskSound (deskIn s) live run ≡ false
+    unfolding deskIn
+    no-open e = no-run (deskIn s) live run (open-book (getD s 6 0) (getD s 7 0) (getD s 8 0) (getD s 9 0) (getD s 10 0) run f e)
+
+    pub run-aiou-out : 0 < getD s 10 0 → 15 < getD s 8 0 → deskSound (deskIn s) live run ≡ false
+    run-aiou-out k h = no-open (aiou-over (getD s 8 0) (getD s 9 0) (getD s 10 0) run h k)
+
+    pub run-siou-out : 0 < getD s 10 0 → 512 < getD s 9 0 → deskSound (deskIn s) live run ≡ false
+    run-siou-out k h = no-open (siou-over (getD s 8 0) (getD s 9 0) (getD s 10 0) run h k)
+
+    pub run-areas-out : mostAreas < getD s 10 0 → deskSound (deskIn s) live run ≡ false
+    run-areas-out h = no-open (areas-over (getD s 8 0) (getD s 9 0) (getD s 10 0) run h)
 
 -- ---- numbers that do not count
 
 module _ (solution processor constellation : ℕ) where
-  -- the AIOU of an empty book
-  pub empty-book : (a b flag tag aiou areas dated second : ℕ)
-      → deskIn (solution ∷ processor ∷ constellation ∷ a ∷ 0 ∷ flag ∷ tag ∷ aiou ∷ areas ∷ dated ∷ second ∷ [])
-      ≡ deskIn (solution ∷ processor ∷ constellation ∷ b ∷ 0 ∷ flag ∷ tag ∷ aiou ∷ areas ∷ dated ∷ second ∷ [])
+  -- AIOU and SIOU of an empty book
+  pub empty-book : (a x b y flag tag aiou siou-plus-one areas dated second : ℕ)
+      → deskIn (solution ∷ processor ∷ constellation ∷ a ∷ x ∷ 0 ∷ flag ∷ tag ∷ aiou ∷ siou-plus-one ∷ areas ∷ dated ∷ second ∷ [])
+      ≡ deskIn (solution ∷ processor ∷ constellation ∷ b ∷ y ∷ 0 ∷ flag ∷ tag ∷ aiou ∷ siou-plus-one ∷ areas ∷ dated ∷ second ∷ [])
   unfolding deskIn bookIn
-  empty-book a b flag tag aiou areas dated second = refl
+  empty-book a x b y flag tag aiou siou-plus-one areas dated second = refl
 
-  pub empty-run-book : (aiou areas flag tag a b dated second : ℕ)
-      → deskIn (solution ∷ processor ∷ constellation ∷ aiou ∷ areas ∷ flag ∷ tag ∷ a ∷ 0 ∷ dated ∷ second ∷ [])
-      ≡ deskIn (solution ∷ processor ∷ constellation ∷ aiou ∷ areas ∷ flag ∷ tag ∷ b ∷ 0 ∷ dated ∷ second ∷ [])
+  pub empty-run-book : (aiou siou-plus-one areas flag tag a x b y dated second : ℕ)
+      → deskIn (solution ∷ processor ∷ constellation ∷ aiou ∷ siou-plus-one ∷ areas ∷ flag ∷ tag ∷ a ∷ x ∷ 0 ∷ dated ∷ second ∷ [])
+      ≡ deskIn (solution ∷ processor ∷ constellation ∷ aiou ∷ siou-plus-one ∷ areas ∷ flag ∷ tag ∷ b ∷ y ∷ 0 ∷ dated ∷ second ∷ [])
   unfolding deskIn runIn bookIn
-  empty-run-book aiou areas flag tag a b dated second = refl
+  empty-run-book aiou siou-plus-one areas flag tag a x b y dated second = refl
 
   -- tag and book of a closed run
-  pub closed-run : (aiou areas t a n u b m dated second : ℕ)
-      → deskIn (solution ∷ processor ∷ constellation ∷ aiou ∷ areas ∷ 0 ∷ t ∷ a ∷ n ∷ dated ∷ second ∷ [])
-      ≡ deskIn (solution ∷ processor ∷ constellation ∷ aiou ∷ areas ∷ 0 ∷ u ∷ b ∷ m ∷ dated ∷ second ∷ [])
+  pub closed-run : (aiou siou-plus-one areas t a x n u b y m dated second : ℕ)
+      → deskIn (solution ∷ processor ∷ constellation ∷ aiou ∷ siou-plus-one ∷ areas ∷ 0 ∷ t ∷ a ∷ x ∷ n ∷ dated ∷ second ∷ [])
+      ≡ deskIn (solution ∷ processor ∷ constellation ∷ aiou ∷ siou-plus-one ∷ areas ∷ 0 ∷ u ∷ b ∷ y ∷ m ∷ dated ∷ second ∷ [])
   unfolding deskIn runIn
-  closed-run aiou areas t a n u b m dated second = refl
+  closed-run aiou siou-plus-one areas t a x n u b y m dated second = refl
 
   -- the second of no accepted frame
-  pub no-second : (aiou areas flag tag a n x y : ℕ)
-      → deskIn (solution ∷ processor ∷ constellation ∷ aiou ∷ areas ∷ flag ∷ tag ∷ a ∷ n ∷ 0 ∷ x ∷ [])
-      ≡ deskIn (solution ∷ processor ∷ constellation ∷ aiou ∷ areas ∷ flag ∷ tag ∷ a ∷ n ∷ 0 ∷ y ∷ [])
+  pub no-second : (aiou siou-plus-one areas flag tag a i n x y : ℕ)
+      → deskIn (solution ∷ processor ∷ constellation ∷ aiou ∷ siou-plus-one ∷ areas ∷ flag ∷ tag ∷ a ∷ i ∷ n ∷ 0 ∷ x ∷ [])
+      ≡ deskIn (solution ∷ processor ∷ constellation ∷ aiou ∷ siou-plus-one ∷ areas ∷ flag ∷ tag ∷ a ∷ i ∷ n ∷ 0 ∷ y ∷ [])
   unfolding deskIn lastIn
-  no-second aiou areas flag tag a n x y = refl
+  no-second aiou siou-plus-one areas flag tag a i n x y = refl
 
 -- ---- a desk that is written and read again
 
@@ -227,12 +251,13 @@ unfolding lastIn
 last-back Never = refl
 last-back (At second) = refl
 
-run-back : (run : Run) (bytes : List ℕ) → runSound run bytes ≡ true → runIn (isOpen run) (tagOf run) (runBook run .«aiou_plus_one» - 1) (runBook run .count) ≡ run
+run-back : (run : Run) (bytes : List ℕ) → runSound run bytes ≡ true
+    → runIn (isOpen run) (tagOf run) (runBook run .«aiou_plus_one» - 1) (runBook run .«siou_plus_one») (runBook run .count) ≡ run
 unfolding runIn
 run-back Closed bytes e = refl
 run-back (Open tag book) bytes e = ap (λ (b : Book). Open tag b) (book-back book (sound-head book bytes (both-right (ltb tag tags) (sound book bytes) e)))
 
--- whatever lies behind the eleven numbers
+-- whatever lies behind the thirteen numbers
 pub reads-back : (desk : Desk) (live run lent : List ℕ) → deskSound desk live run ≡ true → deskIn (laid (deskOf desk) lent) ≡ desk
 unfolding deskIn deskOf laid
 reads-back desk live run lent e =

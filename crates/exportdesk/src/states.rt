@@ -1,4 +1,4 @@
-// A desk as eleven numbers.
+// A desk as thirteen numbers.
 ghost use mathlib.Core.Path.{_≡_};
 ghost use lib.ListN.{getD};
 ghost use Rattle.export.specs.Numbers.{stored, atMost};
@@ -10,6 +10,7 @@ use desk::Last;
 use desk::Run;
 use export::books::aiou_of;
 use export::books::book_in;
+use export::books::siou_of;
 use export::numbers::at;
 use export::numbers::count;
 use export::numbers::put;
@@ -17,7 +18,7 @@ use export::numbers::wide;
 use message::Subtype;
 
 // The numbers of a desk.
-pub const DESK: usize = 11;
+pub const DESK: usize = 13;
 
 // 128 is no solution, 16 no processor.
 const NO_SOLUTION: u8 = 128;
@@ -60,18 +61,18 @@ fn solution_in(solution: u64, constellation: u64, running: u64, dated: u64) -> u
 }
 
 fn solution_at(desk: &[u64]) -> u8
-    ensures { λ r. ⌜ r ≡ solutionIn (getD (now (desk .entry)) 0 0) (getD (now (desk .entry)) 2 0) (getD (now (desk .entry)) 5 0) (getD (now (desk .entry)) 9 0) ⌝ }
+    ensures { λ r. ⌜ r ≡ solutionIn (getD (now (desk .entry)) 0 0) (getD (now (desk .entry)) 2 0) (getD (now (desk .entry)) 6 0) (getD (now (desk .entry)) 11 0) ⌝ }
 {
-    solution_in(at(desk, 0), at(desk, 2), at(desk, 5), at(desk, 9))
+    solution_in(at(desk, 0), at(desk, 2), at(desk, 6), at(desk, 11))
 }
 
-fn run_in(flag: u64, tag: u64, aiou: u64, areas: u64) -> Run
-    ensures { λ r. ⌜ r ≡ runIn flag tag aiou areas ⌝ }
+fn run_in(flag: u64, tag: u64, aiou: u64, siou_plus_one: u64, areas: u64) -> Run
+    ensures { λ r. ⌜ r ≡ runIn flag tag aiou «siou_plus_one» areas ⌝ }
 {
     if flag == 0 {
         return Run::Closed;
     }
-    let numbers = [aiou, areas];
+    let numbers = [aiou, siou_plus_one, areas];
     Run::Open {
         tag: tag,
         book: book_in(&numbers),
@@ -79,9 +80,15 @@ fn run_in(flag: u64, tag: u64, aiou: u64, areas: u64) -> Run
 }
 
 fn run_at(desk: &[u64]) -> Run
-    ensures { λ r. ⌜ r ≡ runIn (getD (now (desk .entry)) 5 0) (getD (now (desk .entry)) 6 0) (getD (now (desk .entry)) 7 0) (getD (now (desk .entry)) 8 0) ⌝ }
+    ensures { λ r. ⌜ r ≡ runIn (getD (now (desk .entry)) 6 0) (getD (now (desk .entry)) 7 0) (getD (now (desk .entry)) 8 0) (getD (now (desk .entry)) 9 0) (getD (now (desk .entry)) 10 0) ⌝ }
 {
-    run_in(at(desk, 5), at(desk, 6), at(desk, 7), at(desk, 8))
+    run_in(
+        at(desk, 6),
+        at(desk, 7),
+        at(desk, 8),
+        at(desk, 9),
+        at(desk, 10),
+    )
 }
 
 fn last_in(dated: u64, second: u64) -> Last
@@ -94,16 +101,16 @@ fn last_in(dated: u64, second: u64) -> Last
 }
 
 fn last_at(desk: &[u64]) -> Last
-    ensures { λ r. ⌜ r ≡ lastIn (getD (now (desk .entry)) 9 0) (getD (now (desk .entry)) 10 0) ⌝ }
+    ensures { λ r. ⌜ r ≡ lastIn (getD (now (desk .entry)) 11 0) (getD (now (desk .entry)) 12 0) ⌝ }
 {
-    last_in(at(desk, 9), at(desk, 10))
+    last_in(at(desk, 11), at(desk, 12))
 }
 
-// The desk that eleven numbers say.
+// The desk that thirteen numbers say.
 pub fn desk_in(desk: &[u64]) -> Desk
     ensures { λ r. ⌜ r ≡ deskIn (now (desk .entry)) ⌝ }
 {
-    let numbers = [at(desk, 3), at(desk, 4)];
+    let numbers = [at(desk, 3), at(desk, 4), at(desk, 5)];
     Desk {
         solution: solution_at(desk),
         processor: at_most(NO_PROCESSOR, at(desk, 1)),
@@ -173,10 +180,12 @@ pub fn put_desk(held: Desk, desk: &mut [u64])
         wide(held.processor),
         wide(desk::subtype_of(constellation)),
         aiou_of(book.aiou_plus_one),
+        siou_of(book.siou_plus_one),
         count(book.count),
         is_open(run),
         tag_of(run),
         aiou_of(open.aiou_plus_one),
+        siou_of(open.siou_plus_one),
         count(open.count),
         is_dated(last),
         second_of(last),

@@ -21,6 +21,12 @@ at-requires-2 c κs = search needs
 aiou-in-requires : tie.Need-aiou-in-requires
 aiou-in-requires c κs = search needs
 
+at-requires-3 : tie.Need-at-requires-3
+at-requires-3 c κs = search needs
+
+siou-in-requires : tie.Need-siou-in-requires
+siou-in-requires c κs = search needs
+
 size-requires : tie.Need-size-requires
 size-requires c κs = search needs
 
@@ -39,6 +45,8 @@ book-in-spec =
     returns
     at-requires-2
     aiou-in-requires
+    at-requires-3
+    siou-in-requires
     size-requires
     book-of-requires
     returns-2)

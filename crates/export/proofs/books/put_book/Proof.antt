@@ -1,4 +1,4 @@
--- Both numbers are the book's.
+-- The three numbers are the book's.
 use Rattle.export.specs.Books.{bookOf}
 use Rattle.export.proofs.Laws.{cons-as}
 use Rattle.export.specs.Stored.{stored-as}
@@ -8,6 +8,9 @@ use Rattle.export.proofs.books.put_book.Tie as tie
 
 aiou-of-requires : tie.Need-aiou-of-requires
 aiou-of-requires c κs = search needs
+
+siou-of-requires : tie.Need-siou-of-requires
+siou-of-requires c κs = search needs
 
 count-requires : tie.Need-count-requires
 count-requires c κs = search needs
@@ -28,4 +31,11 @@ returns c = search (stored-as, cons-as, needs)
 pub put-book-spec : {M : Type 1} → statement M
 put-book-spec =
     tie.close
-    (tie.spec aiou-of-requires count-requires slice-aggregate-put put-requires same-length returns)
+    (tie.spec
+    aiou-of-requires
+    siou-of-requires
+    count-requires
+    slice-aggregate-put
+    put-requires
+    same-length
+    returns)

@@ -1,5 +1,5 @@
 -- A known one, or the first.
-use Rattle.exportdesk.proofs.Eleven.{constellation-known, constellation-unknown}
+use Rattle.exportdesk.proofs.Thirteen.{constellation-known, constellation-unknown}
 use borrow.Author.Needs.{needs}
 use Rattle.exportdesk.proofs.states.constellation_in.Statement.{statement}
 use Rattle.exportdesk.proofs.states.constellation_in.Tie as tie

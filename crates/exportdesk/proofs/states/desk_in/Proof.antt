@@ -1,5 +1,5 @@
 -- Each number is at its place.
-use Rattle.exportdesk.proofs.Eleven.{desk-in}
+use Rattle.exportdesk.proofs.Thirteen.{desk-in}
 use borrow.Author.Needs.{needs}
 use Rattle.exportdesk.proofs.states.desk_in.Statement.{statement}
 use Rattle.exportdesk.proofs.states.desk_in.Tie as tie
@@ -10,17 +10,20 @@ at-requires c κs = search needs
 at-requires-2 : tie.Need-at-requires-2
 at-requires-2 c κs = search needs
 
+at-requires-3 : tie.Need-at-requires-3
+at-requires-3 c κs = search needs
+
 solution-at-requires : tie.Need-solution-at-requires
 solution-at-requires c κs = search needs
 
-at-requires-3 : tie.Need-at-requires-3
-at-requires-3 c κs = search needs
+at-requires-4 : tie.Need-at-requires-4
+at-requires-4 c κs = search needs
 
 at-most-requires : tie.Need-at-most-requires
 at-most-requires c κs = search needs
 
-at-requires-4 : tie.Need-at-requires-4
-at-requires-4 c κs = search needs
+at-requires-5 : tie.Need-at-requires-5
+at-requires-5 c κs = search needs
 
 constellation-in-requires : tie.Need-constellation-in-requires
 constellation-in-requires c κs = search needs
@@ -46,10 +49,11 @@ desk-in-spec =
     (tie.spec
     at-requires
     at-requires-2
-    solution-at-requires
     at-requires-3
-    at-most-requires
+    solution-at-requires
     at-requires-4
+    at-most-requires
+    at-requires-5
     constellation-in-requires
     slice-aggregate-book-in
     book-in-requires

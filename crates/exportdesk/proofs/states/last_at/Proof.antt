@@ -1,5 +1,5 @@
 -- Each number is at its place.
-use Rattle.exportdesk.proofs.Eleven.{second-at}
+use Rattle.exportdesk.proofs.Thirteen.{second-at}
 use borrow.Author.Needs.{needs}
 use Rattle.exportdesk.proofs.states.last_at.Statement.{statement}
 use Rattle.exportdesk.proofs.states.last_at.Tie as tie

@@ -1,5 +1,5 @@
 -- None yet, or at its second.
-use Rattle.exportdesk.proofs.Eleven.{last-never, last-at}
+use Rattle.exportdesk.proofs.Thirteen.{last-never, last-at}
 use borrow.Author.Needs.{needs}
 use Rattle.exportdesk.proofs.states.last_in.Statement.{statement}
 use Rattle.exportdesk.proofs.states.last_in.Tie as tie

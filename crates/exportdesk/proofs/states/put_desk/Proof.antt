@@ -22,6 +22,9 @@ wide-requires-3 c κs = search needs
 aiou-of-requires : tie.Need-aiou-of-requires
 aiou-of-requires c κs = search needs
 
+siou-of-requires : tie.Need-siou-of-requires
+siou-of-requires c κs = search needs
+
 count-requires : tie.Need-count-requires
 count-requires c κs = search needs
 
@@ -33,6 +36,9 @@ tag-of-requires c κs = search needs
 
 aiou-of-requires-2 : tie.Need-aiou-of-requires-2
 aiou-of-requires-2 c κs = search needs
+
+siou-of-requires-2 : tie.Need-siou-of-requires-2
+siou-of-requires-2 c κs = search needs
 
 count-requires-2 : tie.Need-count-requires-2
 count-requires-2 c κs = search needs
@@ -66,10 +72,12 @@ put-desk-spec =
     subtype-of-requires
     wide-requires-3
     aiou-of-requires
+    siou-of-requires
     count-requires
     is-open-requires
     tag-of-requires
     aiou-of-requires-2
+    siou-of-requires-2
     count-requires-2
     is-dated-requires
     second-of-requires

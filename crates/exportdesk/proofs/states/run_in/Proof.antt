@@ -1,5 +1,5 @@
 -- The flag says whether a run is open.
-use Rattle.exportdesk.proofs.Eleven.{run-closed, run-open}
+use Rattle.exportdesk.proofs.Thirteen.{run-closed, run-open}
 use borrow.Author.Needs.{needs}
 use Rattle.exportdesk.proofs.states.run_in.Statement.{statement}
 use Rattle.exportdesk.proofs.states.run_in.Tie as tie

@@ -1,5 +1,5 @@
 -- Each number is at its place.
-use Rattle.exportdesk.proofs.Eleven.{solution-at}
+use Rattle.exportdesk.proofs.Thirteen.{solution-at}
 use borrow.Author.Needs.{needs}
 use Rattle.exportdesk.proofs.states.solution_at.Statement.{statement}
 use Rattle.exportdesk.proofs.states.solution_at.Tie as tie

@@ -1,5 +1,5 @@
 -- Constellation or a flag out of range, or all in range.
-use Rattle.exportdesk.proofs.Eleven.{no-constellation, no-flag, no-dated, solution-is}
+use Rattle.exportdesk.proofs.Thirteen.{no-constellation, no-flag, no-dated, solution-is}
 use borrow.Author.Needs.{needs}
 use Rattle.exportdesk.proofs.states.solution_in.Statement.{statement}
 use Rattle.exportdesk.proofs.states.solution_in.Tie as tie

@@ -1,4 +1,4 @@
--- Laws: a desk taken out of eleven numbers and put back, worded as the code makes them.
+-- Laws: a desk taken out of thirteen numbers and put back, worded as the code makes them.
 use mathlib.Core.Path.{_≡_, sym, ap, _∙_}
 use mathlib.Core.Bool.{true, false}
 use mathlib.Core.List.{List, [], _∷_}
@@ -60,12 +60,12 @@ module _ (solution constellation running dated : ℕ) where
 
 -- ---- the run, and the desk
 
-module _ (flag tag aiou areas : ℕ) where
-  pub run-closed : flag ≡ 0 → Closed ≡ runIn flag tag aiou areas
+module _ (flag tag aiou siou-plus-one areas : ℕ) where
+  pub run-closed : flag ≡ 0 → Closed ≡ runIn flag tag aiou siou-plus-one areas
   unfolding runIn
   run-closed h = let z : eqb flag 0 ≡ true = eq-eqb _ _ h in rw z
 
-  pub run-open : (book : Book) → (flag ≡ 0 → ⊥) → book ≡ bookIn (aiou ∷ areas ∷ []) → Open tag book ≡ runIn flag tag aiou areas
+  pub run-open : (book : Book) → (flag ≡ 0 → ⊥) → book ≡ bookIn (aiou ∷ siou-plus-one ∷ areas ∷ []) → Open tag book ≡ runIn flag tag aiou siou-plus-one areas
   unfolding runIn
   run-open book h p = let z : eqb flag 0 ≡ false = ne-eqb _ _ h in rw z (ap (λ (b : Book). Open tag b) p)
 
@@ -79,24 +79,25 @@ module _ (dated second : ℕ) where
   last-at h = let z : eqb dated 0 ≡ false = ne-eqb _ _ h in rw z
 
 module _ (s : List ℕ) where
-  pub solution-at : (a n0 n2 n5 n9 : ℕ) → a ≡ solutionIn n0 n2 n5 n9 → n0 ≡ getD s 0 0 → n2 ≡ getD s 2 0 → n5 ≡ getD s 5 0 → n9 ≡ getD s 9 0
-      → a ≡ solutionIn (getD s 0 0) (getD s 2 0) (getD s 5 0) (getD s 9 0)
-  solution-at a n0 n2 n5 n9 p e0 e2 e5 e9 = cc
+  pub solution-at : (a n0 n2 n6 n11 : ℕ) → a ≡ solutionIn n0 n2 n6 n11 → n0 ≡ getD s 0 0 → n2 ≡ getD s 2 0 → n6 ≡ getD s 6 0 → n11 ≡ getD s 11 0
+      → a ≡ solutionIn (getD s 0 0) (getD s 2 0) (getD s 6 0) (getD s 11 0)
+  solution-at a n0 n2 n6 n11 p e0 e2 e6 e11 = cc
 
-  pub run-at : (run : Run) (n5 n6 n7 n8 : ℕ) → run ≡ runIn n5 n6 n7 n8 → n5 ≡ getD s 5 0 → n6 ≡ getD s 6 0 → n7 ≡ getD s 7 0 → n8 ≡ getD s 8 0
-      → run ≡ runIn (getD s 5 0) (getD s 6 0) (getD s 7 0) (getD s 8 0)
-  run-at run n5 n6 n7 n8 p e5 e6 e7 e8 = cc
+  pub run-at : (run : Run) (n6 n7 n8 n9 n10 : ℕ)
+      → run ≡ runIn n6 n7 n8 n9 n10 → n6 ≡ getD s 6 0 → n7 ≡ getD s 7 0 → n8 ≡ getD s 8 0 → n9 ≡ getD s 9 0 → n10 ≡ getD s 10 0
+      → run ≡ runIn (getD s 6 0) (getD s 7 0) (getD s 8 0) (getD s 9 0) (getD s 10 0)
+  run-at run n6 n7 n8 n9 n10 p e6 e7 e8 e9 e10 = cc
 
-  pub second-at : (last : Last) (n9 n10 : ℕ) → last ≡ lastIn n9 n10 → n9 ≡ getD s 9 0 → n10 ≡ getD s 10 0 → last ≡ lastIn (getD s 9 0) (getD s 10 0)
-  second-at last n9 n10 p e9 e10 = cc
+  pub second-at : (last : Last) (n11 n12 : ℕ) → last ≡ lastIn n11 n12 → n11 ≡ getD s 11 0 → n12 ≡ getD s 12 0 → last ≡ lastIn (getD s 11 0) (getD s 12 0)
+  second-at last n11 n12 p e11 e12 = cc
 
-  pub desk-in : (a b : ℕ) (c : Constellation) (book : Book) (run : Run) (last : Last) (n1 n2 n3 n4 : ℕ)
-      → a ≡ solutionIn (getD s 0 0) (getD s 2 0) (getD s 5 0) (getD s 9 0)
+  pub desk-in : (a b : ℕ) (c : Constellation) (book : Book) (run : Run) (last : Last) (n1 n2 n3 n4 n5 : ℕ)
+      → a ≡ solutionIn (getD s 0 0) (getD s 2 0) (getD s 6 0) (getD s 11 0)
       → b ≡ atMost 16 n1 → n1 ≡ getD s 1 0
       → c ≡ constellationIn n2 → n2 ≡ getD s 2 0
-      → book ≡ bookIn (n3 ∷ n4 ∷ []) → n3 ≡ getD s 3 0 → n4 ≡ getD s 4 0
-      → run ≡ runIn (getD s 5 0) (getD s 6 0) (getD s 7 0) (getD s 8 0)
-      → last ≡ lastIn (getD s 9 0) (getD s 10 0)
+      → book ≡ bookIn (n3 ∷ n4 ∷ n5 ∷ []) → n3 ≡ getD s 3 0 → n4 ≡ getD s 4 0 → n5 ≡ getD s 5 0
+      → run ≡ runIn (getD s 6 0) (getD s 7 0) (getD s 8 0) (getD s 9 0) (getD s 10 0)
+      → last ≡ lastIn (getD s 11 0) (getD s 12 0)
       → record { solution = a; processor = b; constellation = c; book = book; run = run; last = last } ≡ deskIn s
   unfolding deskIn
-  desk-in a b c book run last n1 n2 n3 n4 p q e1 t e2 u e3 e4 v w = cc
+  desk-in a b c book run last n1 n2 n3 n4 n5 p q e1 t e2 u e3 e4 e5 v w = cc
