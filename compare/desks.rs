@@ -8,13 +8,13 @@ use crate::marks;
 use crate::tables::{self, LentTable, Past, Table};
 use homralgyu::raw;
 use second::answer::{number, with_place, Refusal};
-use second::book::BOOK_BYTES;
+use second::book::{self, Book, Numbers, BOOK_BYTES};
 use second::desk::{self, Last, Of, LOG_BYTES, PLACES};
 use second::frame::LONGEST_PAYLOAD;
 use second::frame::{assemble, Plain};
 use second::generate::*;
-use second::kept::KEPT_BYTES;
-use second::kept;
+use second::groups::groups;
+use second::kept::{self, FORM_1, FORM_2};
 use second::payload::GadArea;
 use second::views::AreaId;
 
@@ -30,7 +30,7 @@ pub fn new(rng: &mut Rng, judge: &mut Judge) {
     let solution = rng.pick(&[0, 127, 128, 255, any[0], any[0] & 127, any[0] & 127]);
     let processor = rng.pick(&[0, 15, 16, 255, any[1], any[1] & 15, any[1] & 15]);
     let constellation = rng.pick(&[0, 1, 2, 3, 4, 4, 5, 255, any[2]]);
-    let places = rng.pick(&[0, 8, 9, 10, 11, 11, 11, 11, 11, 11, 11, 12, 20]);
+    let places = rng.pick(&[0, 8, 9, 10, 11, 12, 13, 13, 13, 13, 13, 13, 13, 14, 20]);
     let mut desk = lent_entries(rng, places);
     let said = || format!("{solution} {processor} {constellation}, {places} places");
     let input = Input { call: "desk_new", said: &said };
@@ -160,12 +160,17 @@ pub fn take(
     }
 }
 
-/// A kept book for the desk: that of its own live book, another, or a broken one.
+/// The live book of a sound desk, kept in a form; form 1 says nothing of its SIOU.
+fn own_kept(table: &Table, form: u64) -> Option<Vec<u8>> {
+    let desk = table.desk()?;
+    let held = book::areas(&desk.live, &table.live)?;
+    Some(kept::numbers(form, &desk.live, &held).into_iter().flat_map(groups).collect())
+}
+
+/// A kept book for the desk: that of its own live book in either form, another, or a broken one.
 fn some_kept(rng: &mut Rng, table: &Table) -> Vec<u8> {
-    let mut out = vec![0; KEPT_BYTES];
-    let own = table.desk().map(|desk| kept::write(&desk.live, &table.live, &mut out));
-    match (rng.below(3), own) {
-        (0, Some(Ok(size))) => out[..size].to_vec(),
+    match (rng.below(3), own_kept(table, rng.pick(&[FORM_1, FORM_2, FORM_2]))) {
+        (0, Some(own)) => own,
         (1, _) => broken_kept(rng),
         _ => second::generate::kept(rng),
     }
@@ -174,14 +179,30 @@ fn some_kept(rng: &mut Rng, table: &Table) -> Vec<u8> {
 /// A book taken in as the live one: read from its kept form, or any.
 pub fn take_book(rng: &mut Rng, judge: &mut Judge, table: &mut Table) {
     let kept = some_kept(rng, table);
-    let read = if rng.one_in(2) { books::read_kept(rng, judge, &kept, BOOK_BYTES, 2) } else { None };
-    let (held, numbers, bytes) = read.unwrap_or_else(|| books::some_book(rng));
+    let read = books::read_kept(rng, judge, &kept, BOOK_BYTES, book::PLACES);
+    let (form, book) = match read {
+        Some(book) if rng.one_in(2) => (Some(kept[0] as u64), book),
+        _ => (None, books::some_book(rng)),
+    };
     let places = books::places(rng);
-    let numbers = books::lent_numbers(rng, &numbers, places);
+    take_in(rng, judge, table, &book, (places, form));
+}
+
+/// This book, its numbers lent in so many places and its bytes, read from a kept book of a form or
+/// not, taken in as the live one.
+fn take_in(
+    rng: &mut Rng,
+    judge: &mut Judge,
+    table: &mut Table,
+    (held, numbers, bytes): &(Book, Numbers, Vec<u8>),
+    (places, form): (usize, Option<u64>),
+) {
+    let numbers = books::lent_numbers(rng, numbers, places);
     let old = table.clone();
-    let said = || format!("{}, book {numbers:?}, bytes {}", old.said(), hex(&bytes));
+    let said = || format!("{}, book {numbers:?}, bytes {}", old.said(), hex(bytes));
     let input = Input { call: "desk_take_book", said: &said };
-    let (mut ours, our_book, our_bytes) = (table.lend(), lent::numbers(&numbers), lent::bytes(&bytes));
+    let (our_book, our_bytes) = (lent::numbers(&numbers), lent::bytes(bytes));
+    let mut ours = table.lend();
     let answer = raw::desk_take_book(
         ours.numbers.part(),
         ours.live.part(),
@@ -190,19 +211,21 @@ pub fn take_book(rng: &mut Rng, judge: &mut Judge, table: &mut Table) {
         our_bytes.now(),
     );
     let result = match table.desk() {
-        Some(desk) if numbers.len() >= 2 => {
-            desk::take_book(&desk, &held, &bytes, &mut table.live, &table.run)
+        Some(desk) if numbers.len() >= book::PLACES => {
+            desk::take_book(&desk, held, bytes, &mut table.live, &table.run)
         }
         _ => Err(Refusal::Room),
     };
     judge.number(&input, answer, number(&result));
+    marks::book_taken_in(judge, &old, held, bytes, number(&result));
     if let Ok(desk) = result {
         table.put(&desk);
-        table.past = Past { taken_in: true, ..Past::default() };
+        let form_1 = form == Some(FORM_1) && held.count > 0;
+        table.past = Past { taken_in: true, form_1, ..Past::default() };
     }
     same_table(judge, &input, &ours, table);
     judge.lent(&input, "the book's numbers", &our_book, &numbers);
-    judge.lent(&input, "the book's bytes", &our_bytes, &bytes);
+    judge.lent(&input, "the book's bytes", &our_bytes, bytes);
 }
 
 /// A new desk and the frames of a day, with lookups and kept books between them.
@@ -232,11 +255,11 @@ pub fn gaps(rng: &mut Rng, judge: &mut Judge) {
         if rng.one_in(4) {
             take_book(rng, judge, &mut table);
         }
-        let accepted = rng.pick(&SORTS[..5]);
+        let accepted = rng.pick(&SORTS[..8]);
         let any = rng.pick(&SORTS);
         let sort = rng.pick(&[accepted, any]);
         let frame = table.frame_of(rng, sort);
-        let second = match table.desk().expect("eleven numbers").last {
+        let second = match table.desk().expect("thirteen numbers").last {
             Last::At(last) if rng.one_in(2) => gap_second(rng, last).unwrap_or(u64::MAX),
             _ => table.second(rng),
         };
@@ -249,11 +272,41 @@ pub fn gaps(rng: &mut Rng, judge: &mut Judge) {
         }
         let sort = rng.pick(&[Sort::OfRun, Sort::OtherTag, Sort::OtherTag, Sort::Gad, Sort::Against]);
         let next = table.frame_of(rng, sort);
-        let second = match table.desk().expect("eleven numbers").last {
-            Last::At(last) => near_second(rng, last),
-            _ => first_second(rng),
-        };
-        take(rng, judge, &mut table, (&next, second), LOG_BYTES, 1);
+        take_near(rng, judge, &mut table, &next);
+    }
+}
+
+/// A frame taken without a gap before it.
+fn take_near(rng: &mut Rng, judge: &mut Judge, table: &mut Table, frame: &[u8]) {
+    let second = match table.desk().expect("thirteen numbers").last {
+        Last::At(last) => near_second(rng, last),
+        _ => first_second(rng),
+    };
+    take(rng, judge, table, (frame, second), LOG_BYTES, 1);
+}
+
+/// A kept book of a form, read and taken in by a new desk; then, without a gap, HPACs of its SIOU
+/// and of others, and GADs of a solver that restarts and keeps its AIOU. Between them the live book
+/// is kept and taken in again, in form 1 with its SIOU lost.
+pub fn solutions(rng: &mut Rng, judge: &mut Judge) {
+    let made = desk::new(rng.below(128), rng.below(16), rng.below(5)).expect("in range");
+    let mut table = tables::fresh(rng, &made);
+    let mut kept = second::generate::kept(rng);
+    for _ in 0..rng.between(1, 3) {
+        let book = books::read_kept(rng, judge, &kept, BOOK_BYTES, book::PLACES);
+        let lent_as = (book::PLACES, Some(kept[0] as u64));
+        take_in(rng, judge, &mut table, &book.expect("a kept book"), lent_as);
+        for _ in 0..rng.between(1, 7) {
+            let hpac = rng.pick(&[Sort::OfRun, Sort::OtherTag, Sort::OfRunOtherSiou]);
+            let gad = rng.pick(&[Sort::OtherSiou, Sort::OverUnknown, Sort::Gad, Sort::Against]);
+            let refused = rng.pick(&[Refusal::AreaOff, Refusal::Conflict]);
+            let sort = rng.pick(&[hpac, hpac, hpac, gad, gad, Sort::Refused(refused)]);
+            let frame = table.frame_of(rng, sort);
+            take_near(rng, judge, &mut table, &frame);
+        }
+        find(rng, judge, &table);
+        sound(judge, &table);
+        kept = own_kept(&table, rng.pick(&[FORM_1, FORM_2])).expect("a sound desk");
     }
 }
 
@@ -261,13 +314,14 @@ pub fn gaps(rng: &mut Rng, judge: &mut Judge) {
 pub fn full(rng: &mut Rng, judge: &mut Judge) {
     let made = desk::new(rng.below(128), rng.below(16), rng.below(5)).expect("in range");
     let mut table = tables::fresh(rng, &made);
-    let (id, aiou) = (rng.below(256), rng.below(16));
+    let (id, aiou, siou) = (rng.below(256), rng.below(16), siou(rng));
     let grid = GadArea { latitude_count: 7, longitude_count: 7, latitude: 900, ..area(rng, id) };
     let wanted = |sf, codes: &[u64]| (sf, codes.iter().copied().collect());
     let hpac = (0..20)
         .map(|_| {
             let residuals = wanted(63, &[0; 64]);
             let codes = vec![
+                wanted(5, &[siou]),
                 wanted(68, &[aiou]),
                 wanted(30, &[0]),
                 wanted(31, &[id]),
@@ -287,7 +341,7 @@ pub fn full(rng: &mut Rng, judge: &mut Judge) {
         solution: made.solution,
         processor: made.processor,
     };
-    let gad = assemble(&parts, None, &gad_sheet(rng, aiou, &[grid]).payload(), &[]);
+    let gad = assemble(&parts, None, &gad_sheet(rng, aiou, siou, &[grid]).payload(), &[]);
     let second = first_second(rng);
     take(rng, judge, &mut table, (&gad, second), LOG_BYTES, 1);
     if let Some(payload) = hpac {

@@ -296,7 +296,7 @@ fn places(entry: &Entry) -> Vec<Place> {
 }
 
 /// The groups of a number of more than 64 bits.
-fn wide(number: u128) -> Vec<u8> {
+pub fn wide(number: u128) -> Vec<u8> {
     let mut bytes = Vec::new();
     let mut rest = number;
     while rest >= 128 {
@@ -308,7 +308,7 @@ fn wide(number: u128) -> Vec<u8> {
 }
 
 /// A number's groups, then zero groups up to a count, all with more to follow.
-fn open(number: u64, count: usize) -> Vec<u8> {
+pub fn open(number: u64, count: usize) -> Vec<u8> {
     let mut form = groups(number);
     if let Some(last) = form.last_mut() {
         *last |= 0x80;

@@ -24,7 +24,7 @@ use second::generate::Rng;
 type Case = fn(&mut Rng, &mut Judge);
 
 /// What is tried, and its share of the turns.
-const CASES: [(u64, Case); 27] = [
+const CASES: [(u64, Case); 29] = [
     (18, frames::check),
     (8, frames::write),
     (20, payloads::read),
@@ -41,11 +41,13 @@ const CASES: [(u64, Case); 27] = [
     (6, books::history),
     (5, books::keep),
     (5, books::read),
+    (1, books::changed),
     (4, books::find),
     (2, desks::new),
     (12, desks::odd),
     (10, desks::history),
     (12, desks::gaps),
+    (10, desks::solutions),
     (1, desks::full),
     (12, prepares::odd),
     (6, prepares::whole),

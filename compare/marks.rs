@@ -3,21 +3,24 @@
 use crate::entries::Role;
 use crate::judge::Judge;
 use crate::logs::{entries, Entry};
-use crate::tables::{Past, Table};
+use crate::tables::{Past, Table, RUN_FLAG, SECOND_FLAG};
 use second::answer::{number, Refusal, Refused};
-use second::book;
-use second::desk::{self, Desk, Last, GAP, HALF_DAY, LOG_BYTES};
+use second::book::{self, Book};
+use second::desk::{self, Desk, Last, Run, GAP, HALF_DAY, LOG_BYTES};
 use second::entries;
 use second::frame;
 use second::generate::TWELVE;
 use second::groups;
+use second::kept::{self, KEPT_BYTES};
+use second::payload::{Gad, Hpac, Message};
 use second::prepare::Event;
+use second::sheet;
 use second::stream::MOST_NOISE;
 use second::values::{Residual, Yaw};
 use second::views::{Satellite, SatelliteView};
 
 /// What a run of many inputs has to meet besides.
-pub const MARKS: [&str; 50] = [
+pub const MARKS: [&str; 54] = [
     "GAD: a book begins",
     "GAD: a book of 32",
     "GAD: the book grows",
@@ -28,6 +31,7 @@ pub const MARKS: [&str; 50] = [
     "HPAC: the first run",
     "HPAC: the run goes on",
     "HPAC: the run goes on, its AIOU no longer live",
+    "HPAC: the run goes on, its SIOU no longer live",
     "HPAC: the run goes on, the live book having grown",
     "event: a frame refused",
     "event: a frame taken",
@@ -49,15 +53,18 @@ pub const MARKS: [&str; 50] = [
     "log: 3, left out by 2",
     "log: 3, left out by 3",
     "log: 3, left out by 4",
+    "log: 3, left out by 5",
     "log: over 1,000 bytes of a frame",
     "unsound: constellation",
     "unsound: flag of the last second",
     "unsound: flag of the run",
     "unsound: live book",
+    "unsound: live book, by its SIOU",
     "unsound: processor",
     "unsound: solution",
     "unsound: tag",
     "unsound: the run's book",
+    "unsound: the run's book, by its SIOU",
     "view: a satellite with all blocks",
     "view: a satellite with no block",
     "view: an ID that repeats",
@@ -68,6 +75,118 @@ pub const MARKS: [&str; 50] = [
     "view: yaw absent",
     "view: yaw an angle",
     "view: yaw invalid",
+];
+
+/// What a GAD of the same AIOU was to a live book of another SIOU, and to one of an unknown SIOU:
+/// there was no gap before it. What it would have been is by the SIOU of the book.
+pub const GADS: [[&str; 5]; 2] = [
+    [
+        "GAD: same AIOU, another SIOU begins a new book",
+        "GAD: same AIOU, another SIOU, would have added",
+        "GAD: same AIOU, another SIOU, would have been CONFLICT",
+        "GAD: same AIOU, another SIOU, would have been BOOK_FULL",
+        "GAD: same AIOU, another SIOU, refused: the old book stays",
+    ],
+    [
+        "GAD: over a book of unknown SIOU",
+        "GAD: over a book of unknown SIOU, would have added",
+        "GAD: over a book of unknown SIOU, would have been CONFLICT",
+        "GAD: over a book of unknown SIOU, would have been BOOK_FULL",
+        "GAD: over a book of unknown SIOU, refused: the old book stays",
+    ],
+];
+
+/// The same of a book by itself.
+pub const BOOK_GADS: [[&str; 5]; 2] = [
+    [
+        "book: same AIOU, another SIOU begins a new book",
+        "book: same AIOU, another SIOU, would have added",
+        "book: same AIOU, another SIOU, would have been CONFLICT",
+        "book: same AIOU, another SIOU, would have been BOOK_FULL",
+        "book: same AIOU, another SIOU, refused: the old book stays",
+    ],
+    [
+        "book: a GAD over an unknown SIOU",
+        "book: a GAD over an unknown SIOU, would have added",
+        "book: a GAD over an unknown SIOU, would have been CONFLICT",
+        "book: a GAD over an unknown SIOU, would have been BOOK_FULL",
+        "book: a GAD over an unknown SIOU, refused: the old book stays",
+    ],
+];
+
+/// What else was met of the solutions that fill books, of books taken in, and of kept ones.
+pub const SOLUTIONS: [&str; 39] = [
+    "GAD: another AIOU, the same SIOU begins a new book",
+    "GAD: CONFLICT, same AIOU and same SIOU",
+    "HPAC: left out by 2, another SIOU too",
+    "HPAC: left out by 5, a book taken in by form 1",
+    "HPAC: left out by 5, an ID not in the book",
+    "HPAC: left out by 5, neither book of its SIOU",
+    "HPAC: left out by 5, several blocks",
+    "HPAC: left out by 5, the live book of its SIOU",
+    "HPAC: left out by 5, the run's book of unknown SIOU",
+    "HPAC: placed by a book whose SIOU is no longer live",
+    "book: another AIOU, the same SIOU begins a new book",
+    "book: CONFLICT, same AIOU and same SIOU",
+    "book: count 0, and AIOU and SIOU out of range",
+    "book: unsound by its SIOU",
+    "gap: GAD taken, of another SIOU than the old book",
+    "gap: GAD taken, the old book of unknown SIOU",
+    "gap: HPAC of the open run, left out by 5",
+    "kept: FORM, SIOU + 1 of 513",
+    "kept: FORM, SIOU + 1 not in shortest form",
+    "kept: FORM, a SIOU without an AIOU",
+    "kept: FORM, form number 0",
+    "kept: FORM, form number 3",
+    "kept: LEFTOVER, form 1",
+    "kept: LEFTOVER, form 2",
+    "kept: ROOM of 228 bytes",
+    "kept: STATE by its SIOU",
+    "kept: every number of form 1 changed",
+    "kept: every number of form 2 changed",
+    "kept: form 1 read",
+    "kept: form 1 read, empty",
+    "kept: form 2 read",
+    "kept: form 2 read, SIOU 511",
+    "kept: form 2 read, SIOU unknown",
+    "kept: form 2 read, empty",
+    "kept: written in all its room",
+    "kept: written, SIOU unknown",
+    "kept: written, empty",
+    "taken in: STATE, the book by its SIOU",
+    "taken in: a book of unknown SIOU",
+];
+
+/// The numbers of kept books at which they were FORM and SHORT, in form 1 and in form 2.
+pub const KEPT_FORM: [&[&str]; 2] = [
+    &[
+        "kept: FORM at the form number",
+        "kept: FORM at AIOU + 1, form 1",
+        "kept: FORM at the count, form 1",
+        "kept: FORM at an area, form 1",
+    ],
+    &[
+        "kept: FORM at the form number",
+        "kept: FORM at AIOU + 1, form 2",
+        "kept: FORM at SIOU + 1",
+        "kept: FORM at the count, form 2",
+        "kept: FORM at an area, form 2",
+    ],
+];
+pub const KEPT_SHORT: [&[&str]; 2] = [
+    &[
+        "kept: SHORT at the form number",
+        "kept: SHORT at AIOU + 1, form 1",
+        "kept: SHORT at the count, form 1",
+        "kept: SHORT at an area, form 1",
+    ],
+    &[
+        "kept: SHORT at the form number",
+        "kept: SHORT at AIOU + 1, form 2",
+        "kept: SHORT at SIOU + 1",
+        "kept: SHORT at the count, form 2",
+        "kept: SHORT at an area, form 2",
+    ],
 ];
 
 /// What the seconds were, and what a gap before a frame made of it: there was a live book to empty, unless it says otherwise.
@@ -182,7 +301,7 @@ pub const VIEWS: [&str; 30] = [
 ];
 
 /// What was met of entries that were read, and refused.
-pub const ENTRIES: [&str; 39] = [
+pub const ENTRIES: [&str; 41] = [
     "entry: 1, opened with a book",
     "entry: 1, opened without a book",
     "entry: 2, placed with both",
@@ -193,12 +312,14 @@ pub const ENTRIES: [&str; 39] = [
     "entry: 3, left out by 2",
     "entry: 3, left out by 3",
     "entry: 3, left out by 4",
+    "entry: 3, left out by 5",
     "entry: 64 nodes",
     "entry: FORM, a number beyond 64 bits",
     "entry: FORM, a number not in shortest form",
     "entry: FORM, a number of over 100 groups",
     "entry: FORM, a number out of range",
     "entry: FORM, a satellite that leaves too few behind it",
+    "entry: FORM, reason 6",
     "entry: SF051 of 0",
     "entry: SF051 of 1",
     "entry: SF063 of 0",
@@ -263,7 +384,12 @@ pub const FORM_AT: [&str; 14] = [
 /// All that has to be met.
 pub fn all() -> Vec<&'static str> {
     let refused = REFUSED.map(|(_, name)| name);
-    [&MARKS[..], &SECONDS, &refused, &TYPES, &VIEWS, &ENTRIES, &SHORT_AT, &FORM_AT].concat()
+    let mut all = [&MARKS[..], &SECONDS, &refused, &TYPES, &VIEWS, &ENTRIES].concat();
+    all.extend(SHORT_AT.into_iter().chain(FORM_AT));
+    all.extend(SOLUTIONS);
+    all.extend(GADS.into_iter().chain(BOOK_GADS).flatten());
+    all.extend(KEPT_FORM.into_iter().chain(KEPT_SHORT).flatten());
+    all
 }
 
 /// Counts the type of a frame that is given to a desk.
@@ -289,6 +415,9 @@ pub fn second_given(judge: &mut Judge, before: &Table, frame: &[u8], second: u64
             judge.mark("gap: STATE, the live book alone unsound");
         }
         return past;
+    }
+    if !gap {
+        solution_given(judge, before, &desk, frame, answer);
     }
     judge.mark(match desk.last {
         Last::At(last) => match second.checked_sub(last) {
@@ -401,11 +530,23 @@ fn taken_after_gap(judge: &mut Judge, before: &Table, desk: &Desk, frame: &[u8],
         return match timeless_answer(before, desk, frame) {
             (14, _) => judge.mark("gap: GAD taken, the old book alone against it"),
             (15, _) => judge.mark("gap: GAD taken, the old book alone without room"),
-            (_, then) if then.live.aiou == desk.live.aiou && then.live.count > desk.live.count => {
-                judge.mark("gap: GAD taken, it would have added to the old book")
+            (_, Desk { live: then, .. }) if then.aiou == desk.live.aiou => {
+                let same_siou = then.siou == desk.live.siou;
+                if desk.live.siou.is_none() {
+                    judge.mark("gap: GAD taken, the old book of unknown SIOU")
+                } else if !same_siou {
+                    judge.mark("gap: GAD taken, of another SIOU than the old book")
+                } else if then.count > desk.live.count {
+                    judge.mark("gap: GAD taken, it would have added to the old book")
+                }
             }
             _ => {}
         };
+    }
+    if let (Some(open), Some(Message::Hpac(hpac)), true) = (desk.run, message_of(frame), of_run) {
+        if open.book.aiou == Some(hpac.aiou) && open.book.siou != Some(hpac.siou) {
+            judge.mark("gap: HPAC of the open run, left out by 5");
+        }
     }
     judge.mark(match desk.run {
         None => "gap: HPAC, no run open",
@@ -415,13 +556,214 @@ fn taken_after_gap(judge: &mut Judge, before: &Table, desk: &Desk, frame: &[u8],
     });
 }
 
+/// The message of a frame that is accepted and read.
+fn message_of(frame: &[u8]) -> Option<Message> {
+    let header = frame::check(frame).ok()?;
+    let payload = &frame[header.payload];
+    sheet::open(header.type_, header.subtype, payload).ok().map(|(message, ..)| message)
+}
+
+/// Is a book sound but for its SIOU?
+fn unsound_by_siou(book: &Book, bytes: &[u8]) -> bool {
+    !book::sound(book, bytes) && book::sound(&Book { siou: None, ..*book }, bytes)
+}
+
+/// Counts what the AIOU and the SIOU of a frame were to the desk, which was sound; there was no gap
+/// before it.
+fn solution_given(judge: &mut Judge, before: &Table, desk: &Desk, frame: &[u8], answer: u8) {
+    let ours = ![10, 11, 12].contains(&answer);
+    match message_of(frame).filter(|_| ours) {
+        Some(Message::Gad(gad)) => {
+            let other_aiou = "GAD: another AIOU, the same SIOU begins a new book";
+            let names = (&GADS, other_aiou, "GAD: CONFLICT, same AIOU and same SIOU");
+            gad_met(judge, names, &desk.live, &before.live, &gad, answer);
+        }
+        Some(Message::Hpac(hpac)) if answer == 0 => {
+            let tag = frame::check(frame).map_or(0, |header| header.tag % HALF_DAY);
+            let of_run = desk.run.is_some_and(|open| open.tag == tag);
+            let (book, bytes) = match desk.run {
+                Some(open) if of_run => (open.book, &before.run),
+                _ => (desk.live, &before.live),
+            };
+            hpac_met(judge, desk, &book, bytes, &hpac);
+            if !of_run && before.past.form_1 && book.aiou == Some(hpac.aiou) {
+                judge.mark("HPAC: left out by 5, a book taken in by form 1");
+            }
+        }
+        _ => {}
+    }
+}
+
+/// The names for what a GAD of the same AIOU met; of another AIOU; of CONFLICT.
+type Names = (&'static [[&'static str; 5]; 2], &'static str, &'static str);
+
+/// Counts what a GAD was to a sound book.
+fn gad_met(judge: &mut Judge, names: Names, held: &Book, bytes: &[u8], gad: &Gad, answer: u8) {
+    let (of_same_aiou, other_aiou, conflict) = names;
+    if held.is_of(gad.aiou, gad.siou) {
+        if answer == 14 {
+            judge.mark(conflict);
+        }
+        return;
+    }
+    if held.aiou != Some(gad.aiou) {
+        if answer == 0 && held.siou == Some(gad.siou) {
+            judge.mark(other_aiou);
+        }
+        return;
+    }
+    let unknown = held.siou.is_none();
+    let [begins, added, conflict, no_room, refused] = of_same_aiou[usize::from(unknown)];
+    if answer != 0 {
+        return judge.mark(refused);
+    }
+    judge.mark(begins);
+    let areas = book::areas(held, bytes).expect("a sound book");
+    match book::with_gad(&Book { siou: Some(gad.siou), ..*held }, &areas, gad) {
+        Err(Refusal::Conflict) => judge.mark(conflict),
+        Err(_) => judge.mark(no_room),
+        Ok(then) if then.len() > areas.len() => judge.mark(added),
+        Ok(_) => {}
+    }
+}
+
+/// Counts what an HPAC was to the book that it is told by.
+fn hpac_met(judge: &mut Judge, desk: &Desk, book: &Book, bytes: &[u8], hpac: &Hpac) {
+    let areas = book::areas(book, bytes).expect("a sound book");
+    let holds = |id: u64| areas.iter().any(|area| area.id == id);
+    let same_siou = book.siou == Some(hpac.siou);
+    match book.aiou {
+        None => return,
+        Some(aiou) if aiou != hpac.aiou => {
+            if !same_siou {
+                judge.mark("HPAC: left out by 2, another SIOU too");
+            }
+            return;
+        }
+        _ => {}
+    }
+    if same_siou {
+        return;
+    }
+    let live_is = desk.live.is_of(hpac.aiou, hpac.siou);
+    judge.mark(match book.siou {
+        None => "HPAC: left out by 5, the run's book of unknown SIOU",
+        _ if live_is => "HPAC: left out by 5, the live book of its SIOU",
+        _ => "HPAC: left out by 5, neither book of its SIOU",
+    });
+    if hpac.areas.len() > 1 {
+        judge.mark("HPAC: left out by 5, several blocks");
+    }
+    if hpac.areas.iter().any(|area| !holds(area.id)) {
+        judge.mark("HPAC: left out by 5, an ID not in the book");
+    }
+}
+
+/// Counts what a GAD's payload was to a book by itself.
+pub fn gad_given(judge: &mut Judge, held: &Book, bytes: &[u8], payload: &[u8], answer: u8) {
+    if answer == 17 && unsound_by_siou(held, bytes) {
+        judge.mark("book: unsound by its SIOU");
+    }
+    if [9, 17].contains(&answer) {
+        return;
+    }
+    if let Ok((Message::Gad(gad), ..)) = sheet::open(2, 0, payload) {
+        let other_aiou = "book: another AIOU, the same SIOU begins a new book";
+        let names = (&BOOK_GADS, other_aiou, "book: CONFLICT, same AIOU and same SIOU");
+        gad_met(judge, names, held, bytes, &gad, answer);
+    }
+}
+
+/// Counts what a book was to a desk that took it in, or did not.
+pub fn book_taken_in(judge: &mut Judge, before: &Table, held: &Book, bytes: &[u8], answer: u8) {
+    if answer == 0 && held.count > 0 && held.siou.is_none() {
+        judge.mark("taken in: a book of unknown SIOU");
+    }
+    let desk = before.desk();
+    let sound = desk.is_some_and(|desk| desk::sound(&desk, &before.live, &before.run));
+    if answer == 17 && sound && unsound_by_siou(held, bytes) {
+        judge.mark("taken in: STATE, the book by its SIOU");
+    }
+}
+
+/// Counts what a book was that was kept, or was not.
+pub fn book_kept(judge: &mut Judge, held: &Book, bytes: &[u8], result: &Result<usize, Refusal>) {
+    match result {
+        Err(Refusal::State) => {
+            if unsound_by_siou(held, bytes) {
+                judge.mark("kept: STATE by its SIOU");
+            }
+        }
+        Err(_) => {}
+        Ok(size) => {
+            if *size == KEPT_BYTES {
+                judge.mark("kept: written in all its room");
+            }
+            if held.count == 0 {
+                judge.mark("kept: written, empty");
+            } else if held.siou.is_none() {
+                judge.mark("kept: written, SIOU unknown");
+            }
+        }
+    }
+}
+
+/// Counts what kept bytes were that were read, or were not; by their form number if it is 1 or 2.
+pub fn kept_given(judge: &mut Judge, bytes: &[u8], result: &Result<Book, Refusal>) {
+    let form_2 = bytes.first() == Some(&2);
+    match result {
+        Ok(book) => judge.mark(match (form_2, book.count > 0, book.siou) {
+            (false, true, _) => "kept: form 1 read",
+            (false, false, _) => "kept: form 1 read, empty",
+            (true, false, _) => "kept: form 2 read, empty",
+            (true, true, None) => "kept: form 2 read, SIOU unknown",
+            (true, true, Some(511)) => "kept: form 2 read, SIOU 511",
+            (true, true, Some(_)) => "kept: form 2 read",
+        }),
+        Err(Refusal::Leftover) => {
+            judge.mark(if form_2 { "kept: LEFTOVER, form 2" } else { "kept: LEFTOVER, form 1" })
+        }
+        Err(Refusal::Short) => {
+            let names = KEPT_SHORT[usize::from(form_2)];
+            judge.mark(names[kept_place(bytes).0.min(names.len() - 1)]);
+        }
+        Err(Refusal::Form) => {
+            let names = KEPT_FORM[usize::from(form_2)];
+            let (place, form) = kept_place(bytes);
+            judge.mark(names[place.min(names.len() - 1)]);
+            match (place, groups::read(form)) {
+                (0, Ok((0, _))) => judge.mark("kept: FORM, form number 0"),
+                (0, Ok((3, _))) => judge.mark("kept: FORM, form number 3"),
+                (2, Ok(_)) if form_2 && bytes[1] == 0 => {
+                    judge.mark("kept: FORM, a SIOU without an AIOU");
+                }
+                (2, Ok((513, _))) if form_2 => judge.mark("kept: FORM, SIOU + 1 of 513"),
+                (2, Err(_)) if form_2 && form.last() == Some(&0) => {
+                    judge.mark("kept: FORM, SIOU + 1 not in shortest form")
+                }
+                _ => {}
+            }
+        }
+        Err(_) => {}
+    }
+}
+
+/// How many numbers of kept bytes ended before the one at which they are FORM or SHORT; and that
+/// one.
+fn kept_place(bytes: &[u8]) -> (usize, &[u8]) {
+    let ends: Vec<usize> = (1..=bytes.len()).filter(|&end| bytes[end - 1] < 0x80).collect();
+    let place = ends.partition_point(|&end| kept::parse(&bytes[..end]) != Err(Refusal::Form));
+    let first = if place == 0 { 0 } else { ends[place - 1] };
+    (place, &bytes[first..ends.get(place).copied().unwrap_or(bytes.len())])
+}
+
 /// Counts what a frame was to the desk; there was no gap before it.
 pub fn frame_taken(judge: &mut Judge, frame: &[u8], before: &Desk, after: &Desk, log: &[u8]) {
     let header = frame::check(frame).expect("a frame that was taken");
     if header.type_ == 2 {
         judge.mark(match (before.live, after.live) {
             (old, new) if old == new => "GAD: the book stays",
-            (old, new) if old.aiou == new.aiou => "GAD: the book grows",
+            (old, new) if old.aiou == new.aiou && old.siou == new.siou => "GAD: the book grows",
             _ => "GAD: a book begins",
         });
         if after.live.count == 32 {
@@ -438,6 +780,9 @@ pub fn frame_taken(judge: &mut Judge, frame: &[u8], before: &Desk, after: &Desk,
         Some(open) if open.tag == tag && open.book.aiou != before.live.aiou => {
             "HPAC: the run goes on, its AIOU no longer live"
         }
+        Some(open) if open.tag == tag && open.book.siou != before.live.siou => {
+            "HPAC: the run goes on, its SIOU no longer live"
+        }
         Some(open) if open.tag == tag && open.book != before.live => {
             "HPAC: the run goes on, the live book having grown"
         }
@@ -449,7 +794,14 @@ pub fn frame_taken(judge: &mut Judge, frame: &[u8], before: &Desk, after: &Desk,
         judge.mark("log: over 1,000 bytes of a frame");
     }
     let old_book = after.run.is_some_and(|open| open.book != after.live);
+    let restarted = match after.run {
+        Some(Run { book, .. }) => book.aiou == after.live.aiou && book.siou != after.live.siou,
+        None => false,
+    };
     for entry in entries(log) {
+        if restarted && matches!(entry, Entry::Placed { .. }) {
+            judge.mark("HPAC: placed by a book whose SIOU is no longer live");
+        }
         judge.mark(match entry {
             Entry::Opened => "log: 1, run opened",
             Entry::Placed { .. } if old_book => "log: 2, placed by a book no longer live",
@@ -460,7 +812,8 @@ pub fn frame_taken(judge: &mut Judge, frame: &[u8], before: &Desk, after: &Desk,
             Entry::LeftOut { reason: 1 } => "log: 3, left out by 1",
             Entry::LeftOut { reason: 2 } => "log: 3, left out by 2",
             Entry::LeftOut { reason: 3 } => "log: 3, left out by 3",
-            Entry::LeftOut { .. } => "log: 3, left out by 4",
+            Entry::LeftOut { reason: 4 } => "log: 3, left out by 4",
+            Entry::LeftOut { .. } => "log: 3, left out by 5",
         });
     }
 }
@@ -513,10 +866,14 @@ pub fn unsound_by(desk: &Desk, table: &Table) -> &'static str {
         _ if desk.solution > 127 => "unsound: solution",
         _ if desk.processor > 15 => "unsound: processor",
         _ if desk.constellation > 4 => "unsound: constellation",
-        _ if table.numbers[5] > 1 => "unsound: flag of the run",
-        _ if table.numbers[9] > 1 => "unsound: flag of the last second",
+        _ if table.numbers[RUN_FLAG] > 1 => "unsound: flag of the run",
+        _ if table.numbers[SECOND_FLAG] > 1 => "unsound: flag of the last second",
+        _ if unsound_by_siou(&desk.live, &table.live) => "unsound: live book, by its SIOU",
         _ if !book::sound(&desk.live, &table.live) => "unsound: live book",
         Some(open) if open.tag >= HALF_DAY => "unsound: tag",
+        Some(Run { book, .. }) if unsound_by_siou(&book, &table.run) => {
+            "unsound: the run's book, by its SIOU"
+        }
         _ => "unsound: the run's book",
     }
 }
@@ -545,7 +902,8 @@ pub fn entry_read(judge: &mut Judge, entry: &entries::Entry, used: usize) {
         Entry::LeftOut { reason: 1, .. } => return judge.mark("entry: 3, left out by 1"),
         Entry::LeftOut { reason: 2, .. } => return judge.mark("entry: 3, left out by 2"),
         Entry::LeftOut { reason: 3, .. } => return judge.mark("entry: 3, left out by 3"),
-        Entry::LeftOut { .. } => return judge.mark("entry: 3, left out by 4"),
+        Entry::LeftOut { reason: 4, .. } => return judge.mark("entry: 3, left out by 4"),
+        Entry::LeftOut { .. } => return judge.mark("entry: 3, left out by 5"),
         Entry::Placed(placed) => placed,
     };
     let satellites = &placed.satellites;
@@ -615,6 +973,9 @@ pub fn form_at(judge: &mut Judge, role: Role, form: &[u8], most: u64) {
     match groups::read(form) {
         Ok((number, _)) => {
             judge.mark("entry: FORM, a number out of range");
+            if role == Role::Reason && number == 6 {
+                judge.mark("entry: FORM, reason 6");
+            }
             let last = if most <= 64 { 64 } else { 256 };
             if role == Role::Satellite && most < number && number <= last {
                 judge.mark("entry: FORM, a satellite that leaves too few behind it");

@@ -285,7 +285,7 @@ fn prepare_cut(rng: &mut Rng, judge: &mut Judge, table: &Table, input: &[u8], se
                 }
                 Seconds::OfFrames(_) => first_second(rng),
             };
-            let before = job.table.desk().expect("eleven numbers");
+            let before = job.table.desk().expect("thirteen numbers");
             let went = step(rng, judge, &mut job, (portion, second), &ENOUGH).expect("a sound job");
             portion = portion.map(|portion| &portion[went.used..]);
             match went.event {

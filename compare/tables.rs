@@ -1,11 +1,22 @@
-//! A desk as it is lent: eleven numbers and two books, of every kind.
+//! A desk as it is lent: thirteen numbers and two books, of every kind.
 
 use crate::judge::hex;
 use crate::lent::{self, Lent};
-use second::book::BOOK_BYTES;
 use second::book;
+use second::book::BOOK_BYTES;
 use second::desk::{Desk, Last, PLACES};
 use second::generate::{self, *};
+use std::ops::Range;
+
+/// The places of a desk's numbers: of the live book's AIOU and SIOU + 1, of the run's flag, of what
+/// does not count without a run (its tag, its book's AIOU, SIOU + 1 and count), of the flag of the
+/// last second and of that second.
+pub const LIVE_AIOU: usize = 3;
+pub const LIVE_SIOU: usize = 4;
+pub const RUN_FLAG: usize = 6;
+pub const OF_RUN: Range<usize> = 7..11;
+pub const SECOND_FLAG: usize = 11;
+pub const SECOND: usize = 12;
 
 #[derive(Clone)]
 pub struct Table {
@@ -20,6 +31,8 @@ pub struct Table {
 pub struct Past {
     /// a book was taken in since the last frame that was answered OK
     pub taken_in: bool,
+    /// and it has areas and came from a kept book of form 1
+    pub form_1: bool,
     /// since the last frame that was answered OK, one was refused after a gap, over a live book
     pub refused: bool,
     /// the last frame that was answered OK was an HPAC of the open run, and emptied the live book
@@ -34,10 +47,10 @@ pub struct LentTable {
 }
 
 impl Table {
-    /// The desk of the numbers; none if they are under eleven.
+    /// The desk of the numbers; none if they are under thirteen.
     pub fn desk(&self) -> Option<Desk> {
-        let eleven = self.numbers.get(..PLACES)?;
-        Some(Desk::of_numbers(eleven.try_into().expect("eleven")))
+        let thirteen = self.numbers.get(..PLACES)?;
+        Some(Desk::of_numbers(thirteen.try_into().expect("thirteen")))
     }
 
     /// The desk as a call left it.
@@ -117,29 +130,32 @@ pub fn any(rng: &mut Rng) -> Table {
     let made = if rng.one_in(3) { unsound_table(rng) } else { table(rng) };
     let desk = made.desk;
     let mut table = of(made);
+    // without an area neither AIOU nor SIOU counts
     if desk.live.count == 0 && rng.one_in(2) {
-        table.numbers[3] = wild(rng, 0);
+        table.numbers[LIVE_AIOU] = wild(rng, 0);
+        table.numbers[LIVE_SIOU] = wild(rng, 0);
     }
     if desk.run.is_none() {
-        for place in 6..9 {
-            table.numbers[place] = rng.pick(&[0, 1, 33, 43200, u64::MAX]);
+        for place in OF_RUN {
+            table.numbers[place] = rng.pick(&[0, 1, 33, 513, 43200, u64::MAX]);
         }
     }
     // with flag 0 the second does not count, and is not always 0
     if desk.last == Last::Never && rng.one_in(2) {
-        table.numbers[10] = first_second(rng);
+        table.numbers[SECOND] = first_second(rng);
     }
     // a flag that says neither, cut to fewer bits it may be one that does
     if desk.last == Last::Neither || rng.one_in(12) {
-        table.numbers[9] = rng.pick(&[2, 3, 255, 256, 257, 1 << 32, (1 << 32) + 1, 1 << 63, u64::MAX]);
-        table.numbers[10] = first_second(rng);
+        let flags = [2, 3, 255, 256, 257, 1 << 32, (1 << 32) + 1, 1 << 63, u64::MAX];
+        table.numbers[SECOND_FLAG] = rng.pick(&flags);
+        table.numbers[SECOND] = first_second(rng);
     }
     if rng.one_in(4) {
         let place = rng.below(PLACES as u64) as usize;
         table.numbers[place] = wild(rng, table.numbers[place]);
     }
     match rng.below(20) {
-        0 => table.numbers.truncate(rng.pick(&[0, 3, 8, 9, 10])),
+        0 => table.numbers.truncate(rng.pick(&[0, 3, 8, 10, 11, 12])),
         1 => table.live.truncate(rng.pick(&[0, 6, 191])),
         2 => table.run.truncate(rng.pick(&[0, 6, 191])),
         3 => table.numbers.push(rng.draw()),
@@ -151,5 +167,7 @@ pub fn any(rng: &mut Rng) -> Table {
 /// A number next to a bound of some field, or one that is the old one again if it is cut to 8, 16 or 32 bits.
 fn wild(rng: &mut Rng, old: u64) -> u64 {
     let cut = old.wrapping_add(1 << rng.pick(&[8, 16, 32]));
-    rng.pick(&[cut, cut, 0, 1, 2, 4, 5, 15, 16, 17, 32, 33, 127, 128, 255, 43199, 43200, u64::MAX])
+    let small = rng.pick(&[0, 1, 2, 4, 5, 15, 16, 17, 32, 33]);
+    let large = rng.pick(&[127, 128, 255, 511, 512, 513, 43199, 43200, u64::MAX]);
+    rng.pick(&[cut, small, small, small, large, large, large])
 }

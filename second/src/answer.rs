@@ -29,7 +29,7 @@ pub enum Refusal {
     NotOurs = 12,
     /// grid runs south of -90.0 degrees
     AreaOff = 13,
-    /// same area ID and AIOU, other definition
+    /// same area ID, AIOU and (request 5) SIOU, other definition
     Conflict = 14,
     /// a 33rd area ID
     BookFull = 15,

@@ -6,12 +6,14 @@
 
 use crate::answer::{Place, Refusal, Refused};
 use crate::bits::BitWriter;
-use crate::book::{area_number, put, with_gad, Book, BOOK_BYTES, MOST_AREAS};
+use crate::book::{area_number, area_of, put, with_gad, Book};
+use crate::book::{BOOK_BYTES, MOST_AREAS, TOP_AIOU, TOP_SIOU};
 use crate::desk::{Desk, Last, Run, GAP, HALF_DAY};
 use crate::entries::{self, Entry, Placed, Satellite, BANDS, LAST_REASON, MOST_COUNT, MOST_SATELLITES};
 use crate::frame::{assemble, Plain, Seal, AUTHENTICATION_BYTES, LONGEST_FRAME, LONGEST_PAYLOAD, PREAMBLE};
 use crate::groups::groups;
-use crate::payload::{message, Entries, Field, GadArea, Takes, CONSTELLATIONS};
+use crate::kept::{self, FORM_1, FORM_2};
+use crate::payload::{message, Entries, Field, Gad, GadArea, Takes, CONSTELLATIONS};
 use crate::sheet::open;
 use crate::stream::{Tray, MOST_NOISE};
 use std::collections::VecDeque;
@@ -1003,22 +1005,46 @@ pub fn areas(rng: &mut Rng) -> Vec<GadArea> {
     ids.into_iter().map(|id| area(rng, id)).collect()
 }
 
+/// A SIOU: 0 and 511, those whose SIOU + 1 is just of one and of two groups, any.
+pub fn siou(rng: &mut Rng) -> u64 {
+    let some = rng.below(TOP_SIOU + 1);
+    rng.pick(&[0, TOP_SIOU, 126, 127, some, some, some, some])
+}
+
+/// A SIOU other than this one: the next, the one before, or any.
+pub fn other_siou(rng: &mut Rng, than: u64) -> u64 {
+    let count = TOP_SIOU + 1;
+    let by = rng.between(1, count - 1);
+    (than + rng.pick(&[1, 1, count - 1, by])) % count
+}
+
+/// The numbers of a book with so many areas: its SIOU is known, now and then it is not.
+fn book_of(rng: &mut Rng, count: u64) -> Book {
+    let (aiou, siou, unknown) = (rng.below(TOP_AIOU + 1), siou(rng), rng.one_in(4));
+    if count == 0 {
+        return Book::default();
+    }
+    Book { aiou: Some(aiou), siou: if unknown { None } else { Some(siou) }, count }
+}
+
 /// A sound book and its lent bytes: garbage past the areas, surplus now and then.
 pub fn book(rng: &mut Rng) -> (Book, Vec<u8>) {
     let held = areas(rng);
-    let aiou = rng.below(16);
+    let of = book_of(rng, held.len() as u64);
     let surplus = rng.pick(&[0, 0, 1, 7]);
     let mut bytes = rng.bytes(BOOK_BYTES + surplus);
     put(&held, &mut bytes);
-    let aiou = if held.is_empty() { None } else { Some(aiou) };
-    (Book { aiou, count: held.len() as u64 }, bytes)
+    (of, bytes)
 }
 
 /// A book that is, but for rare chance, not sound.
 pub fn unsound_book(rng: &mut Rng) -> (Book, Vec<u8>) {
     let (mut of, mut bytes) = book(rng);
     let at = rng.below(of.count) as usize;
-    match rng.below(8) {
+    match rng.below(10) {
+        8 => of.siou = Some(rng.pick(&[512, 513, 1024, 512 + (1 << 32), u64::MAX])),
+        // a SIOU where there is no AIOU: nothing else is wrong with it
+        9 => of = Book { siou: Some(siou(rng)), ..Book::default() },
         0 => of.aiou = Some(rng.pick(&[16, 255, u64::MAX])),
         1 => of.count = rng.pick(&[33, 256, u64::MAX]),
         2 => of.aiou = if of.aiou.is_some() { None } else { Some(0) },
@@ -1051,42 +1077,112 @@ pub fn unsound_book(rng: &mut Rng) -> (Book, Vec<u8>) {
     (of, bytes)
 }
 
-/// A kept book that is read.
+/// A kept book that is read, of either form.
 pub fn kept(rng: &mut Rng) -> Vec<u8> {
-    let held = areas(rng);
-    kept_numbers(rng, &held).iter().flat_map(|&number| groups(number)).collect()
+    kept_numbers(rng).into_iter().flat_map(groups).collect()
 }
 
-fn kept_numbers(rng: &mut Rng, held: &[GadArea]) -> Vec<u64> {
-    let aiou = if held.is_empty() { 0 } else { rng.between(1, 16) };
-    let mut numbers = vec![1, aiou, held.len() as u64];
-    numbers.extend(held.iter().map(area_number));
-    numbers
+/// A kept book that is read, of either form, as its numbers.
+pub fn kept_numbers(rng: &mut Rng) -> Vec<u64> {
+    let (form, held) = (rng.pick(&[FORM_1, FORM_2]), areas(rng));
+    let of = book_of(rng, held.len() as u64);
+    kept::numbers(form, &of, &held)
+}
+
+/// How many numbers a kept book has before its areas: form number, AIOU + 1, in form 2 SIOU + 1,
+/// count.
+pub fn kept_head(form: u64) -> usize {
+    if form == FORM_1 {
+        3
+    } else {
+        4
+    }
+}
+
+/// What is put in the place of one number of a kept book that is read: those beside it, 0, the
+/// limits of every number and those beside them, those that are it again if they are cut to 8, 16
+/// or 32 bits; of an area others of its ID, at and over the bounds of their fields and off the
+/// pole, and the same one with other IDs.
+pub fn kept_changes(numbers: &[u64], at: usize) -> Vec<u64> {
+    let number = numbers[at];
+    let mut others = vec![number.wrapping_sub(1), number.wrapping_add(1)];
+    for limit in [0, 1, 2, 3, TOP_AIOU + 1, MOST_AREAS, 128, 255, TOP_SIOU + 1, 1 << 47] {
+        others.extend([limit, limit + 1]);
+    }
+    others.extend([number.wrapping_add(1 << 8), number.wrapping_add(1 << 16)]);
+    others.extend([number.wrapping_add(1 << 32), 1 << 63, number | 1 << 63, u64::MAX]);
+    let head = kept_head(numbers[0]);
+    if let (true, Some(of)) = (at >= head, area_of(number)) {
+        // the last ID that leaves room for those behind it
+        let last = 255 - (numbers.len() - 1 - at) as u64;
+        let before = at.checked_sub(head + 1).and_then(|place| area_of(numbers[head + place]));
+        let reach = 7 * (of.latitude_spacing + 1);
+        let mut areas = vec![
+            GadArea { latitude: 1800, ..of },
+            GadArea { latitude: 1801, ..of },
+            GadArea { latitude: 2047, ..of },
+            GadArea { longitude: 3600, ..of },
+            GadArea { longitude: 3601, ..of },
+            GadArea { longitude: 4095, ..of },
+            GadArea { latitude_count: 7, latitude: reach, ..of },
+            GadArea { latitude_count: 7, latitude: reach - 1, ..of },
+            GadArea { longitude_count: of.longitude_count ^ 1, ..of },
+            GadArea { id: of.id.saturating_sub(1), ..of },
+            GadArea { id: (of.id + 1).min(255), ..of },
+            GadArea { id: last, ..of },
+            GadArea { id: (last + 1).min(255), ..of },
+        ];
+        areas.extend(before.iter().flat_map(|before| {
+            [GadArea { id: before.id, ..of }, GadArea { id: (before.id + 1).min(255), ..of }]
+        }));
+        others.extend(areas.iter().map(area_number));
+    }
+    others.sort();
+    others.dedup();
+    others.retain(|&other| other != number);
+    others
 }
 
 /// A kept book that, mostly, is not: cut, longer, a number out of range, not in shortest form, of
-/// many groups, too large for any type, areas out of order, IDs that leave no room for the rest.
+/// many groups, too large for any type, areas out of order, IDs that leave no room for the rest;
+/// the numbers of the other form, a SIOU without an AIOU.
 pub fn broken_kept(rng: &mut Rng) -> Vec<u8> {
-    let held = areas(rng);
-    let mut numbers = kept_numbers(rng, &held);
+    let mut numbers = kept_numbers(rng);
+    let form = numbers[0];
+    let head = kept_head(form);
+    let count = (numbers.len() - head) as u64;
     let at = rng.below(numbers.len() as u64) as usize;
-    match rng.below(10) {
-        0 => numbers[0] = rng.pick(&[0, 2, 128, u64::MAX]),
-        1 => numbers[1] = rng.pick(&[0, 1, 17, 128, u64::MAX]),
-        2 => numbers[2] = rng.pick(&[0, 33, 128, held.len() as u64 + 1, u64::MAX]),
-        3 if at > 2 => {
-            let some = held[at - 3];
-            let mut lower = some;
-            lower.latitude = 1801;
+    // the area that stands there
+    let held = if at >= head { area_of(numbers[at]) } else { None };
+    match (rng.below(13), held) {
+        (0, _) => numbers[0] = rng.pick(&[0, 3, 128, 257, 258, u64::MAX]),
+        (1, _) => numbers[0] = FORM_1 + FORM_2 - form,
+        (2, _) => numbers[1] = rng.pick(&[0, 1, 17, 128, u64::MAX]),
+        (3, _) if form == FORM_2 => {
+            let large = rng.between(513, 2000);
+            numbers[2] = rng.pick(&[513, 513, 514, 1024, large, 512 + (1 << 32), u64::MAX]);
+        }
+        (4, _) if form == FORM_2 => {
+            // a SIOU without an AIOU: with no area behind it, and with some
+            let some = rng.between(1, 512);
+            (numbers[1], numbers[2]) = (0, rng.pick(&[1, 512, 513, some]));
+            if rng.one_in(2) {
+                numbers[3] = 0;
+                numbers.truncate(4);
+            }
+        }
+        (5, _) => numbers[head - 1] = rng.pick(&[0, 33, 128, count + 1, u64::MAX]),
+        (6, Some(some)) => {
+            let lower = GadArea { latitude: 1801, ..some };
             let off = area_off(rng, some.id);
             numbers[at] = rng.pick(&[area_number(&off), area_number(&lower), 1 << 47, u64::MAX]);
         }
-        4 if at > 3 => numbers[at] = numbers[at - 1],
-        5 if at > 2 => {
+        (7, Some(_)) if at > head => numbers[at] = numbers[at - 1],
+        (8, Some(some)) => {
             // an ID at or past the last that leaves room
             let left = (numbers.len() - 1 - at) as u64;
             let id = rng.pick(&[255, 255 - left, (256 - left).min(255)]);
-            numbers[at] = area_number(&GadArea { id, ..held[at - 3] });
+            numbers[at] = area_number(&GadArea { id, ..some });
             if rng.one_in(2) {
                 numbers.truncate(at + 1);
             }
@@ -1231,8 +1327,9 @@ pub fn broken_entry(rng: &mut Rng) -> Vec<u8> {
     let at = rng.pick(&[near, near, any]) as usize;
     let old = numbers[at];
     let beside = rng.pick(&[old.wrapping_sub(1), old + 1]);
-    let limits = [0, 2, 3, 4, 16, 33, 64, 65, 128, 192, 193, 255, 256, 257, 16384, 43200, 1 << 47, u64::MAX];
-    let limit = rng.pick(&limits);
+    let small = rng.pick(&[0, 2, 3, 4, 5, 6, 16, 33, 64, 65]);
+    let large = rng.pick(&[128, 192, 193, 255, 256, 257, 16384, 43200, 1 << 47, u64::MAX]);
+    let limit = rng.pick(&[small, large]);
     let mut form: Vec<Vec<u8>> = numbers.iter().map(|&number| groups(number)).collect();
     match rng.below(7) {
         0 | 1 => {
@@ -1335,6 +1432,11 @@ pub fn table(rng: &mut Rng) -> Table {
     let (mut run_book, mut run) = book(rng);
     if rng.one_in(3) {
         (run_book, run) = (live_book, live.clone());
+        // the solver has restarted since the run was opened, and kept its AIOU; or the run's book
+        // was taken in form 1
+        if let (Some(siou), true) = (live_book.siou, rng.one_in(3)) {
+            run_book.siou = if rng.one_in(4) { None } else { Some(other_siou(rng, siou)) };
+        }
     }
     let tag = rng.below(HALF_DAY);
     let tag = rng.pick(&[0, 43199, tag]);
@@ -1379,9 +1481,10 @@ pub fn unsound_table(rng: &mut Rng) -> Table {
 }
 
 /// A GAD sheet of these areas.
-pub fn gad_sheet(rng: &mut Rng, aiou: u64, areas: &[GadArea]) -> Sheet {
+pub fn gad_sheet(rng: &mut Rng, aiou: u64, siou: u64, areas: &[GadArea]) -> Sheet {
     let column = |of: fn(&GadArea) -> u64| areas.iter().map(of).collect::<VecDeque<u64>>();
     let wanted = vec![
+        (5, VecDeque::from([siou])),
         (68, VecDeque::from([aiou])),
         (30, VecDeque::from([areas.len().saturating_sub(1) as u64])),
         (31, column(|area| area.id)),
@@ -1395,9 +1498,9 @@ pub fn gad_sheet(rng: &mut Rng, aiou: u64, areas: &[GadArea]) -> Sheet {
     rich_sheet(rng, 2, 0, 0, wanted)
 }
 
-/// An HPAC sheet for a book: its own AIOU or another, areas of the book with the right number of
-/// nodes or another, areas not in the book.
-pub fn hpac_sheet(rng: &mut Rng, constellation: u64, aiou: u64, known: &[GadArea]) -> Sheet {
+/// An HPAC sheet for a book: its own AIOU and SIOU or others, areas of the book with the right
+/// number of nodes or another, areas not in the book.
+pub fn hpac_sheet(rng: &mut Rng, subtype: u64, aiou: u64, siou: u64, known: &[GadArea]) -> Sheet {
     let most = rng.pick(&[1, 1, 2, 4, 12]);
     let count = rng.between(1, most);
     let mut ids = VecDeque::new();
@@ -1413,15 +1516,20 @@ pub fn hpac_sheet(rng: &mut Rng, constellation: u64, aiou: u64, known: &[GadArea
         ids.push_back(area.id);
         node_counts.push_back(rng.pick(&[right, right, right, right, right - 1, right + 1, 0, 127]));
     }
-    let wanted =
-        vec![(68, VecDeque::from([aiou])), (30, VecDeque::from([count - 1])), (31, ids), (39, node_counts)];
+    let wanted = vec![
+        (5, VecDeque::from([siou])),
+        (68, VecDeque::from([aiou])),
+        (30, VecDeque::from([count - 1])),
+        (31, ids),
+        (39, node_counts),
+    ];
     for _ in 0..6 {
-        let made = sheet_with(rng, 1, constellation, wanted.clone());
+        let made = sheet_with(rng, 1, subtype, wanted.clone());
         if made.bits() <= 8 * LONGEST_PAYLOAD {
             return made;
         }
     }
-    sheet(rng, 1, constellation)
+    sheet(rng, 1, subtype)
 }
 
 /// A desk's arguments and a row of frames for it, with the second that each came in.
@@ -1435,9 +1543,10 @@ pub struct Scene {
 }
 
 /// A scene: GADs that begin, add, repeat, conflict, fill and overfill the book, run over the pole,
-/// come with the same and with other AIOUs and changed grids; HPACs that are placed and left out for
-/// all four reasons, with tags that stay, go on, go back, are over 43,199 or large; frames of
-/// others, sealed ones, odd ones; seconds that stay, go on, go back, and in some scenes gaps.
+/// come with the same and with other AIOUs and SIOUs and changed grids; HPACs that are placed and
+/// left out for all five reasons, with tags that stay, go on, go back, are over 43,199 or large;
+/// frames of others, sealed ones, odd ones; seconds that stay, go on, go back, and in some scenes
+/// gaps, and restarts of the solver, which keeps its AIOU.
 pub fn scene(rng: &mut Rng) -> Scene {
     let count = rng.between(1, 40);
     scene_of(rng, count)
@@ -1448,8 +1557,8 @@ pub fn scene_of(rng: &mut Rng, count: u64) -> Scene {
     let solution = rng.below(128);
     let processor = rng.below(16);
     let constellation = rng.below(5);
-    let mut aiou = rng.below(16);
-    let mut known: Vec<GadArea> = Vec::new();
+    let (aiou, siou) = (rng.below(16), siou(rng));
+    let mut provider = Provider { aiou, siou, told_with: None, known: Vec::new() };
     let mut time = rng.pick(&[0, 43195, 20000]);
     let mut frames = Vec::new();
     let mut seconds = Vec::new();
@@ -1457,12 +1566,39 @@ pub fn scene_of(rng: &mut Rng, count: u64) -> Scene {
     let eager = rng.one_in(3);
     // one in so many frames comes after a gap; 0 for none
     let gaps = rng.pick(&[0, 0, 3, 8, 20]);
+    // before one in so many frames the solver restarts; 0 for never
+    let restarts = rng.pick(&[0, 0, 8, 12, 25]);
     let mut latest = first_second(rng);
-    for _ in 0..count {
+    while (frames.len() as u64) < count {
+        if restarts > 0 && rng.one_in(restarts) {
+            provider.siou = other_siou(rng, provider.siou);
+            // now and then the whole of it, frame by frame
+            let row = if rng.one_in(3) {
+                restart(rng, constellation, &mut provider, time % HALF_DAY)
+            } else {
+                Vec::new()
+            };
+            for (type_, tag, payload) in row.into_iter().take(count as usize - frames.len()) {
+                let of = Plain {
+                    type_,
+                    check_type: rng.below(4),
+                    subtype: if type_ == 1 { constellation } else { 0 },
+                    tag_kind: 0,
+                    tag,
+                    solution,
+                    processor,
+                };
+                frames.push(assemble(&of, None, &payload, &[]));
+                let second = near_second(rng, latest);
+                latest = latest.max(second);
+                seconds.push(second);
+            }
+            continue;
+        }
         let gap = if gaps > 0 && rng.one_in(gaps) { gap_second(rng, latest) } else { None };
         // often the areas after it are not those before it, though the AIOU is the same
         if gap.is_some() && rng.one_in(2) {
-            known.clear();
+            provider.known.clear();
         }
         let second = gap.unwrap_or_else(|| near_second(rng, latest));
         latest = latest.max(second);
@@ -1485,23 +1621,71 @@ pub fn scene_of(rng: &mut Rng, count: u64) -> Scene {
         let payload = if rng.below(5) < 2 {
             parts.type_ = 2;
             parts.subtype = 0;
-            scene_gad(rng, eager, &mut aiou, &mut known)
+            scene_gad(rng, eager, &mut provider)
         } else {
-            let other = rng.below(16);
-            let named = rng.pick(&[aiou, aiou, aiou, aiou, aiou, other]);
-            hpac_sheet(rng, constellation, named, &known).payload()
+            let (aiou, other) = (provider.aiou, rng.below(16));
+            let aiou = rng.pick(&[aiou, aiou, aiou, aiou, aiou, other]);
+            // now and then one of another solution
+            let (siou, other) = (provider.siou, other_siou(rng, provider.siou));
+            let siou = if rng.one_in(15) { other } else { siou };
+            hpac_sheet(rng, constellation, aiou, siou, &provider.known).payload()
         };
         frames.push(scene_frame(rng, parts, payload));
     }
     Scene { solution, processor, constellation, frames, seconds }
 }
 
+/// Who sends the frames of a scene: the AIOU and the SIOU of the messages to come, and what the
+/// GADs so far have told.
+struct Provider {
+    aiou: u64,
+    siou: u64,
+    /// the SIOU of the GADs that told the areas known; none if it is unknown
+    told_with: Option<u64>,
+    known: Vec<GadArea>,
+}
+
+/// Type, tag and payload of a frame.
+type Sent = (u64, u64, Vec<u8>);
+
+/// A solver that restarts in the middle of a run and keeps its AIOU: a GAD of the solution before,
+/// an HPAC that opens a run, a GAD of the new solution with the same IDs, an HPAC of each in that
+/// run, and one of the new solution in the next run. Type, tag and payload of each.
+fn restart(rng: &mut Rng, constellation: u64, provider: &mut Provider, tag: u64) -> Vec<Sent> {
+    let (aiou, other) = (provider.aiou, rng.below(16));
+    let old = other_siou(rng, provider.siou);
+    let new = other_siou(rng, old);
+    let areas = blocks(rng);
+    // some of the grids are others
+    let then: Vec<GadArea> =
+        areas.iter().map(|&area| if rng.one_in(2) { changed(rng, area) } else { area }).collect();
+    let mut hpac = |siou, later| {
+        let aiou = if rng.one_in(12) { other } else { aiou };
+        let payload = hpac_sheet(rng, constellation, aiou, siou, &areas).payload();
+        (1, (tag + later) % HALF_DAY, payload)
+    };
+    let (first, late, early, next) = (hpac(old, 1), hpac(old, 1), hpac(new, 1), hpac(new, 2));
+    let begins = (2, tag, gad_sheet(rng, aiou, old, &areas).payload());
+    let restarts = (2, tag, gad_sheet(rng, aiou, new, &then).payload());
+    (provider.siou, provider.told_with, provider.known) = (new, Some(new), then);
+    vec![begins, first, restarts, late, early, next]
+}
+
 /// The next GAD of a scene, and what the book then knows.
-fn scene_gad(rng: &mut Rng, eager: bool, aiou: &mut u64, known: &mut Vec<GadArea>) -> Vec<u8> {
+fn scene_gad(rng: &mut Rng, eager: bool, provider: &mut Provider) -> Vec<u8> {
     let mut blocks: Vec<GadArea> = Vec::new();
-    if rng.one_in(if eager { 20 } else { 4 }) {
-        // another AIOU: a new book, often with the old IDs and changed grids
-        *aiou = (*aiou + rng.between(1, 15)) % 16;
+    // a late one of another solution
+    let now = provider.siou;
+    let siou = if rng.one_in(25) { other_siou(rng, now) } else { now };
+    // a solver that has restarted mostly keeps its AIOU
+    let restarted = provider.told_with.is_some_and(|old| old != siou);
+    let other_aiou = rng.one_in(if eager || restarted { 20 } else { 4 });
+    if other_aiou {
+        provider.aiou = (provider.aiou + rng.between(1, 15)) % 16;
+    }
+    let (aiou, known) = (provider.aiou, &mut provider.known);
+    if other_aiou || provider.told_with != Some(siou) {
+        // another AIOU or another SIOU: a new book, often with the old IDs and changed grids
         let old = std::mem::take(known);
         if rng.one_in(2) {
             for area_before in old {
@@ -1546,9 +1730,10 @@ fn scene_gad(rng: &mut Rng, eager: bool, aiou: &mut u64, known: &mut Vec<GadArea
         }
         if then.len() as u64 <= MOST_AREAS {
             *known = then;
+            provider.told_with = Some(siou);
         }
     }
-    gad_sheet(rng, *aiou, &blocks).payload()
+    gad_sheet(rng, aiou, siou, &blocks).payload()
 }
 
 /// A frame of a scene: mostly plain and ours, now and then not.
@@ -1598,7 +1783,7 @@ pub fn frame_for(rng: &mut Rng, table: &Table) -> Vec<u8> {
     let live = crate::book::areas(&desk.live, &table.live).unwrap_or_default();
     let run_areas = desk.run.and_then(|open| crate::book::areas(&open.book, &table.run));
     let known = run_areas.unwrap_or_else(|| live.clone());
-    let some = rng.below(16);
+    let (some, some_siou) = (rng.below(16), siou(rng));
     let mut parts = Plain {
         type_: 1,
         check_type: rng.below(4),
@@ -1615,15 +1800,25 @@ pub fn frame_for(rng: &mut Rng, table: &Table) -> Vec<u8> {
     let payload = if rng.one_in(2) {
         parts.type_ = 2;
         parts.subtype = 0;
-        let mut aiou = desk.live.aiou.unwrap_or(some) & 15;
-        let mut live = live;
+        let told_with = desk.live.siou;
+        let own = told_with.unwrap_or(some_siou) & TOP_SIOU;
+        let mut provider = Provider {
+            aiou: desk.live.aiou.unwrap_or(some) & 15,
+            // now and then the solver has restarted
+            siou: rng.pick(&[own, own, own, own, some_siou]),
+            told_with,
+            known: live,
+        };
         let eager = rng.one_in(3);
-        scene_gad(rng, eager, &mut aiou, &mut live)
+        scene_gad(rng, eager, &mut provider)
     } else {
         let book = desk.run.map_or(desk.live, |open| open.book);
-        let aiou = rng.pick(&[some, book.aiou.unwrap_or(some) & 15, book.aiou.unwrap_or(some) & 15]);
+        let own = book.aiou.unwrap_or(some) & 15;
+        let own_siou = book.siou.unwrap_or(some_siou) & TOP_SIOU;
+        let (aiou, other) = (rng.pick(&[some, own, own]), other_siou(rng, own_siou));
+        let siou = rng.pick(&[own_siou, own_siou, own_siou, own_siou, other]);
         let constellation = if desk.constellation <= 4 { desk.constellation } else { 0 };
-        hpac_sheet(rng, constellation, aiou, &known).payload()
+        hpac_sheet(rng, constellation, aiou, siou, &known).payload()
     };
     scene_frame(rng, parts, payload)
 }
@@ -1641,18 +1836,27 @@ pub enum Sort {
     OfRun,
     /// an HPAC of another tag
     OtherTag,
+    /// a GAD of another SIOU than the live book's, that conflicts with it but for that
+    OtherSiou,
+    /// a GAD over a live book of unknown SIOU, that conflicts with it but for that
+    OverUnknown,
+    /// an HPAC of the open run's tag, and of another SIOU than the run's book
+    OfRunOtherSiou,
     /// a frame that is refused so where the live book is empty
     Refused(Refusal),
 }
 
 /// The sorts; the refusals are those of the frame, of the desk, of the payload, and of a GAD's blocks
 /// by themselves. (No GAD has more than 32 areas, so none is BOOK_FULL over an empty book.)
-pub const SORTS: [Sort; 17] = [
+pub const SORTS: [Sort; 20] = [
     Sort::Gad,
     Sort::Against,
     Sort::Overfull,
     Sort::OfRun,
     Sort::OtherTag,
+    Sort::OtherSiou,
+    Sort::OverUnknown,
+    Sort::OfRunOtherSiou,
     Sort::Refused(Refusal::Short),
     Sort::Refused(Refusal::Preamble),
     Sort::Refused(Refusal::FrameCrc),
@@ -1667,13 +1871,14 @@ pub const SORTS: [Sort; 17] = [
     Sort::Refused(Refusal::Conflict),
 ];
 
-/// A frame of a sort for a sound desk. None where the desk has none: no run is open, the live book is
-/// empty, or it has room for all; or none was found.
+/// A frame of a sort for a sound desk. None where the desk has none: no run is open, the live book
+/// is empty, or it has room for all, or its SIOU is unknown or known; or none was found.
 pub fn frame_of(rng: &mut Rng, table: &Table, sort: Sort) -> Option<Vec<u8>> {
     let desk = &table.desk;
     let live = crate::book::areas(&desk.live, &table.live)?;
-    let some_aiou = rng.below(16);
+    let (some_aiou, some_siou) = (rng.below(16), siou(rng));
     let aiou = desk.live.aiou.unwrap_or(some_aiou);
+    let siou = desk.live.siou.unwrap_or(some_siou);
     let gad = Plain {
         type_: 2,
         check_type: rng.below(4),
@@ -1690,41 +1895,55 @@ pub fn frame_of(rng: &mut Rng, table: &Table, sort: Sort) -> Option<Vec<u8>> {
         Sort::Gad => {
             // areas that the book has, or new ones: of its AIOU if it has room, else of another
             let blocks = if live.is_empty() || rng.one_in(2) { blocks(rng) } else { vec![rng.pick(&live)] };
-            let hinders = with_gad(Some(aiou), &live, aiou, &blocks).is_err();
+            let own = Gad { siou, aiou, reserved: 0, areas: blocks.clone() };
+            let hinders = with_gad(&desk.live, &live, &own).is_err();
             let named = if hinders || rng.one_in(4) { (aiou + rng.between(1, 15)) % 16 } else { aiou };
-            plain(gad, &gad_sheet(rng, named, &blocks).payload())
+            plain(gad, &gad_sheet(rng, named, siou, &blocks).payload())
         }
         Sort::Against => {
-            if live.is_empty() {
+            // of an unknown SIOU no GAD is
+            desk.live.siou?;
+            let blocks = against(rng, &live)?;
+            plain(gad, &gad_sheet(rng, aiou, siou, &blocks).payload())
+        }
+        Sort::OtherSiou => {
+            let named = other_siou(rng, desk.live.siou?);
+            let blocks = against(rng, &live)?;
+            plain(gad, &gad_sheet(rng, aiou, named, &blocks).payload())
+        }
+        Sort::OverUnknown => {
+            if desk.live.siou.is_some() {
                 return None;
             }
-            let one = rng.pick(&live);
-            let mut blocks: Vec<GadArea> = live.into_iter().filter(|area| area.id != one.id).collect();
-            blocks.truncate(rng.below(4) as usize);
-            blocks.insert(rng.below(blocks.len() as u64 + 1) as usize, changed(rng, one));
-            plain(gad, &gad_sheet(rng, aiou, &blocks).payload())
+            let blocks = against(rng, &live)?;
+            plain(gad, &gad_sheet(rng, aiou, some_siou, &blocks).payload())
         }
         Sort::Overfull => {
+            desk.live.siou?;
             let room = (MOST_AREAS as usize).checked_sub(live.len()).filter(|_| !live.is_empty())?;
             let new: Vec<u64> = (0..256).filter(|&id| live.iter().all(|area| area.id != id)).collect();
             let first = rng.below((new.len() - room) as u64) as usize;
             let ids = &new[first..first + room + 1];
             let blocks: Vec<GadArea> = ids.iter().map(|&id| area(rng, id)).collect();
-            plain(gad, &gad_sheet(rng, aiou, &blocks).payload())
+            plain(gad, &gad_sheet(rng, aiou, siou, &blocks).payload())
         }
-        Sort::OfRun => {
+        Sort::OfRun | Sort::OfRunOtherSiou => {
             let open = desk.run?;
             let held = crate::book::areas(&open.book, &table.run)?;
             let named = open.book.aiou.unwrap_or(some_aiou);
+            let named_siou = match sort {
+                Sort::OfRun => open.book.siou.unwrap_or(some_siou),
+                _ => other_siou(rng, open.book.siou?),
+            };
             let later = open.tag + HALF_DAY * rng.below(9);
             let (tag_kind, tag) = rng.pick(&[(0, open.tag), (1, open.tag), (1, later)]);
-            let payload = hpac_sheet(rng, desk.constellation, named, &held).payload();
+            let payload = hpac_sheet(rng, desk.constellation, named, named_siou, &held).payload();
             plain(Plain { tag_kind, tag, ..hpac }, &payload)
         }
         Sort::OtherTag => {
             let by = rng.between(1, HALF_DAY - 1);
             let other = (tag + rng.pick(&[1, HALF_DAY - 1, by])) % HALF_DAY;
-            let payload = hpac_sheet(rng, desk.constellation, aiou, &live).payload();
+            let payload = hpac_sheet(rng, desk.constellation, aiou, siou, &live).payload();
             plain(Plain { tag: other, ..hpac }, &payload)
         }
         Sort::Refused(Refusal::AreaOff) => {
@@ -1736,15 +1955,27 @@ pub fn frame_of(rng: &mut Rng, table: &Table, sort: Sort) -> Option<Vec<u8>> {
             }
             let id = rng.below(256);
             blocks.push(area_off(rng, id));
-            plain(gad, &gad_sheet(rng, aiou, &blocks).payload())
+            plain(gad, &gad_sheet(rng, aiou, siou, &blocks).payload())
         }
         Sort::Refused(Refusal::Conflict) => {
             let one = blocks(rng)[0];
             let blocks = [one, changed(rng, one)];
-            plain(gad, &gad_sheet(rng, aiou, &blocks).payload())
+            plain(gad, &gad_sheet(rng, aiou, siou, &blocks).payload())
         }
         Sort::Refused(refusal) => refused_frame(rng, refusal, &gad, &hpac),
     }
+}
+
+/// Areas of a book, one of them with another definition; none if the book has none.
+fn against(rng: &mut Rng, live: &[GadArea]) -> Option<Vec<GadArea>> {
+    if live.is_empty() {
+        return None;
+    }
+    let one = rng.pick(live);
+    let mut blocks: Vec<GadArea> = live.iter().copied().filter(|area| area.id != one.id).collect();
+    blocks.truncate(rng.below(4) as usize);
+    blocks.insert(rng.below(blocks.len() as u64 + 1) as usize, changed(rng, one));
+    Some(blocks)
 }
 
 /// The same ID, another definition.

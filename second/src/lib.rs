@@ -1,5 +1,5 @@
-//! The second program: document 01, and requests 1 to 3 of document 02, written once more, from the
-//! documents alone.
+//! The second program: document 01, and requests 1 to 3 and 5 of document 02, written once more,
+//! from the documents alone.
 //!
 //! It was written without the desk's own code at hand, so that a mistake in one need not be
 //! repeated in the other. It is meant to be read beside document 01: one file a topic, the

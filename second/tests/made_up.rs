@@ -162,9 +162,13 @@ fn any_numbers_at_all_are_answered() {
         let _ = desk::take(&desk, &bytes, wild(&mut rng), &mut live, &mut run, &mut log);
         let _ = desk::look_up(&desk, &live, &run, AreaId(n[8]));
         let _ = desk::take_kept(&desk, &bytes, &mut live, &run);
-        let book = Book { aiou: (n[3] != 1).then_some(n[4]), count: n[5] };
-        let _ = book::take(&book, &mut live, &n);
-        let _ = kept::write(&book, &live, &mut run);
+        let (aiou, siou) = ((n[3] != 1).then_some(n[4]), n[6].checked_sub(1));
+        let any = Book { aiou, siou, count: n[5] };
+        for book in [any, Book::of_numbers(&[n[4], n[6], n[5]])] {
+            let _ = book::take(&book, &mut live, &n);
+            let _ = kept::write(&book, &live, &mut run);
+            let _ = book.numbers();
+        }
         let _ = kept::read(&bytes, &mut live);
         let _ = groups::read(&bytes);
         let _ = sheet::write(n[0] & 3, n[1] % 6, &n, &mut tray);
@@ -549,23 +553,112 @@ fn a_call_from_any_sound_tray_leaves_a_sound_one_and_an_unsound_one_is_state() {
     }
 }
 
+/// The numbers of a kept book that begins with these, as many as it has, if there is such a book:
+/// the one with the least numbers behind them is made up whole and judged as a book.
+fn kept_beginning_with(given: &[u64]) -> Option<usize> {
+    let at = |place: usize, least: u64| given.get(place).copied().unwrap_or(least);
+    let form = at(0, 1);
+    let (aiou, siou, head) = match form {
+        1 => (at(1, 0), 0, 3),
+        2 => (at(1, 0), at(2, 0), 4),
+        _ => return None,
+    };
+    let count = at(head - 1, (aiou != 0) as u64);
+    if count > 32 {
+        return None;
+    }
+    let (mut bytes, mut next_id) = (Vec::new(), 0);
+    for place in head..head + count as usize {
+        // one node at the south pole, with the least ID that ascends
+        let number = at(place, next_id << 39);
+        if number >= 1 << 47 {
+            return None;
+        }
+        next_id = (number >> 39) + 1;
+        bytes.extend(&(number << 1).to_be_bytes()[2..]);
+    }
+    bytes.resize(192, 0);
+    let book = Book { aiou: aiou.checked_sub(1), siou: siou.checked_sub(1), count };
+    book::sound(&book, &bytes).then_some(head + count as usize)
+}
+
+/// What reading a kept book has to say, number by number, and how many numbers ended before it was
+/// said: "the first fault in reading order, SHORT or FORM (a number not in shortest form, or one
+/// after which no sound book can follow), then LEFTOVER".
+fn kept_answer(kept: &[u8]) -> (Result<(), Refusal>, usize) {
+    let (mut numbers, mut rest) = (Vec::new(), kept);
+    loop {
+        match kept_beginning_with(&numbers) {
+            None => return (Err(Refusal::Form), numbers.len() - 1),
+            Some(count) if count == numbers.len() => {
+                let answer = if rest.is_empty() { Ok(()) } else { Err(Refusal::Leftover) };
+                return (answer, numbers.len());
+            }
+            Some(_) => {}
+        }
+        match groups::read(rest) {
+            Err(refusal) => return (Err(refusal), numbers.len()),
+            Ok((number, used)) => {
+                numbers.push(number);
+                rest = &rest[used..];
+            }
+        }
+    }
+}
+
+/// Kept bytes read, as they must be; what is read is written again. The answer, and the number it
+/// was given at.
+fn read_as_must_be(kept: &[u8]) -> (u8, usize) {
+    let (expected, at) = kept_answer(kept);
+    let mut bytes = [0xA5; 193];
+    let result = kept::read(kept, &mut bytes);
+    assert_eq!(result.map(|_| ()), expected, "{kept:02X?}");
+    let upto = result.map_or(0, |book| 6 * book.count as usize);
+    assert!(bytes[upto..].iter().all(|&byte| byte == 0xA5));
+    if let Ok(book) = result {
+        assert!(book::sound(&book, &bytes));
+        let held = book::areas(&book, &bytes).unwrap();
+        // no second string of bytes of a form is read as the same book; form 1 says nothing of the
+        // SIOU
+        let form = kept[0] as u64;
+        assert!(form == kept::FORM_2 || book.siou.is_none());
+        let again = kept::numbers(form, &book, &held).into_iter().flat_map(groups::groups);
+        assert_eq!(again.collect::<Vec<u8>>(), kept);
+        // written in form 2, which reads as the same
+        let mut out = [0xA5; 230];
+        let length = kept::write(&book, &bytes, &mut out).unwrap();
+        assert!(out[0] == 2 && out[length..].iter().all(|&byte| byte == 0xA5));
+        assert!(form == kept::FORM_1 || out[..length] == *kept);
+        assert_eq!(kept::parse(&out[..length]), Ok((book, held)));
+    }
+    (number(&result), at)
+}
+
 #[test]
 fn kept_books_come_back_and_broken_ones_reach_every_refusal() {
     let mut rng = made_from(9);
     let mut reached = BTreeSet::new();
-    for _ in 0..4000 {
+    // the form, whether there is a book, whether its SIOU is known
+    let mut kinds = BTreeSet::new();
+    // the form as it was, the answer, and the number it was given at; an area's is that of the
+    // first
+    let mut places = BTreeMap::new();
+    // SIOU + 1 where it was FORM: over 512, or not 0 without an AIOU
+    let mut sious = BTreeSet::new();
+    for _ in 0..6000 {
         let (book, bytes) = second::generate::book(&mut rng);
         assert!(book::sound(&book, &bytes));
-        let mut out = lent_bytes(&mut rng, 228);
+        let mut out = lent_bytes(&mut rng, 230);
+        let as_lent = out.clone();
         let length = kept::write(&book, &bytes, &mut out).unwrap();
+        assert_eq!(out[length..], as_lent[length..]);
         let mut back = lent_bytes(&mut rng, 192);
         assert_eq!(kept::read(&out[..length], &mut back), Ok(book));
         assert_eq!(back[..6 * book.count as usize], bytes[..6 * book.count as usize]);
         let whole = second::generate::kept(&mut rng);
+        assert_eq!(read_as_must_be(&whole).0, 0);
         let read = kept::read(&whole, &mut back).unwrap();
-        assert!(book::sound(&read, &back));
-        assert_eq!(kept::write(&read, &back, &mut out), Ok(whole.len()));
-        assert_eq!(out[..whole.len()], whole);
+        kinds.insert((whole[0], read.aiou.is_some(), read.siou.is_some()));
         let broken = broken_kept(&mut rng);
         let size = buffer_size(&mut rng, 192);
         let mut lent = lent_bytes(&mut rng, size);
@@ -574,10 +667,122 @@ fn kept_books_come_back_and_broken_ones_reach_every_refusal() {
         let upto = result.map_or(0, |book| 6 * book.count as usize);
         assert_eq!(lent[upto..], as_lent[upto..]);
         reached.insert(number(&result));
+        let (answer, at) = read_as_must_be(&broken);
+        let form = broken.first().copied().unwrap_or(0);
+        *places.entry((form, answer, at.min(4))).or_insert(0) += 1;
+        if let (2, 18, 2, Some(&[aiou, ref rest @ ..])) = (form, answer, at, broken.get(1..)) {
+            if let Ok((siou, _)) = groups::read(rest) {
+                sious.insert((aiou == 0, siou > 512, siou == 513));
+            }
+        }
         let (book, bytes) = unsound_book(&mut rng);
         assert_eq!(kept::write(&book, &bytes, &mut out), Err(Refusal::State));
     }
     assert_eq!(reached, BTreeSet::from([0, 1, 9, 16, 18]));
+    let with_book = [(1, true, false), (2, true, false), (2, true, true)];
+    let without = [(1, false, false), (2, false, false)];
+    assert_eq!(kinds, with_book.into_iter().chain(without).collect());
+    let met = |form: u8, answer: u8, at: usize| places.get(&(form, answer, at)) > Some(&4);
+    // FORM and SHORT at AIOU + 1, in form 2 at SIOU + 1, at the count and at an area; and LEFTOVER
+    for at in 1..=4 {
+        for (form, answer) in [(1, 18), (2, 18), (1, 1), (2, 1)] {
+            assert!(met(form, answer, at), "{form} {answer} {at} {places:?}");
+        }
+    }
+    assert!([1, 2].iter().all(|&form| met(form, 16, 4) && met(form, 0, 4)), "{places:?}");
+    assert!(met(0, 18, 0) && met(3, 18, 0) && met(0, 1, 0), "{places:?}");
+    let over = [(false, true, false), (false, true, true)];
+    let alone = [(true, false, false), (true, true, true)];
+    assert!(over.iter().chain(&alone).all(|kind| sious.contains(kind)), "{sious:?}");
+}
+
+#[test]
+fn every_one_number_change_of_a_kept_book_is_answered_as_it_must_be() {
+    let mut rng = made_from(20);
+    // the form, the number changed (that of the first area for any), and the answer
+    let mut reached = BTreeSet::new();
+    let mut forms = BTreeMap::new();
+    for _ in 0..60 {
+        let numbers = kept_numbers(&mut rng);
+        let form = numbers[0];
+        *forms.entry((form, (numbers.len() - kept_head(form)).min(2))).or_insert(0) += 1;
+        let write = |numbers: &[u64]| -> Vec<u8> {
+            numbers.iter().flat_map(|&number| groups::groups(number)).collect()
+        };
+        let whole = write(&numbers);
+        assert_eq!(read_as_must_be(&whole), (0, numbers.len()));
+        for at in 0..numbers.len() {
+            let mut reach = |answer: u8| reached.insert((form, at.min(kept_head(form)), answer));
+            for other in kept_changes(&numbers, at) {
+                let mut changed = numbers.clone();
+                changed[at] = other;
+                let bytes = write(&changed);
+                reach(read_as_must_be(&bytes).0);
+                // it ends with the number changed: FORM is said there or not at all
+                let (answer, told_at) = read_as_must_be(&write(&changed[..=at]));
+                assert!(answer == 18 && told_at == at || answer != 18 && told_at == at + 1);
+                if answer == 18 {
+                    assert_eq!(read_as_must_be(&bytes), (18, at));
+                }
+            }
+            // the same number, not in shortest form
+            let mut long = groups::groups(numbers[at]);
+            *long.last_mut().unwrap() |= 0x80;
+            let cut = [write(&numbers[..at]), long.clone()].concat();
+            assert_eq!(read_as_must_be(&cut), (1, at));
+            long.push(0);
+            let behind = write(&numbers[at + 1..]);
+            let all = [write(&numbers[..at]), long, behind].concat();
+            assert_eq!(read_as_must_be(&all), (18, at));
+        }
+        // every beginning is SHORT, and with a byte behind it it is LEFTOVER
+        for end in 0..whole.len() {
+            assert_eq!(read_as_must_be(&whole[..end]).0, 1);
+        }
+        assert_eq!(read_as_must_be(&[&whole[..], &[0]].concat()), (16, numbers.len()));
+    }
+    // books of none, one and more areas in both forms
+    assert_eq!(forms.len(), 6, "{forms:?}");
+    // each number was changed to one that is read and to one that is FORM; the form number of a
+    // book of form 1 to 2 and back leaves too few or too many numbers, or others
+    for form in [1, 2] {
+        for at in 1..=kept_head(form) {
+            assert!(reached.contains(&(form, at, 18)), "{form} {at}");
+        }
+        assert!(reached.contains(&(form, 0, 18)) && reached.contains(&(form, 1, 0)));
+        assert!(reached.contains(&(form, kept_head(form), 0)));
+        assert!(reached.contains(&(form, kept_head(form) - 1, 1)));
+        assert!(reached.contains(&(form, kept_head(form) - 1, 16)));
+    }
+    assert!(reached.contains(&(1, 0, 1)) && reached.contains(&(2, 0, 16)), "{reached:?}");
+    assert!(reached.contains(&(2, 2, 0)), "another SIOU is read");
+}
+
+#[test]
+fn books_of_every_kind_come_sound_and_unsound() {
+    let mut rng = made_from(21);
+    let (mut sound, mut unsound) = (BTreeSet::new(), BTreeMap::new());
+    let mut next_to_bounds = BTreeSet::new();
+    for _ in 0..3000 {
+        let (book, bytes) = second::generate::book(&mut rng);
+        assert!(book::sound(&book, &bytes));
+        assert_eq!(Book::of_numbers(&book.numbers()), book);
+        sound.insert((book.aiou.is_some(), book.siou.is_some()));
+        let near = [0, 126, 127, 511];
+        next_to_bounds.extend(book.siou.filter(|siou| near.contains(siou)));
+        let siou = book.siou.unwrap_or(7);
+        let other = other_siou(&mut rng, siou);
+        assert!(other <= 511 && other != siou);
+        let (book, bytes) = unsound_book(&mut rng);
+        assert!(!book::sound(&book, &bytes));
+        // unsound by its SIOU alone: over 511, or without an AIOU
+        if book::sound(&Book { siou: None, ..book }, &bytes) {
+            *unsound.entry(book.aiou.is_some()).or_insert(0) += 1;
+        }
+    }
+    assert_eq!(sound, BTreeSet::from([(false, false), (true, false), (true, true)]));
+    assert_eq!(next_to_bounds.len(), 4);
+    assert!([false, true].iter().all(|kind| unsound[kind] > 50), "{unsound:?}");
 }
 
 /// What the calls say of an entry, index by index, is what stands in it; one index further is FIELD.
@@ -613,7 +818,7 @@ fn index_by_index(log: &[u8], entry: &Entry) {
 #[test]
 fn entries_come_back_and_every_beginning_of_one_is_short() {
     let mut rng = made_from(13);
-    let mut kinds = BTreeSet::new();
+    let (mut kinds, mut reasons) = (BTreeSet::new(), BTreeSet::new());
     let mut satellites = BTreeSet::new();
     for round in 0..600 {
         let entry = entry(&mut rng);
@@ -623,7 +828,10 @@ fn entries_come_back_and_every_beginning_of_one_is_short() {
         kinds.insert(match &entry {
             Entry::Opened { aiou, .. } => (1, aiou.is_some(), false),
             Entry::Placed(placed) => (2, placed.troposphere.is_some(), placed.satellites.is_empty()),
-            Entry::LeftOut { .. } => (3, false, false),
+            Entry::LeftOut { reason, .. } => {
+                reasons.insert(*reason);
+                (3, false, false)
+            }
         });
         if let Entry::Placed(placed) = &entry {
             satellites.extend(placed.satellites.iter().map(|satellite| satellite.number));
@@ -642,16 +850,22 @@ fn entries_come_back_and_every_beginning_of_one_is_short() {
     let others = [(1, false, false), (1, true, false), (3, false, false)];
     assert_eq!(kinds, others.into_iter().chain(placed).collect());
     assert_eq!(satellites, BANDS.into_iter().flatten().collect());
+    assert_eq!(reasons, (1..=5).collect());
 }
 
 #[test]
 fn broken_entries_reach_every_refusal_and_what_is_accepted_is_one_string_of_bytes() {
     let mut rng = made_from(14);
-    let mut reached = BTreeMap::new();
+    let (mut reached, mut reasons) = (BTreeMap::new(), BTreeSet::new());
     for _ in 0..8000 {
         let log = broken_entry(&mut rng);
         let result = entries::read(&log);
         *reached.entry(number(&result)).or_insert(0) += 1;
+        // an area of one group and a reason of one group
+        if let [3, 0..=0x7F, reason @ 0..=0x7F, ..] = log[..] {
+            assert_eq!(number(&result), if (1..=5).contains(&reason) { 0 } else { 18 });
+            reasons.insert(reason);
+        }
         match result {
             Ok((entry, used)) => {
                 assert!(entries::sound(&entry));
@@ -677,6 +891,7 @@ fn broken_entries_reach_every_refusal_and_what_is_accepted_is_one_string_of_byte
     }
     assert_eq!(reached.keys().copied().collect::<Vec<_>>(), [0, 1, 18]);
     assert!(reached.values().all(|&count| count > 200), "{reached:?}");
+    assert!((0..=6).all(|reason| reasons.contains(&reason)), "{reasons:?}");
 }
 
 /// The numbers of a log, entry by entry: what kind it is and, for an area left out, why.
@@ -718,7 +933,7 @@ fn told(log: &[u8]) -> Vec<(u64, u64)> {
             _ => {
                 assert_eq!(kind, 3);
                 let (id, reason) = (next(&mut rest), next(&mut rest));
-                assert!(id <= 255 && (1..=4).contains(&reason));
+                assert!(id <= 255 && (1..=5).contains(&reason));
                 all.push((3, reason));
             }
         }
@@ -794,8 +1009,10 @@ fn together(
 fn scenes_reach_every_answer_and_entry_and_the_joined_call_agrees() {
     let mut rng = made_from(10);
     let (mut reached, mut places) = (BTreeSet::new(), BTreeSet::new());
-    let mut logged = BTreeSet::new();
+    let (mut logged, mut solutions) = (BTreeMap::new(), BTreeMap::new());
     let mut longest = 0;
+    // scenes in which some area is placed
+    let mut placing = 0;
     // frames taken after a gap, and frames that finish told
     let (mut gaps, mut at_finish) = (0, 0);
     for _ in 0..250 {
@@ -806,6 +1023,7 @@ fn scenes_reach_every_answer_and_entry_and_the_joined_call_agrees() {
         let (first_live, first_run) = (live.clone(), run.clone());
         let mut log = lent_bytes(&mut rng, 4096);
         // desk alone, frame by frame
+        let mut places_some = false;
         for (frame, &second) in scene.frames.iter().zip(&scene.seconds) {
             let (before_live, before_run, as_lent) = (live.clone(), run.clone(), log.clone());
             let result = desk::take(&desk, frame, second, &mut live, &mut run, &mut log);
@@ -822,10 +1040,18 @@ fn scenes_reach_every_answer_and_entry_and_the_joined_call_agrees() {
                     places.extend(refused.place.map(|_| refused.why));
                 }
                 Ok(taken) => {
+                    let before = desk::judged_with(&desk, second);
                     desk = taken.desk;
                     assert!(desk::sound(&desk, &live, &run));
                     assert_eq!(log[taken.logged..], as_lent[taken.logged..]);
-                    logged.extend(told(&log[..taken.logged]));
+                    let told = told(&log[..taken.logged]);
+                    for what in of_solutions(&before, &desk, frame, &told) {
+                        *solutions.entry(what).or_insert(0) += 1;
+                    }
+                    places_some |= told.contains(&(2, 0));
+                    for entry in told {
+                        *logged.entry(entry).or_insert(0) += 1;
+                    }
                     let mut at = 0;
                     while at < taken.logged {
                         let (entry, used) = entries::read(&log[at..taken.logged]).unwrap();
@@ -846,6 +1072,7 @@ fn scenes_reach_every_answer_and_entry_and_the_joined_call_agrees() {
             let bytes = if of == Of::Live { &live } else { &run };
             assert!(part.is_empty() || bytes[part.start] as u64 == id);
         }
+        placing += places_some as u64;
         // stream and desk apart, over the uncut scan; frame i has the same second in all that follow
         let input = joined(&mut rng, &scene.frames);
         let mut latest = first_second(&mut rng);
@@ -882,14 +1109,84 @@ fn scenes_reach_every_answer_and_entry_and_the_joined_call_agrees() {
     let expected: BTreeSet<u8> = [0, 1, 2, 3, 4, 5, 7, 8, 10, 11, 12, 13, 14, 15].into();
     assert_eq!(reached, expected);
     assert_eq!(places, BTreeSet::from([Refusal::Short, Refusal::MaskEmpty, Refusal::Field]));
-    assert_eq!(logged, BTreeSet::from([(1, 0), (2, 0), (3, 1), (3, 2), (3, 3), (3, 4)]));
+    let kinds: Vec<(u64, u64)> = logged.keys().copied().collect();
+    assert_eq!(kinds, [(1, 0), (2, 0), (3, 1), (3, 2), (3, 3), (3, 4), (3, 5)]);
+    // every reason comes often, and in most scenes areas are placed
+    assert!(logged.values().all(|&count| count > 50), "{logged:?}");
+    assert!(placing > 125, "{placing}");
+    assert_eq!(solutions.len(), 8, "{solutions:?}");
+    assert!(solutions.values().all(|&count| count > 9), "{solutions:?}");
     assert!(longest < 4096 && longest > 500, "{longest}");
+}
+
+/// What a frame, taken, was to the solutions that the desk knows of, and that nothing but what
+/// request 5 lets be was told. `before` is the desk as the frame was judged with.
+fn of_solutions(
+    before: &desk::Desk,
+    after: &desk::Desk,
+    frame: &[u8],
+    told: &[(u64, u64)],
+) -> Vec<&'static str> {
+    let of = check(frame).unwrap();
+    let message = sheet::open(of.type_, of.subtype, &frame[of.payload]).unwrap().0;
+    let mut met = Vec::new();
+    match message {
+        Message::Gad(gad) => {
+            let (old, new) = (before.live, after.live);
+            assert_eq!((new.aiou, new.siou), (Some(gad.aiou), Some(gad.siou)));
+            assert_eq!((before.run, told), (after.run, &[][..]));
+            let same = old.siou == new.siou;
+            if !same || old.aiou != new.aiou {
+                // a new book has no area but the message's
+                assert!(new.count as usize <= gad.areas.len());
+            } else {
+                assert!(new.count >= old.count);
+            }
+            met.push(match (old.aiou == new.aiou, same) {
+                (true, true) => "GAD: adds",
+                (true, false) => "GAD: of the same AIOU and another SIOU",
+                (false, true) => "GAD: of another AIOU and the same SIOU",
+                (false, false) => "GAD: of others, or the first",
+            });
+        }
+        Message::Hpac(hpac) => {
+            let book = after.run.unwrap().book;
+            assert_eq!(after.live, before.live);
+            let areas = if told[0].0 == 1 { &told[1..] } else { told };
+            assert_eq!(areas.len(), hpac.areas.len());
+            // all blocks of a message share its AIOU and SIOU: 1, 2 and 5 are all's or none's
+            let all_by = |reason| areas.iter().all(|&entry| entry == (3, reason));
+            let reason = match book.aiou {
+                None => 1,
+                Some(aiou) if aiou != hpac.aiou => 2,
+                _ if book.siou != Some(hpac.siou) => 5,
+                _ => 0,
+            };
+            assert!([1, 2, 5].iter().all(|&one| all_by(one) == (one == reason)), "{told:?}");
+            let placed = areas.contains(&(2, 0));
+            let restarted = after.live.aiou == book.aiou && after.live.siou != book.siou;
+            if reason == 5 && after.live.is_of(hpac.aiou, hpac.siou) {
+                met.push("HPAC: of the live book's SIOU, the run's is older");
+            } else if reason == 5 {
+                met.push("HPAC: of a SIOU that no GAD brought yet, or no longer");
+            }
+            if placed && restarted {
+                met.push("HPAC: placed by a book whose SIOU is no longer live");
+            } else if placed {
+                met.push("HPAC: placed");
+            }
+        }
+        _ => panic!("a frame of ours"),
+    }
+    met
 }
 
 #[test]
 fn desks_as_they_stand_and_unsound_ones() {
     let mut rng = made_from(11);
     let mut reached = BTreeSet::new();
+    // the form, whether the SIOU is known, and 2 for an area placed or the reason
+    let mut kept_met = BTreeMap::new();
     for _ in 0..3000 {
         let mut made = if rng.one_in(4) { unsound_table(&mut rng) } else { table(&mut rng) };
         let frame = frame_for(&mut rng, &made);
@@ -922,9 +1219,16 @@ fn desks_as_they_stand_and_unsound_ones() {
         if let Ok(desk) = desk::take_kept(&made.desk, &whole, &mut made.live, &made.run) {
             assert_eq!((desk.run, desk.last), (made.desk.run, made.desk.last));
             assert!(desk::sound(&desk, &made.live, &made.run));
+            made.desk = desk;
+            after_kept(&mut rng, &made, whole[0], &mut kept_met);
         }
     }
     assert!(reached.contains(&9) && reached.contains(&17) && reached.contains(&0));
+    // areas are placed by form 2 alone, where the SIOU is known; each form also comes without a
+    // book
+    let expected = [(1, false, 5), (2, false, 5), (2, true, 2), (1, false, 1), (2, false, 1)];
+    assert_eq!(kept_met.keys().copied().collect::<BTreeSet<_>>(), expected.into());
+    assert!(kept_met.values().all(|&count| count > 9), "{kept_met:?}");
     let (unsound, sound) = (0..400).fold((0, 0), |(unsound, sound), _| {
         let made = unsound_table(&mut rng);
         match desk::sound(&made.desk, &made.live, &made.run) {
@@ -934,6 +1238,40 @@ fn desks_as_they_stand_and_unsound_ones() {
     });
     // with no run open a broken run's book does not count
     assert!(unsound > 300 && sound > 0);
+}
+
+/// A kept book of a form was taken in: what the next run's HPAC messages meet, and that a GAD of
+/// its AIOU over an unknown SIOU begins a new book.
+fn after_kept(rng: &mut Rng, made: &Table, form: u8, met: &mut BTreeMap<(u8, bool, u64), u64>) {
+    let book = made.desk.live;
+    assert!(form == 2 || book.siou.is_none());
+    for sort in [Sort::OtherTag, Sort::OverUnknown] {
+        let Some(frame) = frame_of(rng, made, sort) else { continue };
+        let second = match made.desk.last {
+            Last::At(last) => near_second(rng, last),
+            _ => first_second(rng),
+        };
+        let (answer, now, _, _, log) = tried(made, &made.desk, &frame, second);
+        assert_eq!(answer, 0);
+        if sort == Sort::OverUnknown {
+            assert!(now.live.siou.is_some() && now.live.aiou == book.aiou);
+            continue;
+        }
+        let (opened, mut at) = entries::read(&log).unwrap();
+        let tag = now.run.unwrap().tag;
+        assert_eq!(opened, Entry::Opened { tag, aiou: book.aiou, count: book.count });
+        // the log is filled up with a byte that begins no entry
+        while let Ok((entry, used)) = entries::read(&log[at..]) {
+            at += used;
+            let told = match entry {
+                Entry::Placed(_) => 2,
+                Entry::LeftOut { reason, .. } if reason == 1 || reason == 5 => reason,
+                // not in the book, or other nodes
+                _ => continue,
+            };
+            *met.entry((form, book.siou.is_some(), told)).or_insert(0) += 1;
+        }
+    }
 }
 
 /// A frame taken on copies of the books: the answer, the new desk, both books and the log.
@@ -980,9 +1318,23 @@ fn after_a_gap_all_is_as_with_an_empty_live_book_and_else_as_without_seconds() {
             let (entry, _) = entries::read(&log).unwrap();
             let Entry::Opened { aiou, count, .. } = entry else { panic!("{entry:?}") };
             assert_eq!((aiou, count), (now.live.aiou, now.live.count));
-            if gap && matches!(sort, Sort::OfRun | Sort::OtherTag) {
+            if gap && matches!(sort, Sort::OfRun | Sort::OtherTag | Sort::OfRunOtherSiou) {
                 // no book, and no byte of it was written
                 assert_eq!((aiou, count, &live_now), (None, 0, &made.live));
+                assert_eq!(now.live, Book::default());
+            }
+            if sort == Sort::OfRunOtherSiou {
+                let (entry, _) = entries::read(&log_now).unwrap();
+                assert!(matches!(entry, Entry::LeftOut { reason: 5, .. }), "{entry:?}");
+            }
+            if matches!(sort, Sort::OtherSiou | Sort::OverUnknown) {
+                // of the same AIOU, and yet none of the old areas stayed
+                assert_ne!(now.live.siou, made.desk.live.siou);
+                let check = check(&frame).unwrap();
+                let gad = sheet::open(2, 0, &frame[check.payload]).unwrap().0;
+                let Message::Gad(gad) = gad else { panic!("{gad:?}") };
+                assert_eq!((now.live.aiou, now.live.siou), (made.desk.live.aiou, Some(gad.siou)));
+                assert_eq!(now.live.count as usize, gad.areas.len());
             }
         } else {
             assert_eq!((now, &live_now), (made.desk, &made.live));
@@ -1045,7 +1397,7 @@ fn the_seconds_of_every_kind_come() {
 #[test]
 fn gads_on_sheets_are_taken_by_the_book() {
     let mut rng = made_from(12);
-    let mut reached = BTreeSet::new();
+    let (mut reached, mut kinds) = (BTreeSet::new(), BTreeSet::new());
     let mut book = Book::default();
     let mut bytes = lent_bytes(&mut rng, 192);
     for _ in 0..3000 {
@@ -1066,8 +1418,11 @@ fn gads_on_sheets_are_taken_by_the_book() {
             .collect();
         let same = book.aiou.unwrap_or(3);
         let other = rng.below(16);
-        let aiou = rng.pick(&[same, same, same, same, same, other]);
-        let sheet = gad_sheet(&mut rng, aiou, &blocks);
+        let aiou = rng.pick(&[same, same, same, same, same, same, other]);
+        let same = book.siou.unwrap_or(3);
+        let other = other_siou(&mut rng, same);
+        let siou = rng.pick(&[same, same, same, same, same, same, other]);
+        let sheet = gad_sheet(&mut rng, aiou, siou, &blocks);
         let before = bytes.clone();
         // cut, the sheet says an entry and the payload a bit
         let (codes, fault) = cut_sheet(&mut rng, &sheet);
@@ -1084,6 +1439,14 @@ fn gads_on_sheets_are_taken_by_the_book() {
         match result {
             Err(_) => assert_eq!(bytes, before),
             Ok(then) => {
+                // with both numbers the same it adds, else none of the old areas stays
+                let adds = book.aiou == Some(aiou) && book.siou == Some(siou);
+                let old = if adds { book::areas(&book, &before).unwrap() } else { vec![] };
+                let ids: BTreeSet<u64> = old.iter().chain(&blocks).map(|area| area.id).collect();
+                let count = ids.len() as u64;
+                assert_eq!(then, Book { aiou: Some(aiou), siou: Some(siou), count });
+                let same_aiou = book.aiou == Some(aiou);
+                kinds.insert((same_aiou, book.siou == Some(siou), book.siou.is_some()));
                 book = then;
                 assert!(book::sound(&book, &bytes));
                 for block in &blocks {
@@ -1094,6 +1457,8 @@ fn gads_on_sheets_are_taken_by_the_book() {
         }
     }
     assert_eq!(reached, BTreeSet::from([0, 13, 14, 15]));
+    // the same AIOU or another, over the same SIOU, another and an unknown one
+    assert_eq!(kinds.len(), 6, "{kinds:?}");
 }
 
 #[test]
