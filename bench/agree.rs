@@ -1,8 +1,8 @@
 //! The careful side answers as ours does, and leaves the same, on inputs that no row times: states
-//! that are not sound, sealed frames, gaps, damaged messages in frames with right checks, sheets
-//! that are too long.
+//! that are not sound, sealed frames, gaps, restarts of a solver that keeps its AIOU, damaged
+//! messages in frames with right checks, sheets that are too long.
 use crate::frame::{write, Parts};
-use crate::made::{self, gad, history, ids, Random};
+use crate::made::{self, gad, history, ids, issue, Random};
 use crate::rows_entries::entry;
 use crate::sides::{Desk, Ours, Rust, Side, Tray, Written};
 
@@ -60,12 +60,27 @@ fn streams(random: &mut Random) {
     }
 }
 
-/// The frames of a history, and two books beside it.
+/// The frames of a history, those of one with the same AIOU and another SIOU, and two books beside
+/// them.
 fn messages(random: &mut Random) -> Vec<Vec<u8>> {
-    let mut messages = history(random, 30);
-    messages.push(made::framed(2, 2, 0, &gad(random, 1, &(1..=32).collect::<Vec<_>>(), 8, 8)));
-    messages.push(made::framed(2, 2, 0, &gad(random, 2, &ids(), 2, 2)));
+    let mut messages = history(random, 30, 299);
+    messages.extend(history(random, 30, 300));
+    let all = (1..=32).collect::<Vec<_>>();
+    messages.push(made::framed(2, 2, 0, &gad(random, issue(1), &all, 8, 8)));
+    messages.push(made::framed(2, 2, 0, &gad(random, issue(2), &ids(), 2, 2)));
     messages
+}
+
+/// How often each reason is given in a frame's entries, by the reader of the run log.
+fn count_reasons(mut log: &[u8], reasons: &mut [usize; 6]) {
+    let mut entry = [0; 8];
+    while !log.is_empty() {
+        assert_eq!(Careful::entry_read(log, &mut entry), 0, "an entry that a desk wrote");
+        if entry[0] == 3 {
+            reasons[entry[3] as usize] += 1;
+        }
+        log = &log[entry[1] as usize..];
+    }
 }
 
 /// One of the messages, its payload damaged now and then, in a frame with right checks.
@@ -98,8 +113,9 @@ fn damaged(random: &mut Random, messages: &[Vec<u8>]) -> Vec<u8> {
 fn desks(random: &mut Random) {
     let messages = messages(random);
     let (mut ours, mut theirs, mut second) = (Desk::new(), Desk::new(), 5);
-    let mut seen = [0; 32];
+    let (mut seen, mut reasons, mut restarts) = ([0; 32], [0; 6], 0);
     for round in 0..60_000 {
+        let before = ours.desk;
         let message = damaged(random, &messages);
         second += [0, 1, 0, 1, 2, 3, 449, 450, 451][random.below(9) as usize];
         let answer = Ours::desk_take(&mut ours, &message, second);
@@ -107,19 +123,35 @@ fn desks(random: &mut Random) {
         assert_eq!(answer, careful, "desk: round {round}");
         assert!(ours == theirs, "desk: round {round} leaves something else");
         seen[(answer & 31) as usize] += 1;
+        if answer == 0 {
+            count_reasons(&ours.log[..ours.written[0] as usize], &mut reasons);
+            let same_aiou = before[5] > 0 && ours.desk[5] > 0 && before[3] == ours.desk[3];
+            restarts += (same_aiou && before[4] != ours.desk[4]) as usize;
+        }
         if random.below(60) == 0 {
-            let some = [0, 1, 3, 15, 16, 32, 33, 43_199, 43_200][random.below(9) as usize];
-            ours.desk[random.below(10) as usize] = some;
-            ours.live[random.below(192) as usize] ^= 1 << random.below(8);
-            ours.run[random.below(192) as usize] ^= 1 << random.below(8);
+            let some = [0, 1, 3, 15, 16, 32, 33, 512, 513, 43_199, 43_200];
+            ours.desk[random.below(12) as usize] = some[random.below(11) as usize];
+            if random.below(2) == 0 {
+                ours.live[random.below(192) as usize] ^= 1 << random.below(8);
+                ours.run[random.below(192) as usize] ^= 1 << random.below(8);
+            }
             theirs = ours.clone();
         } else if answer == 17 {
             (ours, theirs) = (Desk::new(), Desk::new());
+        } else if random.below(20) == 0 {
+            // another SIOU, or an unknown one, in the live book or in the run's
+            let siou_plus_one = [0, 0, 300, 301, 512][random.below(5) as usize];
+            ours.desk[[4, 9][random.below(2) as usize]] = siou_plus_one;
+            theirs = ours.clone();
         }
     }
     for number in [0, 1, 7, 8, 11, 12, 13, 14, 15, 17] {
         assert!(seen[number] > 0, "desk: no frame was answered with {number}");
     }
+    for (reason, count) in reasons.iter().enumerate().skip(1) {
+        assert!(*count > 0, "desk: no area was left out for reason {reason}");
+    }
+    assert!(restarts > 0, "desk: no GAD of the book's AIOU had another SIOU");
 }
 
 /// The same messages as a stream, in portions of any size.
@@ -158,8 +190,12 @@ fn sheets(random: &mut Random) {
 
 /// Small entries, one byte changed and cut anywhere, so that SHORT and FORM come close together.
 fn entries(random: &mut Random) {
-    for _ in 0..40_000 {
-        let mut bytes = entry(1, 1 + random.below(2), random.below(6), random.below(4) as usize);
+    for round in 0..40_000 {
+        let mut bytes = match round % 8 {
+            0 => vec![1, random.below(128) as u8, random.below(20) as u8, random.below(36) as u8],
+            1 => vec![3, random.below(128) as u8, random.below(8) as u8],
+            _ => entry(1, 1 + random.below(2), random.below(6), random.below(4) as usize),
+        };
         let at = random.below(bytes.len() as u64) as usize;
         bytes[at] = random.below(70) as u8;
         bytes.truncate(random.below(bytes.len() as u64 + 1) as usize);

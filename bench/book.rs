@@ -7,10 +7,11 @@ pub const AREA_OFF: u64 = 13;
 pub const CONFLICT: u64 = 14;
 pub const BOOK_FULL: u64 = 15;
 
-/// AIOU and count of areas.
+/// AIOU, SIOU + 1 (0 if it is unknown) and count of areas.
 #[derive(Clone, Copy)]
 pub struct Book {
     pub aiou: u64,
+    pub siou_plus_one: u64,
     pub count: usize,
 }
 
@@ -34,9 +35,10 @@ fn sixes(bytes: &[u8]) -> &[[u8; 6]] {
     bytes[..BOOK].as_chunks::<6>().0
 }
 
-/// A book of so many areas is sound. All areas are looked at, with no way out on the way.
-pub fn is_sound(aiou: u64, count: u64, bytes: &[u8]) -> bool {
-    if count > 32 || count > 0 && aiou > 15 {
+/// A book of these three numbers is sound. All areas are looked at, with no way out on the way.
+pub fn is_sound(numbers: &[u64], bytes: &[u8]) -> bool {
+    let (aiou, siou_plus_one, count) = (numbers[0], numbers[1], numbers[2]);
+    if count > 32 || count > 0 && (aiou > 15 || siou_plus_one > 512) {
         return false;
     }
     // what must not fall below zero is joined, and looked at once by its sign
@@ -54,19 +56,28 @@ pub fn is_sound(aiou: u64, count: u64, bytes: &[u8]) -> bool {
 }
 
 impl Book {
-    pub const EMPTY: Book = Book { aiou: 0, count: 0 };
+    pub const EMPTY: Book = Book { aiou: 0, siou_plus_one: 0, count: 0 };
+
+    /// The book that three numbers of a desk say.
+    pub fn of(numbers: &[u64]) -> Book {
+        Book { aiou: numbers[0], siou_plus_one: numbers[1], count: numbers[2] as usize }
+    }
+
+    pub fn numbers(self) -> [u64; 3] {
+        [self.aiou, self.siou_plus_one, self.count as u64]
+    }
 
     pub fn find(self, bytes: &[u8], id: u8) -> Option<u64> {
         sixes(bytes)[..self.count].iter().find(|six| six[0] == id).map(area_of)
     }
 }
 
-/// AIOU and count of blocks of a GAD.
-pub fn head(j: &mut Judge) -> Walked<(u64, usize)> {
-    full(j, 5, 9)?;
+/// AIOU, SIOU and count of blocks of a GAD or an HPAC message.
+pub fn head(j: &mut Judge) -> Walked<(u64, u64, usize)> {
+    let siou = full(j, 5, 9)?;
     let aiou = full(j, 68, 4)?;
     full(j, 69, 1)?;
-    Ok((aiou, full(j, 30, 5)? as usize + 1))
+    Ok((aiou, siou, full(j, 30, 5)? as usize + 1))
 }
 
 /// A block of a GAD, in one piece; field by field where something is wrong with it.

@@ -1,5 +1,5 @@
 //! How cost grows: the same work while the stream, the areas or the grid double.
-use crate::made::{self, framed, gad, hpac, ids, Area, Random};
+use crate::made::{self, framed, gad, hpac, ids, issue, Area, Random};
 use crate::race::Tables;
 use crate::rows_desk;
 use crate::rows_stream::listen_row;
@@ -10,7 +10,7 @@ fn streams(tables: &Tables) {
     let random = &mut Random::new();
     let most = 8 << 20;
     let area = |id| Area { id, points: 16, blocks: 2, satellites: 10 };
-    let frame = framed(1, 2, 100, &hpac(random, 3, &[area(7), area(14), area(21)]));
+    let frame = framed(1, 2, 100, &hpac(random, issue(3), &[area(7), area(14), area(21)]));
     let frames: Vec<u8> = frame.iter().copied().cycle().take(most).collect();
     let inputs = [
         ("noise", made::noise(random, most)),
@@ -41,9 +41,9 @@ fn areas(tables: &Tables) {
     tables.head("Growth with the areas", "a call");
     let counts = [1, 2, 4, 8, 16, 32];
     for count in counts {
-        let book = framed(2, 2, 0, &gad(random, 3, &ids[..count], 4, 4));
+        let book = framed(2, 2, 0, &gad(random, issue(3), &ids[..count], 4, 4));
         let area = Area { id: 7, points: 16, blocks: 2, satellites: 2 };
-        let open = framed(1, 2, 100, &hpac(random, 3, &[area]));
+        let open = framed(1, 2, 100, &hpac(random, issue(3), &[area]));
         let frames = [book, open];
         let (mut a, mut b, mut c) = (Tray::new(), Tray::new(), Tray::new());
         let mut x = held::<Ours>(&frames);
@@ -65,7 +65,7 @@ fn areas(tables: &Tables) {
         );
     }
     for count in counts {
-        let book = vec![framed(2, 2, 0, &gad(random, 3, &ids[..count], 4, 4))];
+        let book = vec![framed(2, 2, 0, &gad(random, issue(3), &ids[..count], 4, 4))];
         rows_desk::row(tables, &format!("GAD of {count} that are known"), &book, &book, 1);
     }
 }
@@ -75,9 +75,9 @@ fn grids(tables: &Tables) {
     tables.head("Growth with the grid", "a frame");
     for (rows, columns) in [(2, 2), (2, 4), (4, 4), (4, 8), (8, 8)] {
         let points = rows * columns;
-        let book = framed(2, 2, 0, &gad(random, 3, &[7], rows, columns));
+        let book = framed(2, 2, 0, &gad(random, issue(3), &[7], rows, columns));
         let area = Area { id: 7, points, blocks: 2, satellites: 8 };
-        let frame = framed(1, 2, 100, &hpac(random, 3, &[area]));
+        let frame = framed(1, 2, 100, &hpac(random, issue(3), &[area]));
         rows_desk::row(
             tables,
             &format!("HPAC, {points} nodes, 8 satellites"),

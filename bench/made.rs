@@ -106,8 +106,20 @@ pub fn payload(kind: u8, subtype: u8, sheet: &[u64]) -> Vec<u8> {
     made
 }
 
-pub fn gad(random: &mut Random, aiou: u64, ids: &[u64], rows: u64, columns: u64) -> Vec<u8> {
-    let mut chosen = vec![(68, aiou), (30, ids.len() as u64 - 1)];
+/// SIOU and AIOU of a message, SF005 and SF068.
+#[derive(Clone, Copy)]
+pub struct Issue {
+    pub siou: u64,
+    pub aiou: u64,
+}
+
+/// The messages of a row share one SIOU, so that areas are placed.
+pub fn issue(aiou: u64) -> Issue {
+    Issue { siou: 299, aiou }
+}
+
+pub fn gad(random: &mut Random, of: Issue, ids: &[u64], rows: u64, columns: u64) -> Vec<u8> {
+    let mut chosen = vec![(5, of.siou), (68, of.aiou), (30, ids.len() as u64 - 1)];
     for &id in ids {
         // by the ID alone, so that another GAD says the same of it
         let block = [(31, id), (32, 900 + id), (33, 10 * id), (34, rows - 1), (35, columns - 1)];
@@ -118,8 +130,8 @@ pub fn gad(random: &mut Random, aiou: u64, ids: &[u64], rows: u64, columns: u64)
 }
 
 /// HPAC for GPS.
-pub fn hpac(random: &mut Random, aiou: u64, areas: &[Area]) -> Vec<u8> {
-    let mut chosen = vec![(68, aiou), (30, areas.len() as u64 - 1)];
+pub fn hpac(random: &mut Random, of: Issue, areas: &[Area]) -> Vec<u8> {
+    let mut chosen = vec![(5, of.siou), (68, of.aiou), (30, areas.len() as u64 - 1)];
     for area in areas {
         chosen.extend([(31, area.id), (39, area.points), (40, area.blocks), (40, area.blocks)]);
     }
@@ -139,13 +151,13 @@ pub fn ids() -> Vec<u64> {
 
 /// An hour, or less, at four frames a second: an HPAC message with grids, a GAD or another HPAC
 /// message, an HPAC message without grids, and an OCB frame, which is not the desk's. The AIOU
-/// changes every 400 seconds; now and then a GAD is in conflict, a frame is damaged, and a tag is
-/// out of range.
-pub fn history(random: &mut Random, seconds: u64) -> Vec<Vec<u8>> {
+/// changes every 400 seconds, and the SIOU, from this one on, every 1,000; now and then a GAD is in
+/// conflict, a frame is damaged, and a tag is out of range.
+pub fn history(random: &mut Random, seconds: u64, siou: u64) -> Vec<Vec<u8>> {
     let ids = ids();
     let mut frames = Vec::new();
     for second in 0..seconds {
-        let aiou = 1 + second / 400;
+        let of = Issue { siou: siou + second / 1_000, aiou: 1 + second / 400 };
         let tag = ((43_150 + second) % 43_200) as u16;
         let area = |random: &mut Random, blocks, satellites| {
             let id = ids[random.below(32) as usize];
@@ -153,18 +165,18 @@ pub fn history(random: &mut Random, seconds: u64) -> Vec<Vec<u8>> {
         };
         let grids = [area(random, 2, 8), area(random, 2, 8)];
         let off = if second % 25 == 24 { 43_200 } else { tag };
-        frames.push(framed(1, 2, off, &hpac(random, aiou, &grids)));
+        frames.push(framed(1, 2, off, &hpac(random, of, &grids)));
         let first = 8 * (second / 2 % 4) as usize;
         let one = [area(random, 2, 3)];
         frames.push(match second % 20 {
-            19 => framed(2, 2, tag, &gad(random, aiou, &ids[..4], 3, 4)),
+            19 => framed(2, 2, tag, &gad(random, of, &ids[..4], 3, 4)),
             even if even % 2 == 0 => {
-                framed(2, 2, tag, &gad(random, aiou, &ids[first..first + 8], 4, 4))
+                framed(2, 2, tag, &gad(random, of, &ids[first..first + 8], 4, 4))
             }
-            _ => framed(1, 3, tag, &hpac(random, aiou, &one)),
+            _ => framed(1, 3, tag, &hpac(random, of, &one)),
         });
         let plain: Vec<Area> = (0..6).map(|_| area(random, 1, 4)).collect();
-        let mut frame = framed(1, 2, tag, &hpac(random, aiou, &plain));
+        let mut frame = framed(1, 2, tag, &hpac(random, of, &plain));
         frame[20] ^= if second % 30 == 29 { 4 } else { 0 };
         frames.push(frame);
         frames.push(framed(0, 2, tag, &random.bytes(200)));
@@ -175,7 +187,7 @@ pub fn history(random: &mut Random, seconds: u64) -> Vec<Vec<u8>> {
 /// Frames of a history as a stream of so many bytes, some noise between some of them.
 pub fn mix(random: &mut Random, size: usize) -> Vec<u8> {
     let mut stream = Vec::new();
-    for frame in history(random, 40).iter().cycle() {
+    for frame in history(random, 40, 299).iter().cycle() {
         if random.below(6) == 0 {
             let count = random.below(60) as usize;
             stream.extend(random.bytes(count));

@@ -18,7 +18,7 @@ impl Held<'_> {
     fn is_short(&self) -> bool {
         let Lent { desk, live, run, log } = &self.lent;
         self.tray.len() < 3
-            || desk.len() < 11
+            || desk.len() < desk::DESK
             || self.told.len() < 7
             || self.header.len() < 15
             || self.bytes.len() < LONGEST_FRAME

@@ -1,6 +1,6 @@
 //! Rows of the desk: one frame or two over and over, and an hour's history.
 use crate::frame::{self, Parts};
-use crate::made::{framed, gad, history, hpac, ids, Area, Random};
+use crate::made::{framed, gad, history, hpac, ids, issue, Area, Issue, Random};
 use crate::race::Tables;
 use crate::sides::{Desk, Ours, Rust, Side};
 use std::hint::black_box;
@@ -79,16 +79,20 @@ pub fn desk(tables: &Tables) {
     let ids = ids();
     let area = |id, blocks, satellites| Area { id, points: 16, blocks, satellites };
     let gad_of =
-        |random: &mut Random, aiou, ids: &[u64]| framed(2, 2, 0, &gad(random, aiou, ids, 4, 4));
-    let (whole, one) = (gad_of(random, 3, &ids), gad_of(random, 3, &ids[..1]));
-    let other = gad_of(random, 4, &ids);
-    let large = [area(7, 2, 10), area(14, 2, 10), area(21, 2, 10)];
-    let large = vec![framed(1, 2, 100, &hpac(random, 3, &large))];
+        |random: &mut Random, of, ids: &[u64]| framed(2, 2, 0, &gad(random, of, ids, 4, 4));
+    let (whole, one) = (gad_of(random, issue(3), &ids), gad_of(random, issue(3), &ids[..1]));
+    let other = gad_of(random, issue(4), &ids);
+    let known = [area(7, 2, 10), area(14, 2, 10), area(21, 2, 10)];
+    let large = vec![framed(1, 2, 100, &hpac(random, issue(3), &known))];
     let left = [area(8, 2, 10), area(15, 2, 10), area(22, 2, 10)];
-    let left = vec![framed(1, 2, 100, &hpac(random, 3, &left))];
-    let small = framed(1, 2, 100, &hpac(random, 3, &[area(7, 2, 2)]));
-    let later = framed(1, 2, 101, &hpac(random, 3, &[area(7, 2, 2)]));
-    let plain = framed(1, 2, 100, &hpac(random, 3, &[area(7, 1, 10), area(14, 1, 10)]));
+    let left = vec![framed(1, 2, 100, &hpac(random, issue(3), &left))];
+    // of a solver that was restarted and kept its AIOU
+    let bumped = Issue { siou: issue(3).siou + 1, aiou: 3 };
+    let next = vec![framed(1, 2, 100, &hpac(random, bumped, &known))];
+    let renewed = gad_of(random, bumped, &ids);
+    let small = framed(1, 2, 100, &hpac(random, issue(3), &[area(7, 2, 2)]));
+    let later = framed(1, 2, 101, &hpac(random, issue(3), &[area(7, 2, 2)]));
+    let plain = framed(1, 2, 100, &hpac(random, issue(3), &[area(7, 1, 10), area(14, 1, 10)]));
     let ocb = framed(0, 2, 0, &random.bytes(200));
     let (message_type, solution) = (1, 6);
     let parts = Parts { message_type, subtype: 0, kind: 2, tag: 100, solution, processor: 11 };
@@ -98,13 +102,15 @@ pub fn desk(tables: &Tables) {
     row(tables, "HPAC, large grids", &held, &large, 1);
     row(tables, "HPAC, large grids, book of one area", &few, &large, 1);
     row(tables, "HPAC, large grids, areas left out", &held, &left, 1);
+    row(tables, "HPAC, large grids, another SIOU", &held, &next, 1);
     row(tables, "HPAC, a small grid", &held, &[small.clone()], 1);
     row(tables, "HPAC, no grids", &held, &[plain], 1);
     row(tables, "HPAC, a run opened each time", &held, &[small, later], 1);
     row(tables, "GAD, one area", &[], &few, 1);
     row(tables, "GAD, 32 areas that are known", &held, &held, 1);
-    row(tables, "GAD, 32 areas of a new book", &held, &[other, whole], 1);
+    row(tables, "GAD, 32 areas of a new book", &held, &[other, whole.clone()], 1);
+    row(tables, "GAD, 32 areas of another SIOU", &held, &[renewed, whole], 1);
     row(tables, "foreign: OCB", &held, &[ocb], 1);
     row(tables, "foreign: another solution", &held, &[foreign], 1);
-    hour(tables, "an hour's history", &history(random, 3600));
+    hour(tables, "an hour's history", &history(random, 3600, 299));
 }

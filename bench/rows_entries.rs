@@ -70,7 +70,7 @@ fn timed_residual<S: Side>(bytes: &[u8]) {
 pub fn entries(tables: &Tables) {
     let entries = [
         ("run opened", vec![1, 0xbf, 0xd1, 2, 4, 2]),
-        ("left out", vec![3, 5, 1]),
+        ("left out", vec![3, 5, 5]),
         ("2 x 2 nodes, 8 satellites", entry(2, 2, 8, 1)),
         ("4 x 5 nodes, 12 satellites", entry(4, 5, 12, 2)),
         ("8 x 8 nodes, 64 satellites", entry(8, 8, 64, 3)),

@@ -51,7 +51,7 @@ pub struct Written {
 
 #[derive(Clone, PartialEq)]
 pub struct Desk {
-    pub desk: [u64; 11],
+    pub desk: [u64; desk::DESK],
     pub live: [u8; 192],
     pub run: [u8; 192],
     pub log: [u8; 4096],
@@ -61,7 +61,7 @@ pub struct Desk {
 impl Desk {
     /// The desk that the made frames are for.
     pub fn new() -> Desk {
-        let mut desk = [0; 11];
+        let mut desk = [0; desk::DESK];
         (desk[0], desk[1]) = (5, 11);
         Desk { desk, live: [0; 192], run: [0; 192], log: [0; 4096], written: [0] }
     }

@@ -8,7 +8,7 @@
 #include <string.h>
 #include <ucontext.h>
 
-enum { ROOM = 128 * 1024, PAINT = 0xA5, AIOU = 3, TAG = 100, SOLUTION = 5, PROCESSOR = 11 };
+enum { ROOM = 128 * 1024, PAINT = 0xA5, AIOU = 3, SIOU = 5, TAG = 100, SOLUTION = 5, PROCESSOR = 11 };
 
 static unsigned char stack[ROOM];
 static ucontext_t here, there;
@@ -85,7 +85,7 @@ static void ocb(const char *name, uint8_t subtype, uint64_t satellites, uint64_t
 /* Areas from an ID on, each with so many points and eight satellites; blocks 1 is without grids. */
 static void hpac(const char *name, uint64_t areas, uint64_t id, uint64_t points, uint64_t blocks) {
     begin(name, 1, 0);
-    code(5), code(AIOU), code(0), code(areas - 1);
+    code(SIOU), code(AIOU), code(0), code(areas - 1);
     for (uint64_t area = 0; area < areas; area++) {
         code(id + 7 * area), code(points), code(blocks), code(blocks);
         code(2), code(0), code(254), code(1), codes(4, 9);
@@ -102,7 +102,7 @@ static void hpac(const char *name, uint64_t areas, uint64_t id, uint64_t points,
 /* So many areas with rows and columns, as codes, and their reference corner as far south as told. */
 static void gad(const char *name, uint64_t areas, uint64_t rows, uint64_t latitude) {
     begin(name, 2, 0);
-    code(5), code(AIOU), code(0), code(areas - 1);
+    code(SIOU), code(AIOU), code(0), code(areas - 1);
     for (uint64_t area = 1; area <= areas; area++)
         code(7 * area), code(latitude), code(10 * area), code(rows), code(7), code(9), code(9);
     end();
@@ -141,7 +141,13 @@ static void top(const struct input *of, const char *name, size_t bit, size_t wid
     frame_of(TAG, SOLUTION);
 }
 
-static struct input *known, *placed;
+/* The message with another SIOU. */
+static void another(const struct input *of, const char *name) {
+    again(of, name)->sheet[0]++;
+    end();
+}
+
+static struct input *known, *placed, *renewed, *outdated;
 
 static void make(void) {
     ocb("OCB of GPS, 16 satellites", 0, 0xFFFF, 0x7FF, 11);
@@ -165,6 +171,10 @@ static void make(void) {
     top(rich, "OCB, the last code refused", rich->bits - 11, 11, rich->entries - 1);
     top(plain, "HPAC, the last code refused", plain->bits - 15, 15, plain->entries - 1);
     top(known, "GAD, the last latitude refused", known->bits - 39, 11, known->entries - 6);
+    another(known, "GAD of another SIOU");
+    renewed = at;
+    another(placed, "HPAC of another SIOU");
+    outdated = at;
     again(placed, "HPAC, a tag out of range"), frame_of(43200, SOLUTION);
     again(placed, "HPAC, another solution"), frame_of(TAG, SOLUTION + 1);
     again(placed, "HPAC, damaged")->frame[30] ^= 4;
@@ -174,7 +184,7 @@ static void make(void) {
 /* ---- what is lent */
 
 static uint8_t bytes[HOMRALGYU_LONGEST_FRAME], live[HOMRALGYU_BOOK_BYTES], run[HOMRALGYU_BOOK_BYTES], log_[HOMRALGYU_LOG_ROOM];
-static uint64_t tray[3], desk[HOMRALGYU_DESK], told[HOMRALGYU_TOLD], header[HOMRALGYU_HEADER], written[1], counts[2], book[2];
+static uint64_t tray[3], desk[HOMRALGYU_DESK], told[HOMRALGYU_TOLD], header[HOMRALGYU_HEADER], written[1], counts[2], book[HOMRALGYU_BOOK];
 static uint64_t sheet[HOMRALGYU_SHEET_ROOM], entry[HOMRALGYU_ENTRY], what[2], view[HOMRALGYU_SATELLITE], found[1];
 static uint8_t out[HOMRALGYU_LONGEST_FRAME], kept[HOMRALGYU_KEPT_ROOM], entries[16384];
 static size_t kept_bytes, length;
@@ -205,9 +215,9 @@ static void on_frame_write(void) {
     answer = homralgyu_frame_write(at->kind, 3, at->subtype, 1, TAG, SOLUTION, PROCESSOR, at->payload, at->bytes, out, sizeof out,
                                    written, 1);
 }
-static void on_book_take(void) { answer = homralgyu_book_take(book, 2, live, sizeof live, at->payload, at->bytes); }
-static void on_kept_write(void) { answer = homralgyu_kept_write(book, 2, live, sizeof live, out, sizeof out, written, 1); }
-static void on_kept_read(void) { answer = homralgyu_kept_read(kept, kept_bytes, book, 2, live, sizeof live); }
+static void on_book_take(void) { answer = homralgyu_book_take(book, HOMRALGYU_BOOK, live, sizeof live, at->payload, at->bytes); }
+static void on_kept_write(void) { answer = homralgyu_kept_write(book, HOMRALGYU_BOOK, live, sizeof live, out, sizeof out, written, 1); }
+static void on_kept_read(void) { answer = homralgyu_kept_read(kept, kept_bytes, book, HOMRALGYU_BOOK, live, sizeof live); }
 static void on_satellite_at(void) {
     answer = homralgyu_satellite_at(at->subtype, at->sheet, at->entries, place, view, HOMRALGYU_SATELLITE, floats, HOMRALGYU_SATELLITE_FLOATS);
 }
@@ -219,12 +229,12 @@ static void on_orbit(void) { answer = homralgyu_orbit(coded, coded, coded, float
 static void on_desk_new(void) { answer = homralgyu_desk_new(SOLUTION, PROCESSOR, 0, desk, HOMRALGYU_DESK); }
 static void on_desk_is_sound(void) { answer = homralgyu_desk_is_sound(desk, HOMRALGYU_DESK, live, sizeof live, run, sizeof run); }
 static void on_desk_take_book(void) {
-    answer = homralgyu_desk_take_book(desk, HOMRALGYU_DESK, live, sizeof live, run, sizeof run, book, 2, held, sizeof held);
+    answer = homralgyu_desk_take_book(desk, HOMRALGYU_DESK, live, sizeof live, run, sizeof run, book, HOMRALGYU_BOOK, held, sizeof held);
 }
 static void on_desk_find(void) {
     answer = homralgyu_desk_find(desk, HOMRALGYU_DESK, live, sizeof live, run, sizeof run, id, area, 6, found, 1);
 }
-static void on_book_find(void) { answer = homralgyu_book_find(book, 2, live, sizeof live, id, area, 6, found, 1); }
+static void on_book_find(void) { answer = homralgyu_book_find(book, HOMRALGYU_BOOK, live, sizeof live, id, area, 6, found, 1); }
 static void on_stream_call(void) { answer = homralgyu_stream_call(TRAY, part, part_bytes, TOLD(3)); }
 static void on_stream_finish(void) { answer = homralgyu_stream_finish(TRAY, TOLD(3)); }
 static void on_prepare_call(void) { answer = homralgyu_prepare_call(TRAY, DESK, part, part_bytes, 1, TOLD(HOMRALGYU_TOLD)); }
@@ -356,6 +366,17 @@ static void lookups(const char *name) {
     measure(IS_desk_new, name);
 }
 
+/* The kept book as an older version kept it: form 1, without the SIOU, whose number has one byte here. */
+static void older(void) {
+    uint8_t newer[sizeof kept];
+    memcpy(newer, kept, sizeof kept);
+    kept[0] = 1;
+    memmove(kept + 2, kept + 3, --kept_bytes - 2);
+    measure(IS_kept_read, "a kept book of form 1");
+    expect(answer == 0 && book[HOMRALGYU_BOOK_SIOU_PLUS_ONE] == 0, "a kept book of form 1 does not read");
+    memcpy(kept, newer, sizeof kept), kept_bytes++;
+}
+
 static void books(void) {
     memset(book, 0, sizeof book), memset(live, 0, sizeof live);
     measure(IS_book_take, at->name);
@@ -374,9 +395,12 @@ static void books(void) {
     expect(answer == 0, "the kept book does not read");
     kept_bytes--;
     measure(IS_kept_read, "a kept book, cut");
-    kept_bytes++, kept[1] = 99;
+    kept_bytes++;
+    older();
+    kept[1] = 99;
     measure(IS_kept_read, "a kept book of no form");
-    book[1] = 33;
+    expect(answer != 0, "a kept book of no form reads");
+    book[HOMRALGYU_BOOK_AREAS] = 33;
     measure(IS_kept_write, "a book that is not sound");
 }
 
@@ -446,6 +470,9 @@ static void answers(void) {
         on_sheet_judge(), expect((answer != 0) == (refused || strstr(at->name, "goes on")), "the sheet's answer");
     }
     at = placed, fresh(1), on_desk_take(), expect(answer == 0 && written[0] > 600, "the area is not placed");
+    at = outdated, fresh(2), on_desk_take(), expect(answer == 0 && written[0] == 3 && log_[2] == 5, "the area is not left out for its SIOU");
+    at = renewed, fresh(2), on_desk_take();
+    expect(answer == 0 && desk[HOMRALGYU_DESK_SIOU_PLUS_ONE] == SIOU + 2, "the GAD begins no new book");
 }
 
 int main(void) {
