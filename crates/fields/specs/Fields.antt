@@ -1,4 +1,4 @@
--- Definitions to believe: the data fields of the twelve payloads, a line a field (document 000, section 6.4; document 01, "Codes"): its number, its bits, the
+-- Definitions to believe: the data fields of the twelve payloads, a line a field (document 000, section 6.4; document 01, "Codes"; document 02, request 6): its number, its bits, the
 -- codes that it takes, and what they mean. Every layout, row, value, log entry and word of the run log takes a field's facts from here, or is proved to
 -- agree with it (`limits` of crate entries, the corners of crate words).
 use mathlib.Core.Bool.{Bool, true, false}
@@ -53,6 +53,7 @@ orInvalid number n perUnit meaning =
 abbrev pub ranged : (number width most middle perUnit : ℕ) → Meaning → Line
 ranged number n most middle perUnit meaning = record { number = number; width = n; most = most; invalid = most; means = counts (about middle) perUnit meaning }
 
+-- SF040, SF041, SF054; and the ephemeris types: "Refuse TBD values: GPS and GLONASS 1 to 3, Galileo and QZSS 3 to 7, BeiDou 6 to 15" (document 02, request 6)
 abbrev pub limited : (number width most : ℕ) → Line
 limited number n most = record { number = number; width = n; most = most; invalid = most; means = nothing }
 
@@ -73,8 +74,8 @@ table =
     plain 13 1 ∷  -- do not use
     plain 14 3 ∷  -- OCB present flags
     plain 15 3 ∷  -- continuity indicator
-    plain 16 2 ∷  -- GPS ephemeris type
-    plain 17 2 ∷  -- GLONASS ephemeris type
+    limited 16 2 0 ∷  -- GPS ephemeris type: 1 to 3 TBD
+    limited 17 2 0 ∷  -- GLONASS ephemeris type: 1 to 3 TBD
     plain 18 8 ∷  -- GPS IODE
     plain 19 7 ∷  -- GLONASS IODE
     symmetric 20 14 500 metres ∷  -- ±16.382 m, 0.002 m
@@ -142,9 +143,9 @@ table =
     plain 93 2 ∷  -- Galileo satellite mask
     plain 94 2 ∷  -- BeiDou satellite mask
     plain 95 2 ∷  -- QZSS satellite mask
-    plain 96 3 ∷  -- Galileo ephemeris type
-    plain 97 4 ∷  -- BeiDou ephemeris type
-    plain 98 3 ∷  -- QZSS ephemeris type
+    limited 96 3 2 ∷  -- Galileo ephemeris type: 3 to 7 TBD
+    limited 97 4 5 ∷  -- BeiDou ephemeris type: 6 to 15 TBD
+    limited 98 3 2 ∷  -- QZSS ephemeris type: 3 to 7 TBD
     plain 99 10 ∷  -- Galileo IODnav
     plain 100 8 ∷  -- BeiDou IODE
     plain 101 8 ∷  -- QZSS IODE

@@ -1,4 +1,4 @@
-// The data fields of the payloads (document 000, section 6.4; document 01, "Codes"), a line a field. Layouts, rows, values, the log
+// The data fields of the payloads (document 000, section 6.4; document 01, "Codes"; document 02, request 6), a line a field. Layouts, rows, values, the log
 // and the words of the run log take a field's facts from here.
 ghost use mathlib.Core.Path.{_≡_};
 ghost use Rattle.fields.specs.Fields.{lineOf, fieldOf, sf};
@@ -92,8 +92,8 @@ fn first(number: u64) -> Field
         13 => field(13, 1, 1, 1),
         14 => field(14, 3, 7, 7),
         15 => field(15, 3, 7, 7),
-        16 => field(16, 2, 3, 3),
-        17 => field(17, 2, 3, 3),
+        16 => field(16, 2, 0, 0),
+        17 => field(17, 2, 0, 0),
         18 => field(18, 8, 255, 255),
         19 => field(19, 7, 127, 127),
         20 => field(20, 14, 16382, 16382),
@@ -179,9 +179,9 @@ fn third(number: u64) -> Field
         93 => field(93, 2, 3, 3),
         94 => field(94, 2, 3, 3),
         95 => field(95, 2, 3, 3),
-        96 => field(96, 3, 7, 7),
-        97 => field(97, 4, 15, 15),
-        98 => field(98, 3, 7, 7),
+        96 => field(96, 3, 2, 2),
+        97 => field(97, 4, 5, 5),
+        98 => field(98, 3, 2, 2),
         99 => field(99, 10, 1023, 1023),
         100 => field(100, 8, 255, 255),
         101 => field(101, 8, 255, 255),

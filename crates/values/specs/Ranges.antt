@@ -1,5 +1,5 @@
--- The table of crate fields beside document 000 and document 01: the lowest and the highest value of each field are those that its row's range names, and the fields that
--- document 01 lists are those of the table. Each is computed; they serve as checks of the table.
+-- The table of crate fields beside documents 000, 01 and 02: the lowest and the highest value of each field are those that its row's range names, and the fields and ranges that
+-- document 01 and request 6 list are those of the table. Each is computed; they serve as checks of the table.
 use mathlib.Core.Path.{_≡_, refl}
 use mathlib.Core.List.{List, [], _∷_}
 use mathlib.Core.Bool.{Bool, true, false, not, _&&_}
@@ -142,7 +142,7 @@ pub one-more : fields (λ line. isOneMore (line .means)) table ≡ 30 ∷ 34 ∷
 unfolding fields table
 one-more = refl
 
--- ---- the ranges that document 01 lists
+-- ---- the ranges that document 01 lists, and request 6 of document 02
 
 -- the highest code of each field that takes neither its full width nor all codes but the top one, behind the field's number
 unfoldable pub ownRanges : List Line → List ℕ
@@ -152,7 +152,7 @@ ownRanges (line ∷ lines) =
     (with-field (not (eqb (line .most) (2 ^ line .width - 1)) && not (eqb (line .most) (2 ^ line .width - 2))) (line .most) (ownRanges lines))
 
 -- "Other ranges: SF021 0 to 59, with 63 invalid; SF032 0 to 1800; SF033 0 to 3600; SF073 0 to 170; SF074 0 to 360; .. SF041 and SF054 0 to 2." "All else takes its
--- full width."
-pub own-ranges : ownRanges table ≡ 21 ∷ 59 ∷ 32 ∷ 1800 ∷ 33 ∷ 3600 ∷ 41 ∷ 2 ∷ 54 ∷ 2 ∷ 73 ∷ 170 ∷ 74 ∷ 360 ∷ []
+-- full width." And document 02, request 6: "Refuse TBD values: GPS and GLONASS 1 to 3, Galileo and QZSS 3 to 7, BeiDou 6 to 15."
+pub own-ranges : ownRanges table ≡ 16 ∷ 0 ∷ 17 ∷ 0 ∷ 21 ∷ 59 ∷ 32 ∷ 1800 ∷ 33 ∷ 3600 ∷ 41 ∷ 2 ∷ 54 ∷ 2 ∷ 73 ∷ 170 ∷ 74 ∷ 360 ∷ 96 ∷ 2 ∷ 97 ∷ 5 ∷ 98 ∷ 2 ∷ []
 unfolding ownRanges table
 own-ranges = refl
