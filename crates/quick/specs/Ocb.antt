@@ -4,9 +4,9 @@ use mathlib.Core.Bool.{Bool, true, false}
 use mathlib.Core.List.{List}
 use Prim.Native.Nat.{ℕ, _+_, _*_, _/_, _%_, _≤_, _<_}
 use native.Mathlib.Omega.{arith}
-use borrow.Author.Tests.{eq-eqb, ne-eqb, le-leb, lt-leb}
+use borrow.Author.Tests.{eq-eqb, ne-eqb, le-leb, lt-leb, le-ltb, lt-ltb}
 use lib.Count.{ones}
-use lib.Dec.{eqb, leb}
+use lib.Dec.{eqb, ltb, leb}
 use Rattle.bits.specs.Bits.{got}
 use Rattle.layout.specs.Layout.{pick}
 use Rattle.codes.specs.declared.Constellation.{Constellation}
@@ -33,6 +33,14 @@ iodeWidth Glonass = 7
 iodeWidth Galileo = 10
 iodeWidth BeiDou = 8
 iodeWidth Qzss = 8
+
+-- the highest ephemeris type that has a meaning
+abbrev pub lastType : Constellation → ℕ
+lastType Gps = 0
+lastType Glonass = 0
+lastType Galileo = 2
+lastType BeiDou = 5
+lastType Qzss = 2
 
 -- three codes of 14 bits, none all ones
 unfoldable pub threeFit : ℕ → Bool
@@ -102,8 +110,9 @@ ocbBy constellation payload pos width =
 
 unfoldable pub ocbOf : Constellation → List ℕ → Quick
 ocbOf constellation payload =
-    ocbBy constellation payload (13 + ephemerisWidth constellation + 2)
-    (maskSize constellation (got payload (13 + ephemerisWidth constellation) 2))
+    pick (ltb (lastType constellation) (got payload 13 (ephemerisWidth constellation))) Unknown
+    (ocbBy constellation payload (13 + ephemerisWidth constellation + 2)
+    (maskSize constellation (got payload (13 + ephemerisWidth constellation) 2)))
 
 -- ---- the returns of the code
 
@@ -255,13 +264,17 @@ module _ (payload : List ℕ) (pos at : ℕ) where
       unfolding satelliteBehind
       satellite-on x q e y f r n = rw (← q, ne-eqb x 1 e, ← f) n
 
-module _ (c : Constellation) (payload : List ℕ) (e : ℕ) (is : e ≡ ephemerisWidth c) (s : ℕ) (p : s ≡ got payload (13 + e) 2)
-    (w : ℕ) (q : w ≡ maskSize c s) (m : ℕ) (f : m ≡ got payload (13 + e + 2) w) where
-  pub ocb-empty : m ≡ 0 → Unknown ≡ ocbOf c payload
-  unfolding ocbOf ocbBy
-  ocb-empty z = rw (← is, ← p, ← q, ← f, eq-eqb m 0 z)
+module _ (c : Constellation) (payload : List ℕ) (e : ℕ) (is : e ≡ ephemerisWidth c) (x : ℕ) (k : x ≡ got payload 13 e) (t : ℕ) (l : t ≡ lastType c) where
+  pub ocb-tbd : t < x → Unknown ≡ ocbOf c payload
+  unfolding ocbOf
+  ocb-tbd h = rw (← is, ← k, ← l, lt-ltb t x h)
 
-  pub ocb-on : (m ≡ 0 → ⊥) → (y : ℕ) → y ≡ got payload 11 1 → (n : ℕ) → n ≡ ones m
-      → (b : Behind) → b ≡ repeated (satelliteBehind c y payload) n (13 + e + 2 + w) 8 → (r : Quick) → r ≡ readsTo payload b → r ≡ ocbOf c payload
-  unfolding ocbOf ocbBy
-  ocb-on z y g n o b h r t = rw (← is, ← p, ← q, ← f, ne-eqb m 0 z, ← g, ← o, ← h) t
+  module _ (i : x ≤ t) (s : ℕ) (p : s ≡ got payload (13 + e) 2) (w : ℕ) (q : w ≡ maskSize c s) (m : ℕ) (f : m ≡ got payload (13 + e + 2) w) where
+    pub ocb-empty : m ≡ 0 → Unknown ≡ ocbOf c payload
+    unfolding ocbOf ocbBy
+    ocb-empty z = rw (← is, ← k, ← l, le-ltb t x i, ← p, ← q, ← f, eq-eqb m 0 z)
+
+    pub ocb-on : (m ≡ 0 → ⊥) → (y : ℕ) → y ≡ got payload 11 1 → (n : ℕ) → n ≡ ones m
+        → (d : Behind) → d ≡ repeated (satelliteBehind c y payload) n (13 + e + 2 + w) 8 → (r : Quick) → r ≡ readsTo payload d → r ≡ ocbOf c payload
+    unfolding ocbOf ocbBy
+    ocb-on z y g n o d h r u = rw (← is, ← k, ← l, le-ltb t x i, ← p, ← q, ← f, ne-eqb m 0 z, ← g, ← o, ← h) u

@@ -4,11 +4,12 @@ use mathlib.Core.Bool.{Bool, true, false, false≢true}
 use mathlib.Core.List.{List, [], _∷_}
 use Prim.Native.Nat.{ℕ, zero, suc, _+_, _*_, _/_, _%_, _^_, _≤_, _<_}
 use native.Mathlib.Omega.{arith}
-use borrow.Author.Tests.{eqb-true, eqb-false, leb-true}
+use borrow.Author.Tests.{eqb-true, eqb-false, leb-true, ltb-false}
 use lib.Count.{ones}
-use lib.Dec.{eqb, leb, lit≤}
+use lib.Dec.{eqb, ltb, leb, lit≤}
 use lib.ListN.{length}
 use Rattle.bits.specs.Bits.{toBits, got}
+use Rattle.layout.specs.declared.Field.{Field}
 use Rattle.layout.specs.Layout.{Layout, field, pick}
 use Rattle.layout.specs.Parts.{Part, optional, times, each}
 use Rattle.layout.specs.Run.{finished, runL}
@@ -22,23 +23,23 @@ use Rattle.ocb.specs.Tables.{ephemerisSf, iodeSf, phaseSf, codeSf}
 use Rattle.ocb.specs.Ocb as ocb
 use Rattle.message.specs.Messages.{Message, ocbMessage, ocbLayout}
 use Rattle.quick.specs.Passes.{Full, Has, Passes, has-full, taken-up-to, taken-extra, got-small, got-part, passes-end, passes-field, passes-with, passes-as, times-none, times-more, each-none, passes-whole}
-use Rattle.quick.specs.Codes.{full, full-free, ranged, unless}
+use Rattle.quick.specs.Codes.{Ranged, full, full-free, ranged, unless, has-up-to}
 use Rattle.quick.specs.declared.Quick.the-variants.{Reads}
 use Rattle.quick.specs.declared.behind.Behind.{Behind}
 use Rattle.quick.specs.Behind.{to, after, repeated, without}
 use Rattle.quick.specs.Passed.{Passed, Some, some-after, passed-if, passed-unless, passed-optional, passed-after, passes-from, passes-wide, has-wide, has-below, reads-whole}
 use Rattle.codes.specs.Stepping.{counted}
-use Rattle.quick.specs.Ocb.{ephemerisWidth, iodeWidth, threeFit, yawFits, yawIf, orbitBehind, clockBehind, biasMask, phasesAfter, codesAfter, phasesBehind, codesBehind, biasIf, clockIf, orbitIf, blocksBehind, satelliteBehind, ocbBy, ocbOf}
+use Rattle.quick.specs.Ocb.{ephemerisWidth, lastType, iodeWidth, threeFit, yawFits, yawIf, orbitBehind, clockBehind, biasMask, phasesAfter, codesAfter, phasesBehind, codesBehind, biasIf, clockIf, orbitIf, blocksBehind, satelliteBehind, ocbBy, ocbOf}
 
 -- ---- fields that go by the constellation
 
-full-ephemeris : (c : Constellation) → Full (sf (ephemerisSf c))
+ranged-ephemeris : (c : Constellation) → Ranged (sf (ephemerisSf c))
 unfolding sf lineOf find table
-full-ephemeris Gps = full refl
-full-ephemeris Glonass = full refl
-full-ephemeris Galileo = full refl
-full-ephemeris BeiDou = full refl
-full-ephemeris Qzss = full refl
+ranged-ephemeris Gps = ranged refl
+ranged-ephemeris Glonass = ranged refl
+ranged-ephemeris Galileo = ranged refl
+ranged-ephemeris BeiDou = ranged refl
+ranged-ephemeris Qzss = ranged refl
 
 width-ephemeris : (c : Constellation) → sf (ephemerisSf c) .width ≡ ephemerisWidth c
 unfolding sf lineOf find table
@@ -47,6 +48,14 @@ width-ephemeris Glonass = refl
 width-ephemeris Galileo = refl
 width-ephemeris BeiDou = refl
 width-ephemeris Qzss = refl
+
+most-ephemeris : (c : Constellation) → sf (ephemerisSf c) .most ≡ lastType c
+unfolding sf lineOf find table
+most-ephemeris Gps = refl
+most-ephemeris Glonass = refl
+most-ephemeris Galileo = refl
+most-ephemeris BeiDou = refl
+most-ephemeris Qzss = refl
 
 full-iode : (c : Constellation) → Full (sf (iodeSf c))
 unfolding sf lineOf find table
@@ -416,6 +425,12 @@ module _ {A : Type 0} (payload : List ℕ) where
 -- ---- the whole message
 
 module _ (payload : List ℕ) (c : Constellation) where
+  has-ephemeris : (end : ℕ) → got payload 13 (ephemerisWidth c) ≤ lastType c → Has payload (sf (ephemerisSf c)) 13 end (got payload 13 (ephemerisWidth c))
+  has-ephemeris end t =
+      let f : Field = sf (ephemerisSf c) in
+      let fits : got payload 13 (f .width) ≤ f .most = omega (arith, ap (got payload 13) (width-ephemeris c), most-ephemeris c) in
+      subst (λ x. Has payload f 13 end (got payload 13 x)) (width-ephemeris c) (has-up-to 13 end (ranged-ephemeris c) (λ h. fits))
+
   has-mask : (size pos end : ℕ) → (got payload pos (maskSize c size) ≡ 0 → ⊥)
       → Has payload (maskField (maskSf c) (maskSize c size)) pos end (got payload pos (maskSize c size))
   has-mask size pos end n =
@@ -451,11 +466,12 @@ abbrev ocbBehind : Constellation → (payload : List ℕ) (pos width : ℕ) → 
 ocbBehind c payload pos width = repeated (satelliteBehind c (got payload 11 1) payload) (ones (got payload pos width)) (pos + width) 8
 
 module _ {A : Type 0} (payload : List ℕ) (c : Constellation) where
-  ocb-passed : (got payload (13 + ephemerisWidth c + 2) (maskSize c (got payload (13 + ephemerisWidth c) 2)) ≡ 0 → ⊥)
+  ocb-passed : got payload 13 (ephemerisWidth c) ≤ lastType c
+      → (got payload (13 + ephemerisWidth c + 2) (maskSize c (got payload (13 + ephemerisWidth c) 2)) ≡ 0 → ⊥)
       → Some (ocbBehind c payload (13 + ephemerisWidth c + 2) (maskSize c (got payload (13 + ephemerisWidth c) 2)))
       → Passed {A = A} payload (ocb.ocb c) 0 0 (ocbBehind c payload (13 + ephemerisWidth c + 2) (maskSize c (got payload (13 + ephemerisWidth c) 2)))
   unfolding sf lineOf find table
-  ocb-passed n s =
+  ocb-passed t n s =
       let pos : ℕ = 13 + ephemerisWidth c in
       let size : ℕ = got payload pos 2 in
       let mask : ℕ = got payload (pos + 2) (maskSize c size) in
@@ -469,7 +485,7 @@ module _ {A : Type 0} (payload : List ℕ) (c : Constellation) where
             (passes-field _ (has-full (full refl) 10 _)
             (passes-field _ (has-full (full refl) 11 _)
             (passes-field _ (has-full (full refl) 12 _)
-            (passes-wide (ephemerisWidth c) (width-ephemeris c) _ (has-wide (ephemerisWidth c) (width-ephemeris c) (full-ephemeris c) 13 _)
+            (passes-wide (ephemerisWidth c) (width-ephemeris c) _ (has-ephemeris payload c _ t)
             (passes-wide 2 (mask-size-width c) size (has-wide 2 (mask-size-width c) (full-mask-size c) pos _)
             (passes-field mask (has-mask payload c size (pos + 2) _ n)
             (passes-with (λ satellites. record {
@@ -487,8 +503,9 @@ unfolding ocbOf ocbBy
 ocb-reads c payload bits entries e =
     let pos : ℕ = 13 + ephemerisWidth c in
     let width : ℕ = maskSize c (got payload pos 2) in
-    let t = unless (eqb (got payload (pos + 2) width) 0) _ bits entries e in
+    let f = unless (ltb (lastType c) (got payload 13 (ephemerisWidth c))) _ bits entries e in
+    let t = unless (eqb (got payload (pos + 2) width) 0) _ bits entries (f .1) in
     let w = reads-whole payload (ocbBehind c payload (pos + 2) width) bits entries (t .1) in
-    let p = ocb-passed {A = Message} payload c (eqb-false (got payload (pos + 2) width) 0 (t .0)) (w .some) in
+    let p = ocb-passed {A = Message} payload c (ltb-false (lastType c) (got payload 13 (ephemerisWidth c)) (f .0)) (eqb-false (got payload (pos + 2) width) 0 (t .0)) (w .some) in
     passes-whole (p .passes) (w .there) (ocbMessage c)
     ∙ ap₂ (λ (x y : ℕ). finished x y []) (omega (arith, p .count, w .entry)) (w .bit)

@@ -3,7 +3,7 @@ ghost use mathlib.Core.Path.{_≡_};
 ghost use Prim.Native.Nat.{_+_, _^_, _≤_, _<_};
 ghost use Rattle.codes.specs.Tables.{maskSize, biasSize};
 ghost use Rattle.quick.specs.Behind.{without, repeated};
-ghost use Rattle.quick.specs.Ocb.{threeFit, yawFits, yawIf, orbitBehind, orbitIf, clockBehind, clockIf, biasMask, phasesBehind, codesBehind, biasIf, blocksBehind, satelliteBehind, ocbOf};
+ghost use Rattle.quick.specs.Ocb.{lastType, threeFit, yawFits, yawIf, orbitBehind, orbitIf, clockBehind, clockIf, biasMask, phasesBehind, codesBehind, biasIf, blocksBehind, satelliteBehind, ocbOf};
 use crate::Quick;
 use crate::behind::Behind;
 use crate::behind::nowhere;
@@ -14,6 +14,20 @@ use codes::Constellation;
 use codes::satellites::set_bits;
 use codes::tables::bias_size;
 use codes::tables::mask_size;
+
+// The highest code of SF016, SF017, SF096, SF097 or SF098 that has a meaning. A number here, proved to be the table's (`most-ephemeris`): if the machine of
+// crate ocb were asked for the field, it would be called from two places, and the compiler would no longer inline it into the loop that walks a message.
+fn last_type(constellation: Constellation) -> u64
+    ensures { λ r. ⌜ r ≡ lastType constellation ⌝ }
+{
+    match constellation {
+        Constellation::Gps => 0,
+        Constellation::Glonass => 0,
+        Constellation::Galileo => 2,
+        Constellation::BeiDou => 5,
+        Constellation::Qzss => 2,
+    }
+}
 
 // SF020 three times: none is all ones.
 fn three_fit(three: u64) -> bool
@@ -313,7 +327,12 @@ fn mask_width(constellation: Constellation, size: u64) -> u32
 pub fn judge(constellation: Constellation, payload: &[u8]) -> Quick
     ensures { λ r. ⌜ r ≡ ocbOf constellation (now (payload .entry)) ⌝ }
 {
-    let start = 13 + ephemeris_width(constellation) as usize;
+    let wide = ephemeris_width(constellation);
+    let ephemeris = bits::get(payload, 13, wide);
+    if last_type(constellation) < ephemeris {
+        return Quick::Unknown;
+    }
+    let start = 13 + wide as usize;
     let width = mask_width(constellation, bits::get(payload, start, 2));
     let mask = bits::get(payload, start + 2, width);
     if mask == 0 {
