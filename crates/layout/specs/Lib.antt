@@ -12,3 +12,4 @@ pub mod Tests
 pub mod Determined
 pub mod Places
 pub mod Placed
+pub mod Alike

@@ -11,3 +11,4 @@ pub mod Laws
 pub mod Theorems
 pub mod Acceptance
 pub mod Places
+pub mod Ephemeris

@@ -21,3 +21,4 @@ pub mod AlongHpac
 pub mod SatellitePlaces
 pub mod Examples
 pub mod Determined
+pub mod Ephemeris
