@@ -6,6 +6,7 @@ use crate::judge::{hex, Input, Judge};
 use crate::lent;
 use crate::marks;
 use crate::tables::{self, LentTable, Past, Table};
+use crate::types;
 use homralgyu::raw;
 use second::answer::{number, with_place, Refusal};
 use second::book::{self, Book, Numbers, BOOK_BYTES};
@@ -142,6 +143,9 @@ pub fn take(
         judge.mark("no place: SHORT of the frame itself");
     }
     marks::frame_given(judge, frame);
+    if number(&result) == Refusal::NotOurs.number() {
+        types::framed(judge, "desk_take: NOT_OURS, a TBD type", frame);
+    }
     table.past = marks::second_given(judge, &old, frame, second, number(&result));
     if let Ok(taken) = result {
         table.put(&taken.desk);

@@ -2,6 +2,7 @@
 
 use crate::judge::{hex, Input, Judge};
 use crate::lent;
+use crate::types;
 use homralgyu::{raw, Parts};
 use second::answer::number;
 use second::frame::LONGEST_FRAME;
@@ -73,6 +74,7 @@ pub fn check(rng: &mut Rng, judge: &mut Judge) {
         judge.number(&input, answer, number(&checked));
         if let Ok(frame) = &checked {
             theirs[..15].copy_from_slice(&header_of(frame));
+            types::framed(judge, "frame_check: a TBD type", &bytes);
         }
     }
     judge.lent(&input, "the header", &ours, &theirs);
@@ -119,6 +121,7 @@ pub fn write(rng: &mut Rng, judge: &mut Judge) {
         judge.number(&input, answer, number(&written));
         if let Ok(length) = written {
             size[0] = length as u64;
+            types::framed(judge, "frame_write: a TBD type", &out);
         }
     }
     judge.lent(&input, "the bytes written", &our_out, &out);

@@ -16,6 +16,7 @@ mod places;
 mod prepares;
 mod streams;
 mod tables;
+mod types;
 mod views;
 
 use judge::Judge;
@@ -24,12 +25,13 @@ use second::generate::Rng;
 type Case = fn(&mut Rng, &mut Judge);
 
 /// What is tried, and its share of the turns.
-const CASES: [(u64, Case); 29] = [
+const CASES: [(u64, Case); 30] = [
     (18, frames::check),
     (8, frames::write),
     (20, payloads::read),
     (16, payloads::write),
     (8, payloads::faults),
+    (1, types::every),
     (6, meanings::value),
     (2, meanings::orbit),
     (12, views::satellite),
@@ -126,7 +128,8 @@ fn main() {
         judge.calls
     );
     judge.tell();
-    let all = marks::all().into_iter().map(String::from).chain(places::all()).collect::<Vec<_>>();
+    let mut all = marks::all().into_iter().map(String::from).collect::<Vec<_>>();
+    all.extend(places::all().into_iter().chain(types::all()));
     let missed = judge.missed(&CAN, &places::must(), &all);
     if count >= 100_000 && !missed.is_empty() {
         println!("compare: never met: {}", missed.join(", "));

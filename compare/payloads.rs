@@ -40,15 +40,18 @@ pub fn read(rng: &mut Rng, judge: &mut Judge) {
     read_one(rng, judge, told, &payload, places, &counts, None);
 }
 
+/// What has to be said of an input, where it is known: that it is accepted, or refused so.
+pub type Known = Option<Result<(), Refused>>;
+
 /// One payload, judged and read into a sheet of so many places. If it is known what has to be said of it, both say that.
-fn read_one(
+pub fn read_one(
     rng: &mut Rng,
     judge: &mut Judge,
     (kind, subtype): (u64, u64),
     payload: &[u8],
     places: usize,
     counts: &[u64],
-    must: Option<Refused>,
+    must: Known,
 ) {
     let entries = vec![rng.draw(); places];
     let said = || {
@@ -72,7 +75,7 @@ fn read_one(
         Err(refused) => places::read(judge, &input, (kind, subtype), payload, refused),
     }
     judge.lent(&input, "the counts", &our_counts, &after);
-    must_be(judge, &input, opened.err(), must);
+    must_be(judge, &input, opened.map(|_| ()), must);
 
     let input = Input { call: "payload_read", said: &said };
     let (mut our_sheet, mut our_counts) = (lent::numbers(&entries), lent::numbers(counts));
@@ -91,7 +94,7 @@ fn read_one(
     judge.lent(&input, "the sheet", &our_sheet, &sheet_after);
     judge.lent(&input, "the counts", &our_counts, &after);
     judge.lent(&input, "the payload", &lent_payload, payload);
-    must_be(judge, &input, read.err(), must);
+    must_be(judge, &input, read.map(|_| ()), must);
 }
 
 pub fn write(rng: &mut Rng, judge: &mut Judge) {
@@ -110,14 +113,14 @@ pub fn write(rng: &mut Rng, judge: &mut Judge) {
 }
 
 /// One sheet, judged and written into so much room. If it is known what has to be said of it, both say that.
-fn write_one(
+pub fn write_one(
     rng: &mut Rng,
     judge: &mut Judge,
     (kind, subtype): (u64, u64),
     codes: &[u64],
     room: usize,
     counts: &[u64],
-    must: Option<Refused>,
+    must: Known,
 ) {
     let out = lent_bytes(rng, room);
     let said = || format!("type {kind}-{subtype}, sheet {codes:?}, room of {room}, {} counts", counts.len());
@@ -135,7 +138,7 @@ fn write_one(
         Err(refused) => places::written(judge, &input, (kind, subtype), codes, refused),
     }
     judge.lent(&input, "the counts", &our_counts, &after);
-    must_be(judge, &input, closed.err(), must);
+    must_be(judge, &input, closed.map(|_| ()), must);
 
     let input = Input { call: "sheet_write", said: &said };
     let (mut our_out, mut our_counts) = (lent::bytes(&out), lent::numbers(counts));
@@ -154,12 +157,12 @@ fn write_one(
     judge.lent(&input, "the bytes written", &our_out, &out_after);
     judge.lent(&input, "the counts", &our_counts, &after);
     judge.lent(&input, "the sheet", &lent_sheet, codes);
-    must_be(judge, &input, written.err(), must);
+    must_be(judge, &input, written.map(|_| ()), must);
 }
 
 /// Both say this, and it must be that, where it is known.
-fn must_be(judge: &Judge, input: &Input, is: Option<Refused>, must: Option<Refused>) {
-    if must.is_some() {
+pub fn must_be(judge: &Judge, input: &Input, is: Result<(), Refused>, must: Known) {
+    if let Some(must) = must {
         judge.same(input, "what both say and what it must be", &is, &must);
     }
 }
@@ -173,16 +176,16 @@ pub fn faults(rng: &mut Rng, judge: &mut Judge) {
     for _ in 0..5 {
         let sheets = [Some(cut_sheet(rng, &made)), wrong_sheet(rng, &made)];
         for (codes, fault) in sheets.into_iter().flatten() {
-            write_one(rng, judge, of, &codes, LONGEST_PAYLOAD, &counts, Some(fault.written(&made)));
+            write_one(rng, judge, of, &codes, LONGEST_PAYLOAD, &counts, Some(Err(fault.written(&made))));
         }
         let payloads = [cut_payload(rng, &made), wrong_payload(rng, &made)];
         for (payload, fault) in payloads.into_iter().flatten() {
-            read_one(rng, judge, of, &payload, SHEET_ENTRIES, &counts, Some(fault.read(&made)));
+            read_one(rng, judge, of, &payload, SHEET_ENTRIES, &counts, Some(Err(fault.read(&made))));
         }
     }
     let long = if rng.one_in(8) { long_payload(rng, of.0, of.1) } else { None };
     if let Some((made, payload, fault)) = long {
-        read_one(rng, judge, of, &payload, SHEET_ENTRIES, &counts, Some(fault.read(&made)));
+        read_one(rng, judge, of, &payload, SHEET_ENTRIES, &counts, Some(Err(fault.read(&made))));
     }
 }
 
@@ -202,5 +205,5 @@ pub fn longest(rng: &mut Rng, judge: &mut Judge) {
     };
     let must = Fault { why, entry }.written(&made);
     let counts = lent_entries(rng, 2);
-    write_one(rng, judge, (1, subtype), codes, LONGEST_PAYLOAD, &counts, Some(must));
+    write_one(rng, judge, (1, subtype), codes, LONGEST_PAYLOAD, &counts, Some(Err(must)));
 }

@@ -190,13 +190,28 @@ const FIELDS: [RangeInclusive<u16>; 4] = [5..=5, 8..=37, 39..=83, 93..=107];
 const ENDS: [RangeInclusive<u16>; 8] =
     [5..=5, 11..=15, 18..=37, 39..=67, 72..=83, 93..=95, 97..=97, 99..=107];
 
-/// Document 01, "Codes": those that do not take every code of their width.
-const NARROW: [RangeInclusive<u16>; 10] =
-    [20..=21, 29..=29, 32..=33, 40..=41, 43..=43, 45..=50, 54..=54, 57..=62, 73..=74, 80..=80];
+/// Document 01, "Codes": those that do not take every code of their width; document 02, request 6: the ephemeris types.
+const NARROW: [RangeInclusive<u16>; 12] = [
+    16..=17,
+    20..=21,
+    29..=29,
+    32..=33,
+    40..=41,
+    43..=43,
+    45..=50,
+    54..=54,
+    57..=62,
+    73..=74,
+    80..=80,
+    96..=98,
+];
+
+/// Document 02, request 6: "FIELD at the ephemeris field".
+const TYPES: [RangeInclusive<u16>; 2] = [16..=17, 96..=98];
 
 /// Which call has to have said what at which fields: the readers and the writer at all that there are, the desk and the joined
-/// call at some of a GAD and of an HPAC message, residuals too, the book at some of a GAD, the views anywhere. A GAD and a BPAC
-/// have no satellite mask.
+/// call at some of a GAD and of an HPAC message, residuals too, the book at some of a GAD, the views anywhere, that of a
+/// satellite at the ephemeris types too. A GAD and a BPAC have no satellite mask.
 pub fn must() -> Vec<Must> {
     let listed = |ranges: &[RangeInclusive<u16>]| ranges.iter().cloned().flatten().collect::<Vec<u16>>();
     let number = Refusal::number;
@@ -223,6 +238,7 @@ pub fn must() -> Vec<Must> {
     for call in ["satellite_at", "hpac_area"] {
         must.extend([short, mask_empty, field].map(|number| (call, number, Vec::new())));
     }
+    must.push(("satellite_at", field, listed(&TYPES)));
     for call in ["gad_area", "bpac_area"] {
         must.extend([short, field].map(|number| (call, number, Vec::new())));
     }

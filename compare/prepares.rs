@@ -7,6 +7,7 @@ use crate::judge::{hex, Input, Judge};
 use crate::lent;
 use crate::marks;
 use crate::tables::{self, Table};
+use crate::types;
 use homralgyu::raw;
 use second::answer::{number, Place, Refusal};
 use second::desk::LOG_BYTES;
@@ -142,6 +143,9 @@ fn step(
             header[..15].copy_from_slice(&header_of(&shown));
             let in_one = in_one(answer, place);
             judge.count_answer("prepare, of a frame", in_one);
+            if answer == Refusal::NotOurs.number() {
+                types::framed(judge, "prepare: NOT_OURS, a TBD type", &job.bytes);
+            }
             job.table.past = marks::second_given(judge, &old_table, &job.bytes, second, answer);
             let before = old_table.desk().expect("a desk that was shown a frame");
             if answer == 0 && !desk::gap(&before, second) {

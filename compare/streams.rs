@@ -3,6 +3,7 @@
 use crate::frames::header_of;
 use crate::judge::{hex, Input, Judge};
 use crate::lent;
+use crate::types;
 use homralgyu::raw;
 use second::answer::number;
 use second::frame::LONGEST_FRAME;
@@ -69,6 +70,7 @@ fn step(
                 let shown = frame::check(bytes).expect("a shown frame is accepted");
                 judge.same(&input, "the length of the frame shown", &(shown.length as u64), &length);
                 header[..15].copy_from_slice(&header_of(&shown));
+                types::framed(judge, "stream: a TBD type", bytes);
             }
             went = Some(done);
         }

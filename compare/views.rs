@@ -4,6 +4,7 @@ use crate::judge::{Input, Judge};
 use crate::lent::{self, Lent};
 use crate::marks;
 use crate::meanings::bits;
+use crate::payloads::{must_be, Known};
 use homralgyu::raw;
 use second::answer::{with_place, Refused};
 use second::generate::*;
@@ -136,10 +137,12 @@ fn satellite_told(sheet: &[u64], of: &SatelliteView) -> Told {
     (numbers, floats)
 }
 
+/// The slices that a view of a satellite wants.
+const SATELLITE_ROOMS: [usize; 2] = [14, 5];
+
 pub fn satellite(rng: &mut Rng, judge: &mut Judge) {
     let of = rng.below(5);
-    let rooms = [14, 5];
-    let lending = lending(rng, 0, of, rooms);
+    let lending = lending(rng, 0, of, SATELLITE_ROOMS);
     let subtype = some_subtype(rng, of);
     // of a sheet that is refused no place is past the last
     let accepted = views::satellites(subtype, &lending.sheet).ok();
@@ -147,16 +150,31 @@ pub fn satellite(rng: &mut Rng, judge: &mut Judge) {
     let inside = rng.below(count);
     let far = rng.pick(&[u64::MAX, (1 << 16) + inside, (1 << 32) + inside]);
     let place = rng.pick(&[inside, inside, inside, inside, inside, 0, count - 1, count, count + 1, far]);
+    let past = accepted.is_some() && place >= count;
+    satellite_one(judge, subtype, &lending, place, past, None);
+}
+
+/// The first satellite of a sheet, with room for it. It is known what has to be said of the sheet.
+pub fn first_satellite(rng: &mut Rng, judge: &mut Judge, subtype: u64, codes: &[u64], must: Known) {
+    let [numbers, values] = SATELLITE_ROOMS;
+    let view = lent_entries(rng, numbers);
+    let lending = Lending { sheet: codes.to_vec(), view, floats: vec![1.25; values] };
+    satellite_one(judge, subtype, &lending, 0, false, must);
+}
+
+/// The satellite at a place; `past` says that an accepted sheet has fewer.
+fn satellite_one(judge: &mut Judge, subtype: u64, lending: &Lending, place: u64, past: bool, must: Known) {
     let said = || format!("0-{subtype}, place {place}, {}", lending.said());
     let input = Input { call: "satellite_at", said: &said };
     let view = views::satellite(subtype, &lending.sheet, place);
     let told = view.as_ref().map(|view| satellite_told(&lending.sheet, view)).map_err(|why| *why);
-    let has_room = lending.compare(judge, &input, rooms, &told, |sheet, view, floats| {
+    let has_room = lending.compare(judge, &input, SATELLITE_ROOMS, &told, |sheet, view, floats| {
         raw::satellite_at(subtype as u8, sheet, place, view, floats)
     });
     if has_room {
-        marks::satellite_seen(judge, subtype, accepted.is_some() && place >= count, &view);
+        marks::satellite_seen(judge, subtype, past, &view);
     }
+    must_be(judge, &input, told.map(|_| ()), must);
 }
 
 // ---- areas

@@ -191,6 +191,8 @@ impl Chooser<'_> {
                 let some = self.rng.below(60);
                 self.rng.pick(&[0, 59, 63, some])
             }
+            // an ephemeris type with a meaning, each as likely as another
+            (16 | 17 | 96..=98, Takes::UpTo(last)) => self.rng.below(last + 1),
             (_, Takes::UpTo(most)) => {
                 let some = self.rng.below(most + 1);
                 self.edge(&[0, most, most - 1, most / 2], some)
@@ -308,6 +310,49 @@ impl Sheet {
     }
 }
 
+/// The sheet entry of an OCB's ephemeris type: SF005, SF010, SF069, SF008 and SF009 come before it.
+pub const TYPE_ENTRY: usize = 5;
+
+/// What lies behind the ephemeris type of an OCB.
+#[derive(Clone, Copy, PartialEq, Eq, Debug)]
+pub enum Behind {
+    /// any satellites
+    Satellites,
+    /// satellites that are all out of use
+    OutOfUse,
+    /// satellites in use, none of them with an orbit block
+    NoOrbit,
+    /// a satellite mask without a satellite, and nothing more
+    EmptyMask,
+    /// no entry: of a payload the fill of the type's last byte
+    Nothing,
+}
+
+pub const BEHIND: [Behind; 5] =
+    [Behind::Satellites, Behind::OutOfUse, Behind::NoOrbit, Behind::EmptyMask, Behind::Nothing];
+
+/// An OCB of an ephemeris type, with a meaning or TBD, and this behind it. Valid but for the type, an empty mask
+/// and an end.
+pub fn typed_sheet(rng: &mut Rng, subtype: u64, code: u64, behind: Behind) -> Sheet {
+    let c = &CONSTELLATIONS[subtype as usize];
+    let mut wanted: Wanted = vec![(c.ephemeris.0, [code].into())];
+    match behind {
+        Behind::OutOfUse => wanted.push((13, vec![1; 64].into())),
+        Behind::NoOrbit => {
+            wanted.push((13, vec![0; 64].into()));
+            wanted.push((14, (0..64).map(|_| rng.below(4)).collect()));
+        }
+        Behind::EmptyMask => wanted.push((c.mask, [rng.below(4), 0].into())),
+        Behind::Satellites | Behind::Nothing => {}
+    }
+    let mut made = sheet_with(rng, 0, subtype, wanted);
+    if behind == Behind::Nothing {
+        made.codes.truncate(TYPE_ENTRY + 1);
+        made.fields.truncate(TYPE_ENTRY + 1);
+    }
+    made
+}
+
 /// One code set to one that its field does not take, or to one that changes what follows.
 pub fn spoil(rng: &mut Rng, sheet: &mut Sheet) {
     // a sheet may be longer or shorter than its fields by now
@@ -330,13 +375,20 @@ pub fn spoil(rng: &mut Rng, sheet: &mut Sheet) {
             at = rng.pick(&narrow);
         }
     }
+    // its ephemeris type is one entry of an OCB among many
+    if sheet.type_ == 0 && count > TYPE_ENTRY && rng.one_in(6) {
+        at = TYPE_ENTRY;
+    }
     let field = sheet.fields[at];
     let top = field.top();
     let wide = if field.width < 64 { top + 1 } else { top };
     let some = rng.draw() & top;
     sheet.codes[at] = match field.takes {
         Takes::Yaw => rng.pick(&[60, 61, 62, 64, u64::MAX]),
-        Takes::UpTo(most) => rng.pick(&[most + 1, top, wide, u64::MAX]),
+        Takes::UpTo(most) => {
+            let over = rng.between(most + 1, top);
+            rng.pick(&[most + 1, top, over, over, wide, u64::MAX])
+        }
         Takes::Symmetric => rng.pick(&[top, top, wide, u64::MAX]),
         Takes::SatelliteMask => rng.pick(&[0, 0, wide, some]),
         _ => rng.pick(&[wide, u64::MAX, some, sheet.codes[at] ^ 1]),
@@ -1744,8 +1796,12 @@ fn scene_frame(rng: &mut Rng, parts: Plain, payload: Vec<u8>) -> Vec<u8> {
         2 => assemble(&Plain { subtype: (parts.subtype + 1) % 16, ..parts }, None, &payload, &[]),
         3 => {
             let (type_, subtype) = rng.pick(&TWELVE);
-            let other = sheet(rng, type_, subtype).payload();
-            assemble(&Plain { type_, subtype, ..parts }, None, &other, &[])
+            let mut other = sheet(rng, type_, subtype);
+            // a desk does not read an OCB: any ephemeris type will do
+            if type_ == 0 {
+                other.codes[TYPE_ENTRY] = rng.below(other.fields[TYPE_ENTRY].top() + 1);
+            }
+            assemble(&Plain { type_, subtype, ..parts }, None, &other.payload(), &[])
         }
         4 => assemble(&Plain { type_: rng.pick(&[4, 120]), ..parts }, None, &payload, &[]),
         5 => sealed(rng, &parts, &payload),

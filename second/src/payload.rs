@@ -1,5 +1,5 @@
-//! The layouts of the twelve payloads: document 01, "Codes" and "Payloads"; source document 000,
-//! tables 6.3 to 6.28.
+//! The layouts of the twelve payloads: document 01, "Codes" and "Payloads"; document 02, request 6; source
+//! document 000, tables 6.3 to 6.28.
 //!
 //! A layout is written once, as a walk that asks for one code after the other in reading order.
 //! Whoever answers decides which way it goes: the reader takes the codes from bits, the writer
@@ -81,8 +81,8 @@ pub trait Entries {
 
 /// What differs from constellation to constellation.
 pub struct Constellation {
-    /// SF number and width of the ephemeris type
-    pub ephemeris: (u16, u32),
+    /// SF number and width of the ephemeris type, and the last type with a meaning: those above it are TBD
+    pub ephemeris: (u16, u32, u64),
     /// SF number and width of the IODE
     pub iode: (u16, u32),
     /// SF number of the satellite mask
@@ -98,10 +98,11 @@ pub struct Constellation {
     pub bias_sizes: [u32; 2],
 }
 
-/// GPS, GLONASS, Galileo, BeiDou, QZSS, as the subtypes.
+/// GPS, GLONASS, Galileo, BeiDou, QZSS, as the subtypes. Document 02, request 6: "Refuse TBD values: GPS and
+/// GLONASS 1 to 3, Galileo and QZSS 3 to 7, BeiDou 6 to 15."
 pub const CONSTELLATIONS: [Constellation; 5] = [
     Constellation {
-        ephemeris: (16, 2),
+        ephemeris: (16, 2, 0),
         iode: (18, 8),
         mask: 11,
         mask_sizes: [32, 44, 56, 64],
@@ -111,7 +112,7 @@ pub const CONSTELLATIONS: [Constellation; 5] = [
         bias_sizes: [6, 11],
     },
     Constellation {
-        ephemeris: (17, 2),
+        ephemeris: (17, 2, 0),
         iode: (19, 7),
         mask: 12,
         mask_sizes: [24, 36, 48, 63],
@@ -121,7 +122,7 @@ pub const CONSTELLATIONS: [Constellation; 5] = [
         bias_sizes: [5, 9],
     },
     Constellation {
-        ephemeris: (96, 3),
+        ephemeris: (96, 3, 2),
         iode: (99, 10),
         mask: 93,
         mask_sizes: [36, 45, 54, 64],
@@ -131,7 +132,7 @@ pub const CONSTELLATIONS: [Constellation; 5] = [
         bias_sizes: [8, 15],
     },
     Constellation {
-        ephemeris: (97, 4),
+        ephemeris: (97, 4, 5),
         iode: (100, 8),
         mask: 94,
         mask_sizes: [37, 46, 55, 64],
@@ -141,7 +142,7 @@ pub const CONSTELLATIONS: [Constellation; 5] = [
         bias_sizes: [8, 15],
     },
     Constellation {
-        ephemeris: (98, 3),
+        ephemeris: (98, 3, 2),
         iode: (101, 8),
         mask: 95,
         mask_sizes: [10, 40, 48, 64],
@@ -424,7 +425,10 @@ fn ocb<E: Entries>(e: &mut E, c: &Constellation) -> Result<Ocb, Refused> {
     let reserved = full(e, 69, 1)?;
     let yaw_present = full(e, 8, 1)?;
     let datum = full(e, 9, 1)?;
-    let ephemeris = full(e, c.ephemeris.0, c.ephemeris.1)?;
+    // request 6: "FIELD at the ephemeris field, so after SHORT there and before any mask fault", whatever
+    // blocks its satellites have
+    let (sf, width, last) = c.ephemeris;
+    let ephemeris = entry(e, sf, width, Takes::UpTo(last))?;
     let mask = satellite_mask(e, c)?;
     let mut satellites = Vec::new();
     for position in mask.positions() {

@@ -237,6 +237,8 @@ mod tests {
         assert_eq!(read_back(0, 0, &bytes[..1]), at(Refusal::Short, 5, 0));
         // BeiDou's ephemeris type is at bits 13 to 16
         assert_eq!(read_back(0, 3, &bytes[..2]), at(Refusal::Short, 97, 13));
+        // also where no type with a meaning begins with the three bits that are there
+        assert_eq!(read_back(0, 3, &[0, 0b111]), at(Refusal::Short, 97, 13));
         // SF040 of the ionosphere at bit 19 + 8 + 7 + 2
         let mut hpac = [0; 9];
         hpac[4] = 0b00001100;
@@ -245,6 +247,94 @@ mod tests {
         // SF054 at bit 38, mask size at 41, mask at 43
         assert_eq!(read_back(1, 4, &hpac), at(Refusal::MaskEmpty, 95, 43));
         assert_eq!(read_back(1, 0, &hpac), at(Refusal::Short, 11, 43));
+    }
+
+    /// Document 02, request 6: the ephemeris types that have a meaning in document 000, the TBD ones, and the SF
+    /// number of the field.
+    const TYPES: [(u16, &[u64], &[u64]); 5] = [
+        (16, &[0], &[1, 2, 3]),
+        (17, &[0], &[1, 2, 3]),
+        (96, &[0, 1, 2], &[3, 4, 5, 6, 7]),
+        (97, &[0, 1, 2, 3, 4, 5], &[6, 7, 8, 9, 10, 11, 12, 13, 14, 15]),
+        (98, &[0, 1, 2], &[3, 4, 5, 6, 7]),
+    ];
+
+    /// UNUSED in the constellation, with a code at its ephemeris type, as its bits.
+    fn bits_of_type(subtype: u64, code: u64) -> Vec<u8> {
+        let (_, mut bytes) = written(0, subtype, &UNUSED).unwrap();
+        let width = [2, 2, 3, 4, 3][subtype as usize];
+        // the type's last bit is bit 12 + width; bits 13 to 16 lie in the second and the third byte
+        let put = (code << (24 - 13 - width)) as u32;
+        bytes[1] |= (put >> 8) as u8;
+        bytes[2] |= put as u8;
+        bytes
+    }
+
+    #[test]
+    fn types_with_a_meaning_are_taken_and_tbd_ones_are_field() {
+        for (subtype, (sf, meanings, tbd)) in (0..).zip(TYPES) {
+            for code in meanings.iter().chain(tbd).copied() {
+                let mut sheet = UNUSED;
+                sheet[5] = code;
+                let bytes = bits_of_type(subtype, code);
+                if meanings.contains(&code) {
+                    let (w, out) = written(0, subtype, &sheet).unwrap();
+                    assert_eq!(out, bytes);
+                    let read = Read { entries: 9, bits: w.bits };
+                    assert_eq!(read_back(0, subtype, &bytes), Ok((read, sheet.to_vec())));
+                } else {
+                    assert_eq!(written(0, subtype, &sheet), at(Refusal::Field, sf, 5));
+                    assert_eq!(read_back(0, subtype, &bytes), at(Refusal::Field, sf, 13));
+                }
+            }
+            // too wide for the field, however it ends
+            for code in [meanings.len() + tbd.len(), 256, 1 << 32] {
+                let mut sheet = UNUSED;
+                sheet[5] = code as u64;
+                assert_eq!(written(0, subtype, &sheet), at(Refusal::Field, sf, 5));
+            }
+        }
+    }
+
+    #[test]
+    fn a_tbd_type_is_field_after_what_is_before_it_and_before_what_is_behind_it() {
+        let masks = [11, 12, 93, 94, 95];
+        for (subtype, (sf, _, tbd)) in (0..).zip(TYPES) {
+            for &code in tbd {
+                let mut sheet = UNUSED.to_vec();
+                sheet[5] = code;
+                let here = at(Refusal::Field, sf, 5);
+                assert_eq!(written(0, subtype, &sheet[..5]), at(Refusal::Short, sf, 5));
+                assert_eq!(written(0, subtype, &sheet[..6]), here);
+                sheet[7] = 0;
+                assert_eq!(written(0, subtype, &sheet), here);
+                sheet[6] = 4;
+                assert_eq!(written(0, subtype, &sheet), here);
+                sheet.push(0);
+                assert_eq!(written(0, subtype, &sheet), here);
+                sheet[4] = 2;
+                assert_eq!(written(0, subtype, &sheet), at(Refusal::Field, 9, 4));
+                // the payload ends with the type's last byte; all of the mask is zero
+                let bytes = bits_of_type(subtype, code);
+                let last = if subtype == 3 { 3 } else { 2 };
+                assert_eq!(read_back(0, subtype, &bytes[..last]), at(Refusal::Field, sf, 13));
+                let mut empty = bytes[..last].to_vec();
+                empty.resize(1023, 0);
+                assert_eq!(read_back(0, subtype, &empty), at(Refusal::Field, sf, 13));
+                empty.push(0);
+                assert_eq!(read_back(0, subtype, &empty), plain(Refusal::Length));
+            }
+            // with a meaning it is the mask that is at fault
+            let mask = masks[subtype as usize];
+            let mut sheet = UNUSED;
+            sheet[7] = 0;
+            assert_eq!(written(0, subtype, &sheet), at(Refusal::MaskEmpty, mask, 7));
+            let bit = 13 + [2, 2, 3, 4, 3][subtype as usize];
+            assert_eq!(read_back(0, subtype, &[0; 1023]), at(Refusal::MaskEmpty, mask, bit + 2));
+            let last = if subtype == 3 { 3 } else { 2 };
+            let short = if subtype == 3 { bit + 2 } else { bit };
+            assert_eq!(read_back(0, subtype, &[0; 3][..last]), at(Refusal::Short, mask, short));
+        }
     }
 
     /// What the tables of document 000 say of one message each: SF number and bits of every entry.

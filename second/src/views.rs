@@ -377,6 +377,27 @@ mod tests {
     }
 
     #[test]
+    fn a_type_without_a_meaning_is_refused_whatever_blocks_the_satellite_has() {
+        let out_of_use = [0, 0, 0, 1, 0, 0, 0, 1, 1];
+        let no_block = [0, 0, 0, 1, 0, 0, 0, 1, 0, 0, 5];
+        let orbit = [0, 0, 0, 0, 0, 0, 0, 1, 0, 4, 0, 9, 0, 0, 0];
+        for sheet in [&out_of_use[..], &no_block, &orbit] {
+            for (subtype, (sf, last)) in (0..).zip([(16, 0), (17, 0), (96, 2), (97, 5), (98, 2)]) {
+                let mut typed = sheet.to_vec();
+                for code in 0..=last {
+                    typed[5] = code;
+                    assert_eq!(satellite(subtype, &typed, 0), satellite(subtype, sheet, 0));
+                    assert_eq!(satellite(subtype, &typed, 1), Err(OWN));
+                }
+                typed[5] = last + 1;
+                let refused = Err(Place { sf, at: 5 }.refuses(Refusal::Field));
+                assert_eq!(satellite(subtype, &typed, 0), refused);
+                assert_eq!(satellite(subtype, &typed, 1), refused);
+            }
+        }
+    }
+
+    #[test]
     fn yaw_is_absent_without_the_flag_or_an_orbit_block() {
         let no_flag = [0, 0, 0, 0, 0, 0, 0, 1, 0, 4, 0, 9, 0, 0, 0];
         let no_orbit = [0, 0, 0, 1, 0, 0, 0, 1, 0, 2, 0, 1, 8191, 0];
