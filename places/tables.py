@@ -1,17 +1,17 @@
 """The layouts of the twelve payloads as document 000's tables have them, and one rich message of each.
 
 Made from document 000 (SPARTN 2.0.2: tables 6.2 to 6.28), document 01 ("Codes" and "Payloads"), document 02
-(request 2) and how the project reads them. Nothing is taken from the crates or from the second program, so
-that `tests/places` compares two readings of the same tables. Prints the listing, whose stored copy is
-places/listing.txt.
+(requests 2 and 6) and how the project reads them. Nothing is taken from the crates or from the second
+program, so that `tests/places` compares two readings of the same tables. Prints the listing, whose stored
+copy is places/listing.txt.
 """
 import collections
 
 # Table 6.2: the bits of a field and the highest code of its range (Range over Resolution); then a special
 # value above the range, if it has one. Document 01, "Codes", decides where the table leaves a choice: SF041
-# and SF054 end at 2, ephemeris types are kept as sent, the reserved bit is one bit. The codes above the range
-# that are not special are those that the field refuses; none is refused below it, since every range begins
-# at code 0.
+# and SF054 end at 2, the reserved bit is one bit. An ephemeris type ends at the last one with a meaning:
+# document 02, request 6, refuses those that the table marks TBD. The codes above the range that are not
+# special are those that the field refuses; none is refused below it, since every range begins at code 0.
 FIELDS = {
     5: (9, 511),  # Solution issue of update (SIOU)
     8: (1, 1),  # Yaw present flag
@@ -20,8 +20,8 @@ FIELDS = {
     13: (1, 1),  # Do not use (DNU)
     14: (3, 7),  # OCB present flags
     15: (3, 7),  # Continuity indicator
-    16: (2, 3),  # GPS ephemeris type
-    17: (2, 3),  # GLO ephemeris type
+    16: (2, 0),  # GPS ephemeris type: 1 to 3 TBD
+    17: (2, 0),  # GLO ephemeris type: 1 to 3 TBD
     18: (8, 255),  # GPS IODE
     19: (7, 127),  # GLO IODE
     20: (14, 16382),  # Satellite corrections: ±16.382 m by 0.002 m
@@ -82,9 +82,9 @@ FIELDS = {
     81: (1, 1),  # VTEC size indicator
     82: (7, 126, 127),  # Small VTEC residual: ±15.75 TECU by 0.25 TECU, 0x7F invalid
     83: (11, 2046, 2047),  # Large VTEC residual: ±255.75 TECU by 0.25 TECU, 0x7FF invalid
-    96: (3, 7),  # Galileo ephemeris type
-    97: (4, 15),  # BDS ephemeris type
-    98: (3, 7),  # QZSS ephemeris type
+    96: (3, 2),  # Galileo ephemeris type: 3 to 7 TBD
+    97: (4, 5),  # BDS ephemeris type: 6 to 15 TBD
+    98: (3, 2),  # QZSS ephemeris type: 3 to 7 TBD
     99: (10, 1023),  # Galileo IODnav
     100: (8, 255),  # BDS IODE/IODC
     101: (8, 255),  # QZSS IODE
@@ -433,8 +433,8 @@ def bpac_plan():
 
 def messages():
     """The twelve, in the order of table 6.1."""
-    # GPS's message has all of the mask's 64 satellites, GLONASS's no yaw
-    chosen = ((1, 0, 3, 64), (0, 0, 3, 22), (1, 1, 0, 36), (1, 5, 1, 23), (1, 2, 2, 24))
+    # GPS's message has all of the mask's 64 satellites, GLONASS's no yaw; each has the last type with a meaning
+    chosen = ((1, 0, 3, 64), (0, 0, 3, 22), (1, 2, 0, 36), (1, 5, 1, 23), (1, 2, 2, 24))
     for subtype, c in enumerate(CONSTELLATIONS):
         yield Message(0, subtype, c.name + " OCB", ocb, ocb_plan(c, *chosen[subtype]))
     # 127 nodes and a message of 1,023 bytes without fill; then all satellites of masks of 63, 64 and 10 bits
