@@ -9,7 +9,8 @@
  * alone. So 0 is OK. Do not compare such an answer with another number, nor keep it in an int: ask homralgyu_number(answer) == 8 for FIELD.
  * Bit b of a payload is payload[b / 8] & (0x80 >> b % 8), and in a frame the payload begins at byte header[HOMRALGYU_PAYLOAD_AT]; of SHORT, b may
  * be 8 * payload_len, where no bit lies. SHORT names the field that no longer fits, which need not be the wrong one: the cause may be a count, a
- * size or a mask before it. FIELD names the first code that cannot be.
+ * size or a mask before it. FIELD names the first code that cannot be. Ephemeris types that document 000 marks TBD are such codes: GPS and
+ * GLONASS 1 to 3, Galileo and QZSS 3 to 7, BeiDou 6 to 15; bit 13 of the payload, entry 5 of the sheet, whatever comes behind it.
  *
  * A slice is lent as a pointer and a count of its elements. What a caller in C must keep, since no call can test it:
  *   - the pointer is not null, even for 0 elements, and is aligned for its elements;

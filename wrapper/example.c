@@ -392,13 +392,17 @@ static void look(void)
            floats[HOMRALGYU_SATELLITE_YAW_ANGLE]);
 }
 
-/* Where a sheet is at fault: SF040, at the entry 6, is 0 to 2. */
+/* Where a sheet is at fault: SF040, at the entry 6, is 0 to 2; GPS has one ephemeris type, 0, and document 000 marks the others TBD. */
 static void look_wrong(void)
 {
     const uint64_t hpac[] = {0, 3, 0, 0, 5, 9, 3, 0};
-    uint64_t area[5];
+    const uint64_t ocb[] = {0, 0, 0, 0, 0, 2, 0, (uint64_t)1 << 31, 1};
+    uint64_t area[5], counts[2];
     uint64_t answer = homralgyu_hpac_area(GPS, 5, hpac, sizeof hpac / sizeof *hpac, area, 5);
     printf("SF040 of 3: ");
+    tell_answer(homralgyu_number(answer), homralgyu_sf(answer), "entry", homralgyu_place(answer));
+    answer = homralgyu_sheet_judge(0, GPS, ocb, sizeof ocb / sizeof *ocb, counts, 2);
+    printf("ephemeris type 2: ");
     tell_answer(homralgyu_number(answer), homralgyu_sf(answer), "entry", homralgyu_place(answer));
 }
 

@@ -207,6 +207,12 @@ fn look() -> Result<(), Fault> {
     let gad = [0, 3, 0, 0, 5, 900, 0, 1, 0, 0, 0];
     println!("{:?}", homralgyu::satellite_at(0, &ocb, 0)?);
     println!("at place 1: {:?}", homralgyu::satellite_at(0, &ocb, 1));
+    // GPS has one ephemeris type, 0; document 000 marks the others TBD
+    let mut tbd = ocb;
+    tbd[5] = 2;
+    if let Err(fault) = homralgyu::satellite_at(0, &tbd, 0) {
+        println!("ephemeris type 2: {fault}");
+    }
     println!("area 5: {:?}", homralgyu::gad_area(5, &gad)?);
     println!("area 6: {:?}", homralgyu::gad_area(6, &gad)?);
     Ok(())

@@ -854,7 +854,8 @@ impl fmt::Display for Place {
 ///
 /// By `?` a `Refusal` becomes a `Fault`; the other way, which loses the place, has to be asked for: `fault.refusal`.
 /// SHORT names the field that no longer fits, which need not be the wrong one: the cause may be a count, a size or a mask
-/// before it. FIELD names the first code that cannot be.
+/// before it. FIELD names the first code that cannot be. Ephemeris types that document 000 marks TBD are such codes: GPS
+/// and GLONASS 1 to 3, Galileo and QZSS 3 to 7, BeiDou 6 to 15.
 #[derive(Clone, Copy, PartialEq, Eq, Debug)]
 pub struct Fault {
     pub refusal: Refusal,
