@@ -35,10 +35,10 @@ pub fn steps<W: Walk>(w: &mut W, sf: u32, width: u32) -> Walked<u64> {
 }
 
 /// What goes by the constellation: the satellite mask, the ephemeris type and its issue, the bias
-/// masks; each with its SF number, then its widths.
+/// masks; each with its SF number, then its widths; the type also with its highest code.
 pub struct Constellation {
     mask: (u32, [u32; 4]),
-    ephemeris: (u32, u32),
+    ephemeris: (u32, u32, u64),
     iode: (u32, u32),
     phases: u32,
     codes: u32,
@@ -47,15 +47,15 @@ pub struct Constellation {
 
 #[rustfmt::skip]
 pub static CONSTELLATIONS: [Constellation; 5] = [
-    Constellation { mask: (11, [32, 44, 56, 64]), ephemeris: (16, 2), iode: (18, 8),
+    Constellation { mask: (11, [32, 44, 56, 64]), ephemeris: (16, 2, 0), iode: (18, 8),
         phases: 25, codes: 27, biases: [6, 11] },
-    Constellation { mask: (12, [24, 36, 48, 63]), ephemeris: (17, 2), iode: (19, 7),
+    Constellation { mask: (12, [24, 36, 48, 63]), ephemeris: (17, 2, 0), iode: (19, 7),
         phases: 26, codes: 28, biases: [5, 9] },
-    Constellation { mask: (93, [36, 45, 54, 64]), ephemeris: (96, 3), iode: (99, 10),
+    Constellation { mask: (93, [36, 45, 54, 64]), ephemeris: (96, 3, 2), iode: (99, 10),
         phases: 102, codes: 105, biases: [8, 15] },
-    Constellation { mask: (94, [37, 46, 55, 64]), ephemeris: (97, 4), iode: (100, 8),
+    Constellation { mask: (94, [37, 46, 55, 64]), ephemeris: (97, 4, 5), iode: (100, 8),
         phases: 103, codes: 106, biases: [8, 15] },
-    Constellation { mask: (95, [10, 40, 48, 64]), ephemeris: (98, 3), iode: (101, 8),
+    Constellation { mask: (95, [10, 40, 48, 64]), ephemeris: (98, 3, 2), iode: (101, 8),
         phases: 104, codes: 107, biases: [6, 11] },
 ];
 
@@ -201,7 +201,8 @@ fn ocb<W: Walk>(w: &mut W, c: &Constellation) -> Walked<()> {
     full(w, 69, 1)?;
     let yaw = full(w, 8, 1)? == 1;
     full(w, 9, 1)?;
-    full(w, c.ephemeris.0, c.ephemeris.1)?;
+    let (sf, width, most) = c.ephemeris;
+    w.code(sf, width, most)?;
     for _ in 0..mask(w, c)?.count_ones() {
         if full(w, 13, 1)? == 0 {
             blocks(w, c, yaw)?;
