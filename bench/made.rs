@@ -1,5 +1,4 @@
 //! The inputs, from a seeded generator: payloads of random codes, frames around them, streams.
-use crate::book::MOST_BLOCKS;
 use crate::crc;
 use crate::frame::{self, Parts};
 use crate::payload::{payload_judge, sheet_write};
@@ -144,21 +143,6 @@ pub fn hpac(random: &mut Random, of: Issue, areas: &[Area]) -> Vec<u8> {
 pub fn framed(message_type: u8, kind: usize, tag: u16, payload: &[u8]) -> Vec<u8> {
     let parts = Parts { message_type, subtype: 0, kind, tag, solution: 5, processor: 11 };
     frame::write(parts, payload)
-}
-
-/// Frames of GADs that together have these areas, in this order, as few as can be.
-pub fn gads(random: &mut Random, of: Issue, ids: &[u64]) -> Vec<Vec<u8>> {
-    ids.chunks(MOST_BLOCKS).map(|part| framed(2, 2, 0, &gad(random, of, part, 4, 4))).collect()
-}
-
-/// So many of these IDs, evenly spread over them.
-pub fn spread(ids: &[u64], count: usize) -> Vec<u64> {
-    (0..count).map(|i| ids[i * ids.len() / count]).collect()
-}
-
-/// Every ID that an area can have: a book of so many is a full one.
-pub fn all_ids() -> Vec<u64> {
-    (0..=255).collect()
 }
 
 pub fn ids() -> Vec<u64> {

@@ -4,7 +4,7 @@ use crate::race::Tables;
 use crate::sides::{Ours, Residual, Rust, Side};
 use std::hint::black_box;
 
-pub fn put(bytes: &mut Vec<u8>, mut x: u64) {
+fn put(bytes: &mut Vec<u8>, mut x: u64) {
     while x >= 128 {
         bytes.push(128 + (x % 128) as u8);
         x /= 128;
@@ -70,7 +70,6 @@ fn timed_residual<S: Side>(bytes: &[u8]) {
 pub fn entries(tables: &Tables) {
     let entries = [
         ("run opened", vec![1, 0xbf, 0xd1, 2, 4, 2]),
-        ("run opened, 256 areas", vec![1, 0xbf, 0xd1, 2, 4, 0x80, 2]),
         ("left out", vec![3, 5, 5]),
         ("2 x 2 nodes, 8 satellites", entry(2, 2, 8, 1)),
         ("4 x 5 nodes, 12 satellites", entry(4, 5, 12, 2)),
@@ -87,7 +86,7 @@ pub fn entries(tables: &Tables) {
             }],
         );
     }
-    for (name, bytes) in &entries[4..] {
+    for (name, bytes) in &entries[3..] {
         tables.race(
             &format!("residual: {name}"),
             1.0,

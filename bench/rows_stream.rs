@@ -119,7 +119,7 @@ fn agree_prepared(stream: &[u8], portion: usize) {
     assert!(ours == careful, "prepare: the careful side differs");
     for (i, (ours, hurried)) in ours.iter().zip(prepared::<Rust<true>>(stream, portion)).enumerate()
     {
-        if [1, 7, 8, 11, 13, 14].contains(&ours.0 .2[3]) {
+        if [1, 7, 8, 11, 13, 14, 15].contains(&ours.0 .2[3]) {
             break;
         }
         assert!(ours.0 == hurried.0, "prepare: the hurried side differs at event {i}");

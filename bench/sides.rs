@@ -1,6 +1,5 @@
 //! The three sides of a race behind one face: the calls that ship, the careful Rust and the hurried
 //! Rust (`Rust<true>`), each on the same lent slices.
-use crate::book::BOOK;
 use crate::desk::Lent;
 use crate::homralgyu::raw;
 use crate::prepare::Held;
@@ -16,7 +15,6 @@ pub trait Side {
     fn payload_read(kind: u8, subtype: u8, payload: &[u8], out: &mut Sheet) -> u64;
     fn sheet_judge(kind: u8, subtype: u8, sheet: &[u64], counts: &mut [u64]) -> u64;
     fn sheet_write(kind: u8, subtype: u8, sheet: &[u64], out: &mut Written) -> u64;
-    fn desk_is_sound(d: &Desk) -> u8;
     fn desk_take(d: &mut Desk, frame: &[u8], second: u64) -> u64;
     fn prepare_call(t: &mut Tray, d: &mut Desk, input: &[u8], second: u64) -> u8;
     fn prepare_finish(t: &mut Tray, d: &mut Desk, second: u64) -> u8;
@@ -54,9 +52,9 @@ pub struct Written {
 #[derive(Clone, PartialEq)]
 pub struct Desk {
     pub desk: [u64; desk::DESK],
-    pub live: [u8; BOOK],
-    pub run: [u8; BOOK],
-    pub log: [u8; desk::LOG],
+    pub live: [u8; 192],
+    pub run: [u8; 192],
+    pub log: [u8; 4096],
     pub written: [u64; 1],
 }
 
@@ -65,7 +63,7 @@ impl Desk {
     pub fn new() -> Desk {
         let mut desk = [0; desk::DESK];
         (desk[0], desk[1]) = (5, 11);
-        Desk { desk, live: [0; BOOK], run: [0; BOOK], log: [0; desk::LOG], written: [0] }
+        Desk { desk, live: [0; 192], run: [0; 192], log: [0; 4096], written: [0] }
     }
 
     fn lent(&mut self) -> (Lent<'_>, &mut [u64]) {
@@ -111,10 +109,6 @@ impl Side for Ours {
 
     fn sheet_write(kind: u8, subtype: u8, sheet: &[u64], out: &mut Written) -> u64 {
         raw::sheet_write(kind, subtype, sheet, &mut out.out, &mut out.counts)
-    }
-
-    fn desk_is_sound(d: &Desk) -> u8 {
-        raw::desk_is_sound(&d.desk, &d.live, &d.run)
     }
 
     fn desk_take(d: &mut Desk, frame: &[u8], second: u64) -> u64 {
@@ -180,10 +174,6 @@ impl<const HURRIED: bool> Side for Rust<HURRIED> {
 
     fn sheet_write(kind: u8, subtype: u8, sheet: &[u64], out: &mut Written) -> u64 {
         payload::sheet_write::<HURRIED>(kind, subtype, sheet, &mut out.out, &mut out.counts)
-    }
-
-    fn desk_is_sound(d: &Desk) -> u8 {
-        desk::desk_is_sound(&d.desk, &d.live, &d.run)
     }
 
     fn desk_take(d: &mut Desk, frame: &[u8], second: u64) -> u64 {

@@ -5,13 +5,13 @@ use crate::entries::{open, wide};
 use crate::judge::{hex, Input, Judge};
 use crate::lent;
 use crate::marks;
-use crate::tables::{short, BOOK_BEFORE};
 use homralgyu::raw;
 use second::answer::{number, with_place, Refusal};
 use second::book::{self, Book, Numbers, BOOK_BYTES, PLACES, TOP_AIOU, TOP_SIOU};
 use second::generate::*;
 use second::groups::groups;
-use second::kept::{self, FORM_1, FORM_2, KEPT_BYTES};
+use second::kept;
+use second::kept::KEPT_BYTES;
 use second::views::AreaId;
 
 /// A book that three numbers can say: with areas it has an AIOU, without any it has none and no
@@ -33,8 +33,9 @@ fn as_numbers(rng: &mut Rng, made: &Book) -> (Book, Numbers) {
 
 pub fn some_book(rng: &mut Rng) -> (Book, Numbers, Vec<u8>) {
     let (made, mut bytes) = if rng.one_in(4) { unsound_book(rng) } else { book(rng) };
-    if rng.one_in(12) {
-        bytes.truncate(short(rng));
+    if rng.one_in(20) {
+        let size = buffer_size(rng, BOOK_BYTES);
+        bytes.resize(size, 0);
     }
     let (made, numbers) = as_numbers(rng, &made);
     (made, numbers, bytes)
@@ -53,21 +54,17 @@ pub fn lent_numbers(rng: &mut Rng, numbers: &Numbers, places: usize) -> Vec<u64>
 }
 
 /// A payload that is taken as a GAD: of the book's AIOU and SIOU mostly, of one of them, of
-/// neither; of areas that the book has, of others, of any, in any order.
+/// neither.
 fn some_gad(rng: &mut Rng, held: &Book, bytes: &[u8]) -> Vec<u8> {
     let aiou = if rng.one_in(3) { rng.below(16) } else { held.aiou.unwrap_or(3).min(15) };
     let own = held.siou.unwrap_or(3).min(TOP_SIOU);
     let siou = if rng.one_in(4) { other_siou(rng, own) } else { own };
-    let known = book::areas(held, bytes).unwrap_or_default();
-    let count = small_count(rng) as usize;
-    let mut blocks = match rng.below(4) {
-        0 => areas_of(rng, count as u64),
-        1 => same_areas(rng, &known, count),
-        _ => new_areas(rng, &known, count),
-    };
-    for area in known {
-        if blocks.len() < MOST_BLOCKS && rng.one_in(6) {
-            blocks.push(area);
+    let mut blocks = areas(rng);
+    if let Some(known) = book::areas(held, bytes) {
+        for area in known {
+            if rng.one_in(6) {
+                blocks.push(area);
+            }
         }
     }
     if rng.one_in(6) {
@@ -80,7 +77,7 @@ fn some_gad(rng: &mut Rng, held: &Book, bytes: &[u8]) -> Vec<u8> {
             blocks.push(twice);
         }
     }
-    blocks.truncate(MOST_BLOCKS);
+    blocks.truncate(32);
     if blocks.is_empty() {
         let id = rng.below(256);
         blocks.push(area(rng, id));
@@ -109,7 +106,6 @@ fn take_step(
     } else {
         let taken = book::take_payload(held, bytes, payload);
         judge.answer(&input, answer, with_place(&taken));
-        marks::lent_short(judge, "book_take", "bytes", bytes.len());
         marks::gad_given(judge, held, &old_bytes, payload, number(&taken));
         if let Ok(now) = taken {
             *held = now;
@@ -135,88 +131,29 @@ pub fn history(rng: &mut Rng, judge: &mut Judge) {
     }
 }
 
-/// A book that grows from nothing to 256 areas, and what a GAD then is to it: repeats change nothing, other definitions
-/// conflict. Now and then it is kept and read again.
-pub fn grows(rng: &mut Rng, judge: &mut Judge) {
-    let surplus = rng.pick(&[0, 0, 1, 7]);
-    let mut bytes = lent_bytes(rng, BOOK_BYTES + surplus);
-    let (mut held, mut numbers) = (Book::default(), [0; PLACES]);
-    let (aiou, siou, most) = (rng.below(16), siou(rng), rng.pick(&[5, 32, 32, 32]));
-    let mut steps_left = rng.between(0, 6);
-    while held.count < 256 || steps_left > 0 {
-        let known = book::areas(&held, &bytes).expect("a sound book");
-        let count = rng.between(1, most) as usize;
-        let many = rng.pick(&[count, most as usize]);
-        let mut blocks = new_areas(rng, &known, many);
-        if held.count == 256 || !known.is_empty() && rng.one_in(5) {
-            blocks.extend(same_areas(rng, &known, count));
-            rng.shuffle(&mut blocks);
-            blocks.truncate(MOST_BLOCKS);
-        }
-        if rng.one_in(if held.count == 256 { 2 } else { 12 }) {
-            // the same ID, another definition: of this message, or of the book
-            let mut other = rng.pick(&blocks);
-            other.longitude_spacing ^= rng.between(1, 31);
-            let at = rng.below(blocks.len() as u64) as usize;
-            blocks[at] = other;
-        }
-        if rng.one_in(12) {
-            let id = rng.below(256);
-            blocks[0] = area_off(rng, id);
-        }
-        let payload = gad_sheet(rng, aiou, siou, &blocks).payload();
-        take_step(rng, judge, &mut held, &mut numbers, &mut bytes, &payload, PLACES);
-        if rng.one_in(6) {
-            find_one(rng, judge, (&held, &numbers, &bytes), PLACES);
-        }
-        if rng.one_in(12) {
-            keep_one(rng, judge, (&held, &numbers, &bytes), [KEPT_BYTES, PLACES, 1]);
-        }
-        steps_left -= u64::from(held.count == 256 && steps_left > 0);
-    }
-    keep_one(rng, judge, (&held, &numbers, &bytes), [KEPT_BYTES, PLACES, 1]);
-}
-
 pub fn keep(rng: &mut Rng, judge: &mut Judge) {
     let (held, numbers, bytes) = some_book(rng);
-    let any = buffer_size(rng, KEPT_BYTES);
-    // short by one, and the rooms before request 7
-    let room = rng.pick(&[any, any, any, any, any, any, any, any, KEPT_BYTES - 1, 229, 228]);
+    let room = buffer_size(rng, KEPT_BYTES);
+    let out = lent_bytes(rng, room);
     let places = places(rng);
     let counts = rng.pick(&[0, 1, 1, 1, 1, 1, 1, 1, 2]);
-    keep_one(rng, judge, (&held, &numbers, &bytes), [room, places, counts]);
-}
-
-/// A book kept in so much room, its numbers lent in so many places, and so many for the bytes written.
-fn keep_one(
-    rng: &mut Rng,
-    judge: &mut Judge,
-    (held, numbers, bytes): (&Book, &Numbers, &[u8]),
-    [room, places, counts]: [usize; 3],
-) {
-    let out = lent_bytes(rng, room);
     let written = lent_entries(rng, counts);
     let said =
-        || format!("book {numbers:?} in {places} places, bytes {}, room of {room} and {counts}", hex(bytes));
+        || format!("book {numbers:?} in {places} places, bytes {}, room of {room} and {counts}", hex(&bytes));
     let input = Input { call: "kept_write", said: &said };
-    let state = lent_numbers(rng, numbers, places);
-    let (our_book, our_bytes) = (lent::numbers(&state), lent::bytes(bytes));
+    let state = lent_numbers(rng, &numbers, places);
+    let (our_book, our_bytes) = (lent::numbers(&state), lent::bytes(&bytes));
     let (mut our_out, mut our_written) = (lent::bytes(&out), lent::numbers(&written));
     let answer = raw::kept_write(our_book.now(), our_bytes.now(), our_out.part(), our_written.part());
     let (mut out, mut written) = (out, written);
     if places < PLACES || counts < 1 {
         judge.number(&input, answer, 9);
     } else {
-        let result = kept::write(held, bytes, &mut out);
+        let result = kept::write(&held, &bytes, &mut out);
         judge.number(&input, answer, number(&result));
-        marks::book_kept(judge, held, bytes, &result);
-        if room >= KEPT_BYTES {
-            marks::lent_short(judge, "kept_write", "bytes", bytes.len());
-        }
-        if bytes.len() >= BOOK_BYTES && room == KEPT_BYTES - 1 {
-            judge.mark("kept: ROOM of 1,797 bytes");
-        } else if bytes.len() >= BOOK_BYTES && room == 229 {
-            judge.mark("kept: ROOM of 229 bytes");
+        marks::book_kept(judge, &held, &bytes, &result);
+        if result == Err(Refusal::Room) && room == KEPT_BYTES - 1 && bytes.len() >= BOOK_BYTES {
+            judge.mark("kept: ROOM of 228 bytes");
         }
         if result.is_ok() && numbers[0] > TOP_AIOU && numbers[1] > TOP_SIOU + 1 {
             judge.mark("book: count 0, and AIOU and SIOU out of range");
@@ -227,14 +164,14 @@ fn keep_one(
     }
     judge.lent(&input, "the kept book", &our_out, &out);
     judge.lent(&input, "the bytes written", &our_written, &written);
-    judge.lent(&input, "the book's bytes", &our_bytes, bytes);
+    judge.lent(&input, "the book's bytes", &our_bytes, &bytes);
     judge.lent(&input, "the book's numbers", &our_book, &state);
     // what was kept is read again, and one byte short of it
     if let (true, [size, ..]) = (answer == 0, our_written.now()) {
         let kept = our_out.now()[..*size as usize].to_vec();
         let again = read_kept(rng, judge, &kept, BOOK_BYTES, PLACES);
         let again = again.map(|(book, _, bytes)| (book, bytes[..6 * book.count as usize].to_vec()));
-        judge.same(&input, "the book read again", &again, &Some((*held, held_bytes(held, bytes))));
+        judge.same(&input, "the book read again", &again, &Some((held, held_bytes(&held, &bytes))));
         read_kept(rng, judge, &kept[..kept.len() - 1], BOOK_BYTES, PLACES);
     }
 }
@@ -244,31 +181,23 @@ fn held_bytes(book: &Book, bytes: &[u8]) -> Vec<u8> {
     bytes[..6 * book.count as usize].to_vec()
 }
 
-/// Every number of a kept book of any form changed: to each of other numbers, and to other forms
-/// of numbers; with the numbers behind it, without them, and without its own end. Of many areas some
-/// are changed: the first, the last, those beside the 32nd.
+/// Every number of a kept book of either form changed: to each of other numbers, and to other forms
+/// of numbers; with the numbers behind it, without them, and without its own end.
 pub fn changed(rng: &mut Rng, judge: &mut Judge) {
     let mut numbers = kept_numbers(rng);
     let head = kept_head(numbers[0]);
     // mostly few areas, so that many books are tried
-    if numbers.len() > head + 3 && !rng.one_in(if numbers.len() > head + 32 { 4 } else { 6 }) {
+    if numbers.len() > head + 3 && !rng.one_in(6) {
         numbers.truncate(head + rng.between(1, 3) as usize);
         numbers[head - 1] = (numbers.len() - head) as u64;
     }
-    let many = numbers.len() > head + 32;
-    let any = rng.below(numbers.len() as u64) as usize;
-    let some = [head, head + 31, head + 32, any, numbers.len() - 2, numbers.len() - 1];
-    let places: Vec<usize> =
-        (0..numbers.len()).filter(|at| !many || *at < head || some.contains(at)).collect();
     let write = |of: &[u64]| -> Vec<u8> { of.iter().flat_map(|&number| groups(number)).collect() };
     let whole = write(&numbers);
     let mut read = |bytes: &[u8]| read_kept(rng, judge, bytes, BOOK_BYTES, PLACES).is_some();
     assert!(read(&whole), "a kept book is read");
     assert!(!read(&[&whole[..], &[0]].concat()), "and none with a number behind it");
-    // of a long one those with the first numbers and near its end, and some
-    let shorter = |end: &usize| whole.len() < 300 || *end < 16 || whole.len() - end < 16 || end % 37 == 0;
-    assert!(!(0..whole.len()).filter(shorter).any(|end| read(&whole[..end])), "and no beginning of it");
-    for at in places {
+    assert!(!(0..whole.len()).any(|end| read(&whole[..end])), "and no beginning of it");
+    for at in 0..numbers.len() {
         let (before, behind) = (write(&numbers[..at]), write(&numbers[at + 1..]));
         let mut forms: Vec<Vec<u8>> = kept_changes(&numbers, at).into_iter().map(groups).collect();
         // not in shortest form, of many groups, beyond 64 bits: the number again if bits are lost
@@ -284,17 +213,14 @@ pub fn changed(rng: &mut Rng, judge: &mut Judge) {
         }
     }
     judge.mark(match numbers[0] {
-        FORM_1 => "kept: every number of form 1 changed",
-        FORM_2 => "kept: every number of form 2 changed",
-        _ if many => "kept: numbers of form 3 with over 32 areas changed",
-        _ => "kept: every number of form 3 changed",
+        kept::FORM_1 => "kept: every number of form 1 changed",
+        _ => "kept: every number of form 2 changed",
     });
 }
 
 pub fn read(rng: &mut Rng, judge: &mut Judge) {
     let bytes = if rng.one_in(3) { second::generate::kept(rng) } else { broken_kept(rng) };
-    let any = buffer_size(rng, BOOK_BYTES);
-    let room = if rng.one_in(6) { short(rng) } else { any };
+    let room = buffer_size(rng, BOOK_BYTES);
     let places = places(rng);
     read_kept(rng, judge, &bytes, room, places);
 }
@@ -317,10 +243,6 @@ pub fn read_kept(
     let result = if places < PLACES { Err(Refusal::Room) } else { kept::read(bytes, &mut book) };
     judge.number(&input, answer, number(&result));
     marks::kept_given(judge, bytes, &result);
-    if let (true, Some(form @ 1..=3)) = (places >= PLACES, bytes.first()) {
-        let form = ["bytes, form 1", "bytes, form 2", "bytes, form 3"][*form as usize - 1];
-        marks::lent_short(judge, "kept_read", form, room);
-    }
     if let Ok(now) = result {
         state[..PLACES].copy_from_slice(&now.numbers());
     }
@@ -348,65 +270,24 @@ pub fn tell_found(part: &[u8], area: &mut [u8], found: &mut [u64]) -> u8 {
 
 /// An area looked up in a book by itself.
 pub fn find(rng: &mut Rng, judge: &mut Judge) {
-    let (mut held, mut numbers, mut bytes) = some_book(rng);
-    if rng.one_in(6) {
-        // few areas, all of which lie there, in a book that is lent short
-        let count = small_count(rng);
-        let (made, lent) = sized_book(rng, count);
-        (held, numbers) = as_numbers(rng, &made);
-        bytes = lent[..short(rng).max(BOOK_BEFORE)].to_vec();
-    }
-    let places = places(rng);
-    find_one(rng, judge, (&held, &numbers, &bytes), places);
-}
-
-/// Bytes as a book of enough room would have them.
-pub fn whole(bytes: &[u8]) -> Vec<u8> {
-    let mut whole = bytes.to_vec();
-    whole.resize(BOOK_BYTES.max(bytes.len()), 0);
-    whole
-}
-
-fn find_one(
-    rng: &mut Rng,
-    judge: &mut Judge,
-    (held, numbers, bytes): (&Book, &Numbers, &[u8]),
-    places: usize,
-) {
-    let id = match book::areas(held, &whole(bytes)) {
-        Some(areas) if !areas.is_empty() && !rng.one_in(4) => {
-            let last = areas[areas.len() - 1];
-            let any = rng.pick(&areas);
-            rng.pick(&[any, any, any, last]).id
-        }
+    let (held, numbers, bytes) = some_book(rng);
+    let id = match book::areas(&held, &bytes) {
+        Some(areas) if !areas.is_empty() && !rng.one_in(4) => rng.pick(&areas).id,
         _ => rng.below(256),
     };
-    let numbers = lent_numbers(rng, numbers, places);
+    let places = places(rng);
+    let numbers = lent_numbers(rng, &numbers, places);
     let (mut area, mut found) = find_room(rng);
     let rooms = (area.len(), found.len());
-    let said = || format!("book {numbers:?}, bytes {}, ID {id}, rooms of {rooms:?}", hex(bytes));
+    let said = || format!("book {numbers:?}, bytes {}, ID {id}, rooms of {rooms:?}", hex(&bytes));
     let input = Input { call: "book_find", said: &said };
-    let (our_book, our_bytes) = (lent::numbers(&numbers), lent::bytes(bytes));
+    let (our_book, our_bytes) = (lent::numbers(&numbers), lent::bytes(&bytes));
     let (mut our_area, mut our_found) = (lent::bytes(&area), lent::numbers(&found));
     let answer = raw::book_find(our_book.now(), our_bytes.now(), id as u8, our_area.part(), our_found.part());
-    let part = if numbers.len() < PLACES { 0..0 } else { book::find(held, bytes, AreaId(id)) };
-    let second = tell_found(&bytes[part.clone()], &mut area, &mut found);
-    judge.number(&input, answer, second);
+    let part = if numbers.len() < PLACES { 0..0 } else { book::find(&held, &bytes, AreaId(id)) };
+    judge.number(&input, answer, tell_found(&bytes[part], &mut area, &mut found));
     judge.lent(&input, "the area", &our_area, &area);
     judge.lent(&input, "the bytes found", &our_found, &found);
     judge.lent(&input, "the book's numbers", &our_book, &numbers);
-    judge.lent(&input, "the book's bytes", &our_bytes, bytes);
-    if second != 0 || numbers.len() < PLACES {
-        return;
-    }
-    match part.start / 6 {
-        _ if part.is_empty() => {}
-        255 => judge.mark("book_find: the 256th area"),
-        32.. => judge.mark("book_find: an area behind the 32nd"),
-        _ => {}
-    }
-    // it would have been found
-    if bytes.len() < BOOK_BYTES && !book::find(held, &whole(bytes), AreaId(id)).is_empty() {
-        marks::lent_short(judge, "book_find", "bytes", bytes.len());
-    }
+    judge.lent(&input, "the book's bytes", &our_bytes, &bytes);
 }

@@ -15,7 +15,7 @@ use second::frame::LONGEST_PAYLOAD;
 use second::frame::{assemble, Plain};
 use second::generate::*;
 use second::groups::groups;
-use second::kept::{self, FORM_1, FORM_2, FORM_3, MOST_BEFORE};
+use second::kept::{self, FORM_1, FORM_2};
 use second::payload::GadArea;
 use second::views::AreaId;
 
@@ -67,7 +67,6 @@ pub fn sound(judge: &mut Judge, table: &Table) {
     };
     judge.number(&input, answer, second);
     same_table(judge, &input, &ours, table);
-    marks::table_lent_short(judge, "desk_is_sound", table);
 }
 
 pub fn find(rng: &mut Rng, judge: &mut Judge, table: &Table) {
@@ -85,11 +84,11 @@ pub fn find(rng: &mut Rng, judge: &mut Judge, table: &Table) {
         our_area.part(),
         our_found.part(),
     );
-    let (part, at) = match table.desk() {
-        None => (&[][..], 0),
+    let part = match table.desk() {
+        None => &[][..],
         Some(desk) => match desk::look_up(&desk, &table.live, &table.run, AreaId(id as u64)) {
-            (Of::Live, part) => (&table.live[part.clone()], part.start / 6),
-            (Of::Run, part) => (&table.run[part.clone()], part.start / 6),
+            (Of::Live, part) => &table.live[part],
+            (Of::Run, part) => &table.run[part],
         },
     };
     let second = books::tell_found(part, &mut area, &mut found);
@@ -104,22 +103,6 @@ pub fn find(rng: &mut Rng, judge: &mut Judge, table: &Table) {
         (false, true) => "find: none with a run open",
         (false, false) => "find: none with no run open",
     });
-    match (at, open) {
-        _ if second != 0 || part.is_empty() => {}
-        (255, true) => judge.mark("find: the 256th area of the run's book"),
-        (255, false) => judge.mark("find: the 256th area of the live book"),
-        (32.., true) => judge.mark("find: behind the 32nd area of the run's book"),
-        (32.., false) => judge.mark("find: behind the 32nd area of the live book"),
-        _ => {}
-    }
-    // a book is lent short in which the area would have been found
-    if second == 0 && (table.live.len() < BOOK_BYTES || table.run.len() < BOOK_BYTES) {
-        let (live, run) = (books::whole(&table.live), books::whole(&table.run));
-        let found = table.desk().map(|desk| desk::look_up(&desk, &live, &run, AreaId(id as u64)));
-        if found.is_some_and(|(_, part)| !part.is_empty()) {
-            marks::table_lent_short(judge, "desk_find", table);
-        }
-    }
 }
 
 /// A frame taken that came in at a second. The table goes on.
@@ -164,9 +147,6 @@ pub fn take(
         types::framed(judge, "desk_take: NOT_OURS, a TBD type", frame);
     }
     table.past = marks::second_given(judge, &old, frame, second, number(&result));
-    if places >= 1 && log_size >= LOG_BYTES {
-        marks::table_lent_short(judge, "desk_take", &old);
-    }
     if let Ok(taken) = result {
         table.put(&taken.desk);
         written[0] = taken.logged as u64;
@@ -191,10 +171,9 @@ fn own_kept(table: &Table, form: u64) -> Option<Vec<u8>> {
     Some(kept::numbers(form, &desk.live, &held).into_iter().flat_map(groups).collect())
 }
 
-/// A kept book for the desk: that of its own live book in any form, another, or a broken one. In form
-/// 1 or 2 a book of over 32 areas is one that no desk has kept.
+/// A kept book for the desk: that of its own live book in either form, another, or a broken one.
 fn some_kept(rng: &mut Rng, table: &Table) -> Vec<u8> {
-    match (rng.below(3), own_kept(table, rng.pick(&[FORM_1, FORM_2, FORM_3, FORM_3]))) {
+    match (rng.below(3), own_kept(table, rng.pick(&[FORM_1, FORM_2, FORM_2]))) {
         (0, Some(own)) => own,
         (1, _) => broken_kept(rng),
         _ => second::generate::kept(rng),
@@ -243,11 +222,6 @@ fn take_in(
     };
     judge.number(&input, answer, number(&result));
     marks::book_taken_in(judge, &old, held, bytes, number(&result));
-    if numbers.len() >= book::PLACES && bytes.len() >= BOOK_BYTES {
-        marks::table_lent_short(judge, "desk_take_book", &old);
-    } else if numbers.len() >= book::PLACES && marks::table_room(&old) {
-        marks::lent_short(judge, "desk_take_book", "bytes", bytes.len());
-    }
     if let Ok(desk) = result {
         table.put(&desk);
         let form_1 = form == Some(FORM_1) && held.count > 0;
@@ -285,7 +259,7 @@ pub fn gaps(rng: &mut Rng, judge: &mut Judge) {
         if rng.one_in(4) {
             take_book(rng, judge, &mut table);
         }
-        let accepted = rng.pick(&SORTS[..9]);
+        let accepted = rng.pick(&SORTS[..8]);
         let any = rng.pick(&SORTS);
         let sort = rng.pick(&[accepted, any]);
         let frame = table.frame_of(rng, sort);
@@ -317,7 +291,7 @@ fn take_near(rng: &mut Rng, judge: &mut Judge, table: &mut Table, frame: &[u8]) 
 
 /// A kept book of a form, read and taken in by a new desk; then, without a gap, HPACs of its SIOU
 /// and of others, and GADs of a solver that restarts and keeps its AIOU. Between them the live book
-/// is kept and taken in again, in form 1 with its SIOU lost, with over 32 areas in form 3.
+/// is kept and taken in again, in form 1 with its SIOU lost.
 pub fn solutions(rng: &mut Rng, judge: &mut Judge) {
     let made = desk::new(rng.below(128), rng.below(16), rng.below(5)).expect("in range");
     let mut table = tables::fresh(rng, &made);
@@ -328,8 +302,7 @@ pub fn solutions(rng: &mut Rng, judge: &mut Judge) {
         take_in(rng, judge, &mut table, &book.expect("a kept book"), lent_as);
         for _ in 0..rng.between(1, 7) {
             let hpac = rng.pick(&[Sort::OfRun, Sort::OtherTag, Sort::OfRunOtherSiou]);
-            let gad =
-                rng.pick(&[Sort::OtherSiou, Sort::OverUnknown, Sort::Gad, Sort::Against, Sort::Filling]);
+            let gad = rng.pick(&[Sort::OtherSiou, Sort::OverUnknown, Sort::Gad, Sort::Against]);
             let refused = rng.pick(&[Refusal::AreaOff, Refusal::Conflict]);
             let sort = rng.pick(&[hpac, hpac, hpac, gad, gad, Sort::Refused(refused)]);
             let frame = table.frame_of(rng, sort);
@@ -337,46 +310,8 @@ pub fn solutions(rng: &mut Rng, judge: &mut Judge) {
         }
         find(rng, judge, &table);
         sound(judge, &table);
-        let live = table.desk().expect("thirteen numbers").live;
-        let form = if live.count > MOST_BEFORE { FORM_3 } else { rng.pick(&[FORM_1, FORM_2, FORM_3]) };
-        kept = own_kept(&table, form).expect("a sound desk");
+        kept = own_kept(&table, rng.pick(&[FORM_1, FORM_2])).expect("a sound desk");
     }
-}
-
-/// A new desk whose book grows to 256 areas, GAD by GAD, with HPACs that open runs by it and go on in them; then repeats,
-/// conflicts, and a book of another solution.
-pub fn grows(rng: &mut Rng, judge: &mut Judge) {
-    let made = desk::new(rng.below(128), rng.below(16), rng.below(5)).expect("in range");
-    let mut table = tables::fresh(rng, &made);
-    let live = |table: &Table| table.desk().expect("thirteen numbers").live.count;
-    let first = table.frame_of(rng, Sort::Gad);
-    take_near(rng, judge, &mut table, &first);
-    // a GAD that is taken has an area at least
-    while (1..256).contains(&live(&table)) {
-        let frame = table.frame_of(rng, Sort::Filling);
-        take_near(rng, judge, &mut table, &frame);
-        if rng.one_in(4) {
-            let sort = rng.pick(&[Sort::OfRun, Sort::OtherTag, Sort::Repeat, Sort::Against]);
-            let frame = table.frame_of(rng, sort);
-            take_near(rng, judge, &mut table, &frame);
-            find(rng, judge, &table);
-        }
-    }
-    let after = [
-        Sort::Repeat,
-        Sort::Against,
-        Sort::OtherTag,
-        Sort::OfRun,
-        Sort::Refused(Refusal::AreaOff),
-        Sort::OtherSiou,
-        Sort::OfRun,
-    ];
-    for sort in after {
-        let frame = table.frame_of(rng, sort);
-        take_near(rng, judge, &mut table, &frame);
-        find(rng, judge, &table);
-    }
-    sound(judge, &table);
 }
 
 /// A message that fills its payload with residuals of four bits, for an area of 64 nodes: the longest logs.

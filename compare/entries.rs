@@ -332,8 +332,6 @@ fn instead(rng: &mut Rng, all: &[Place], at: usize) -> Vec<Vec<u8>> {
             others.extend(before.iter().flat_map(|before| [before.number, before.number + 1]));
         }
         Role::Area => others.extend(other_areas(rng, number)),
-        // beside 32, and where a second group begins
-        Role::Count => others.extend([32, 33, 127, 128, 129, 255, 256, 257]),
         _ => {}
     }
     others.sort();
@@ -405,7 +403,7 @@ fn as_it_is(rng: &mut Rng, judge: &mut Judge, entry: &Entry, bytes: &[u8]) {
 fn cut(rng: &mut Rng, judge: &mut Judge, bytes: &[u8], end: usize, role: Role) {
     let answer = read(rng, judge, &bytes[..end]);
     must_be(judge, &bytes[..end], &answer, Err(Refusal::Short));
-    marks::short_at(judge, role, end > 0 && bytes[end - 1] >= 0x80);
+    marks::short_at(judge, role);
     if end == 0 {
         judge.mark("entry: no byte");
     } else if bytes[end - 1] >= 0x80 {

@@ -28,16 +28,11 @@ const NAMES: [&str; 19] = [
     "FORM",
 ];
 
-/// The number that no call gives: a 257th area ID. SF031 has 256 values, and a book of 256 areas has every ID.
-const NEVER: u8 = 15;
-
 /// The SF numbers at which a call has to have given a number; of none listed, any will do.
 pub type Must = (&'static str, u8, Vec<u16>);
 
 /// What was met so far: the answers of each call, and where we are.
 pub struct Judge {
-    /// how an input is given again, before its seed
-    again: &'static str,
     pub seed: u64,
     pub calls: u64,
     counts: BTreeMap<&'static str, [u64; 19]>,
@@ -53,9 +48,8 @@ pub struct Input<'a> {
 }
 
 impl Judge {
-    pub fn new(again: &'static str, seed: u64) -> Judge {
-        let (counts, places, marks) = (BTreeMap::new(), BTreeMap::new(), BTreeMap::new());
-        Judge { again, seed, calls: 0, counts, places, marks }
+    pub fn new(seed: u64) -> Judge {
+        Judge { seed, calls: 0, counts: BTreeMap::new(), places: BTreeMap::new(), marks: BTreeMap::new() }
     }
 
     /// Both numbers, which must agree; counted.
@@ -63,7 +57,6 @@ impl Judge {
         self.calls += 1;
         self.count(input.call, second);
         self.same(input, "the answer number", &ours, &second);
-        self.not_full(input, second);
     }
 
     /// Both answers of a call that says where, which must agree whole, number and place; counted.
@@ -72,14 +65,6 @@ impl Judge {
         self.count_answer(input.call, second);
         if ours != second {
             self.fail(input, "the answer", &said(input.call, ours), &said(input.call, second));
-        }
-        self.not_full(input, second as u8);
-    }
-
-    /// A number that both gave, also of a frame in a call that tells it: never BOOK_FULL.
-    pub fn not_full(&self, input: &Input, number: u8) {
-        if number == NEVER {
-            self.fail(input, "a number that no state and no input gives", name(number), name(number));
         }
     }
 
@@ -129,7 +114,7 @@ impl Judge {
         println!("  the desk: {ours}");
         println!("  the second program: {second}");
         println!("  the input: {}", (input.said)());
-        println!("  again by: {} {}", self.again, self.seed);
+        println!("  again by: compare/run 1 {}", self.seed);
         std::process::exit(1);
     }
 
@@ -157,9 +142,11 @@ impl Judge {
         all
     }
 
-    /// What was never met: the numbers that each call can answer, the places, the marks.
+    /// What was never met: document 01's numbers 0 to 18, those that each call can answer, the places, the marks.
     pub fn missed(&self, can: &[(&str, &[usize])], must: &[Must], marks: &[String]) -> Vec<String> {
-        let mut missed = Vec::new();
+        let all = self.all();
+        let mut missed: Vec<String> =
+            (0..19).filter(|&number| all[number] == 0).map(|number| format!("number {number}")).collect();
         for (call, numbers) in can {
             let counts = self.counts.get(call).copied().unwrap_or([0; 19]);
             let never = numbers.iter().filter(|&&number| counts[number] == 0);

@@ -3,16 +3,16 @@
 use crate::entries::Role;
 use crate::judge::Judge;
 use crate::logs::{entries, Entry};
-use crate::tables::{Past, Table, BOOK_BEFORE, RUN_FLAG, SECOND_FLAG};
+use crate::tables::{Past, Table, RUN_FLAG, SECOND_FLAG};
 use second::answer::{number, Refusal, Refused};
-use second::book::{self, Book, BOOK_BYTES};
+use second::book::{self, Book};
 use second::desk::{self, Desk, Last, Run, GAP, HALF_DAY, LOG_BYTES};
 use second::entries;
 use second::frame;
 use second::generate::TWELVE;
 use second::groups;
-use second::kept;
-use second::payload::{Gad, GadArea, Hpac, Message};
+use second::kept::{self, KEPT_BYTES};
+use second::payload::{Gad, Hpac, Message};
 use second::prepare::Event;
 use second::sheet;
 use second::stream::MOST_NOISE;
@@ -20,8 +20,9 @@ use second::values::{Residual, Yaw};
 use second::views::{Satellite, SatelliteView};
 
 /// What a run of many inputs has to meet besides.
-pub const MARKS: [&str; 53] = [
+pub const MARKS: [&str; 54] = [
     "GAD: a book begins",
+    "GAD: a book of 32",
     "GAD: the book grows",
     "GAD: the book stays",
     "HPAC: a 32-bit tag over 43,199",
@@ -78,150 +79,43 @@ pub const MARKS: [&str; 53] = [
 
 /// What a GAD of the same AIOU was to a live book of another SIOU, and to one of an unknown SIOU:
 /// there was no gap before it. What it would have been is by the SIOU of the book.
-pub const GADS: [[&str; 4]; 2] = [
+pub const GADS: [[&str; 5]; 2] = [
     [
         "GAD: same AIOU, another SIOU begins a new book",
         "GAD: same AIOU, another SIOU, would have added",
         "GAD: same AIOU, another SIOU, would have been CONFLICT",
+        "GAD: same AIOU, another SIOU, would have been BOOK_FULL",
         "GAD: same AIOU, another SIOU, refused: the old book stays",
     ],
     [
         "GAD: over a book of unknown SIOU",
         "GAD: over a book of unknown SIOU, would have added",
         "GAD: over a book of unknown SIOU, would have been CONFLICT",
+        "GAD: over a book of unknown SIOU, would have been BOOK_FULL",
         "GAD: over a book of unknown SIOU, refused: the old book stays",
     ],
 ];
 
 /// The same of a book by itself.
-pub const BOOK_GADS: [[&str; 4]; 2] = [
+pub const BOOK_GADS: [[&str; 5]; 2] = [
     [
         "book: same AIOU, another SIOU begins a new book",
         "book: same AIOU, another SIOU, would have added",
         "book: same AIOU, another SIOU, would have been CONFLICT",
+        "book: same AIOU, another SIOU, would have been BOOK_FULL",
         "book: same AIOU, another SIOU, refused: the old book stays",
     ],
     [
         "book: a GAD over an unknown SIOU",
         "book: a GAD over an unknown SIOU, would have added",
         "book: a GAD over an unknown SIOU, would have been CONFLICT",
+        "book: a GAD over an unknown SIOU, would have been BOOK_FULL",
         "book: a GAD over an unknown SIOU, refused: the old book stays",
     ],
 ];
 
-/// What a GAD of its AIOU and SIOU was to a live book of many areas, and what it left of it: there was no gap before it. A
-/// new area comes to stand before the others, between them or behind them where the book then has over 32; the blocks of
-/// such a GAD descend, or are in no order.
-pub const GROWS: [&str; 15] = [
-    "GAD: a book of 32",
-    "GAD: a book of over 32",
-    "GAD: a book of 90 or more",
-    "GAD: a book of 128 or more",
-    "GAD: a book of 256",
-    "GAD: over 32, an area before all others",
-    "GAD: over 32, an area between others",
-    "GAD: over 32, an area behind all others",
-    "GAD: over 32, blocks that descend",
-    "GAD: over 32, blocks in no order",
-    "GAD: over 32, CONFLICT behind the 32nd area",
-    "GAD: over 32, a repeat behind the 32nd area",
-    "GAD: 256 areas, repeats alone",
-    "GAD: 256 areas, CONFLICT",
-    "GAD: 256 areas, AREA_OFF",
-];
-
-/// The same of a book by itself.
-pub const BOOK_GROWS: [&str; 15] = [
-    "book: of 32",
-    "book: of over 32",
-    "book: of 90 or more",
-    "book: of 128 or more",
-    "book: of 256",
-    "book: over 32, an area before all others",
-    "book: over 32, an area between others",
-    "book: over 32, an area behind all others",
-    "book: over 32, blocks that descend",
-    "book: over 32, blocks in no order",
-    "book: over 32, CONFLICT behind the 32nd area",
-    "book: over 32, a repeat behind the 32nd area",
-    "book: 256 areas, repeats alone",
-    "book: 256 areas, CONFLICT",
-    "book: 256 areas, AREA_OFF",
-];
-
-/// What else was met of books with many areas.
-pub const CONTINENTS: [&str; 28] = [
-    "GAD: over a book of 256 one of another AIOU or SIOU",
-    "HPAC: a run opened with 127 areas or fewer, over 32",
-    "HPAC: a run opened with 128 areas or more",
-    "HPAC: a run opened with 256 areas",
-    "HPAC: placed, an area behind the 32nd",
-    "HPAC: placed, the 256th area",
-    "HPAC: left out by 3, a book of over 32",
-    "HPAC: left out by 4, an area behind the 32nd",
-    "HPAC: the run goes on with over 32 areas, placed behind the 32nd",
-    "book_find: an area behind the 32nd",
-    "book_find: the 256th area",
-    "entry: 1, opened with 127 areas",
-    "entry: 1, opened with 128 areas or more",
-    "entry: 1, opened with 256 areas",
-    "entry: FORM, a count of 257",
-    "entry: FORM, a count of two groups, not in shortest form",
-    "entry: FORM, a count of three groups, not in shortest form",
-    "entry: SHORT, the second group of a count missing",
-    "find: behind the 32nd area of the live book",
-    "find: behind the 32nd area of the run's book",
-    "find: the 256th area of the live book",
-    "find: the 256th area of the run's book",
-    "gap: GAD taken, the old book of over 32",
-    "gap: HPAC of the open run, its copy of over 32",
-    "prepare: a book of 256",
-    "taken in: a book of 256",
-    "taken in: a book of over 32",
-    "taken in: STATE, an area behind the 32nd",
-];
-
-/// How a live book and a run's book, and one by itself or that is kept, were unsound where they have many areas.
-pub const UNSOUND: [&str; 8] = [
-    "unsound: live book, by a count of 257",
-    "unsound: live book, by an area behind the 32nd",
-    "unsound: the run's book, by a count of 257",
-    "unsound: the run's book, by an area behind the 32nd",
-    "book: unsound by a count of 257",
-    "book: unsound by an area behind the 32nd",
-    "kept: STATE by a count of 257",
-    "kept: STATE by an area behind the 32nd",
-];
-
-/// Kept books by their areas.
-pub const KEPT_AREAS: [&str; 23] = [
-    "kept: FORM at the count, form 1 with 33",
-    "kept: FORM at the count, form 1 with 256",
-    "kept: FORM at the count, form 2 with 33",
-    "kept: FORM at the count, form 2 with 256",
-    "kept: FORM at the count, form 3 with 257",
-    "kept: FORM at an area behind the 32nd",
-    "kept: FORM at an area that leaves no ID, of 256",
-    "kept: FORM, a count of two groups, not in shortest form",
-    "kept: FORM, a count of three groups, not in shortest form",
-    "kept: SHORT at an area behind the 32nd",
-    "kept: SHORT, the second group of a count missing",
-    "kept: form 1 read, 32 areas",
-    "kept: form 2 read, 32 areas",
-    "kept: form 3 read, 32 areas",
-    "kept: form 3 read, 33 areas",
-    "kept: form 3 read, 90 areas",
-    "kept: form 3 read, 127 areas",
-    "kept: form 3 read, 128 areas",
-    "kept: form 3 read, 255 areas",
-    "kept: form 3 read, 256 areas",
-    "kept: written, over 32 areas",
-    "kept: written, 256 areas",
-    "kept: written in 1,790 bytes, the longest",
-];
-
 /// What else was met of the solutions that fill books, of books taken in, and of kept ones.
-pub const SOLUTIONS: [&str; 46] = [
+pub const SOLUTIONS: [&str; 39] = [
     "GAD: another AIOU, the same SIOU begins a new book",
     "GAD: CONFLICT, same AIOU and same SIOU",
     "HPAC: left out by 2, another SIOU too",
@@ -243,35 +137,28 @@ pub const SOLUTIONS: [&str; 46] = [
     "kept: FORM, SIOU + 1 not in shortest form",
     "kept: FORM, a SIOU without an AIOU",
     "kept: FORM, form number 0",
-    "kept: FORM, form number 4",
+    "kept: FORM, form number 3",
     "kept: LEFTOVER, form 1",
     "kept: LEFTOVER, form 2",
-    "kept: LEFTOVER, form 3",
-    "kept: ROOM of 1,797 bytes",
-    "kept: ROOM of 229 bytes",
+    "kept: ROOM of 228 bytes",
     "kept: STATE by its SIOU",
     "kept: every number of form 1 changed",
     "kept: every number of form 2 changed",
-    "kept: every number of form 3 changed",
     "kept: form 1 read",
     "kept: form 1 read, empty",
     "kept: form 2 read",
     "kept: form 2 read, SIOU 511",
     "kept: form 2 read, SIOU unknown",
     "kept: form 2 read, empty",
-    "kept: form 3 read",
-    "kept: form 3 read, SIOU 511",
-    "kept: form 3 read, SIOU unknown",
-    "kept: form 3 read, empty",
-    "kept: numbers of form 3 with over 32 areas changed",
+    "kept: written in all its room",
     "kept: written, SIOU unknown",
     "kept: written, empty",
     "taken in: STATE, the book by its SIOU",
     "taken in: a book of unknown SIOU",
 ];
 
-/// The numbers of kept books at which they were FORM and SHORT, in each form.
-pub const KEPT_FORM: [&[&str]; 3] = [
+/// The numbers of kept books at which they were FORM and SHORT, in form 1 and in form 2.
+pub const KEPT_FORM: [&[&str]; 2] = [
     &[
         "kept: FORM at the form number",
         "kept: FORM at AIOU + 1, form 1",
@@ -281,19 +168,12 @@ pub const KEPT_FORM: [&[&str]; 3] = [
     &[
         "kept: FORM at the form number",
         "kept: FORM at AIOU + 1, form 2",
-        "kept: FORM at SIOU + 1, form 2",
+        "kept: FORM at SIOU + 1",
         "kept: FORM at the count, form 2",
         "kept: FORM at an area, form 2",
     ],
-    &[
-        "kept: FORM at the form number",
-        "kept: FORM at AIOU + 1, form 3",
-        "kept: FORM at SIOU + 1, form 3",
-        "kept: FORM at the count, form 3",
-        "kept: FORM at an area, form 3",
-    ],
 ];
-pub const KEPT_SHORT: [&[&str]; 3] = [
+pub const KEPT_SHORT: [&[&str]; 2] = [
     &[
         "kept: SHORT at the form number",
         "kept: SHORT at AIOU + 1, form 1",
@@ -303,21 +183,14 @@ pub const KEPT_SHORT: [&[&str]; 3] = [
     &[
         "kept: SHORT at the form number",
         "kept: SHORT at AIOU + 1, form 2",
-        "kept: SHORT at SIOU + 1, form 2",
+        "kept: SHORT at SIOU + 1",
         "kept: SHORT at the count, form 2",
         "kept: SHORT at an area, form 2",
-    ],
-    &[
-        "kept: SHORT at the form number",
-        "kept: SHORT at AIOU + 1, form 3",
-        "kept: SHORT at SIOU + 1, form 3",
-        "kept: SHORT at the count, form 3",
-        "kept: SHORT at an area, form 3",
     ],
 ];
 
 /// What the seconds were, and what a gap before a frame made of it: there was a live book to empty, unless it says otherwise.
-pub const SECONDS: [&str; 39] = [
+pub const SECONDS: [&str; 40] = [
     "second: 449 after the last",
     "second: 450 after the last",
     "second: 451 after the last",
@@ -337,6 +210,7 @@ pub const SECONDS: [&str; 39] = [
     "gap: GAD taken",
     "gap: GAD taken, it would have added to the old book",
     "gap: GAD taken, the old book alone against it",
+    "gap: GAD taken, the old book alone without room",
     "gap: HPAC of another tag",
     "gap: HPAC of the open run, its copy empty",
     "gap: HPAC of the open run, its copy with areas",
@@ -513,60 +387,9 @@ pub fn all() -> Vec<&'static str> {
     let mut all = [&MARKS[..], &SECONDS, &refused, &TYPES, &VIEWS, &ENTRIES].concat();
     all.extend(SHORT_AT.into_iter().chain(FORM_AT));
     all.extend(SOLUTIONS);
-    all.extend(GROWS.into_iter().chain(BOOK_GROWS).chain(CONTINENTS).chain(UNSOUND).chain(KEPT_AREAS));
     all.extend(GADS.into_iter().chain(BOOK_GADS).flatten());
     all.extend(KEPT_FORM.into_iter().chain(KEPT_SHORT).flatten());
     all
-}
-
-/// The calls that are lent books, and which: each was lent in 1,535 bytes and in 192, and all else had room. The lookups
-/// would have found an area.
-const LENT: [(&str, &[&str]); 10] = [
-    ("book_find", &["bytes"]),
-    ("book_take", &["bytes"]),
-    ("desk_find", &["live", "run"]),
-    ("desk_is_sound", &["live", "run"]),
-    ("desk_take", &["live", "run"]),
-    ("desk_take_book", &["live", "run", "bytes"]),
-    ("kept_read", &["bytes, form 1", "bytes, form 2", "bytes, form 3"]),
-    ("kept_write", &["bytes"]),
-    ("prepare_call", &["live", "run"]),
-    ("prepare_finish", &["live", "run"]),
-];
-
-fn short_book(call: &str, which: &str, size: usize) -> String {
-    format!("{call}: {size} {which}")
-}
-
-/// All that has to be met of books that are lent short.
-pub fn short_books() -> Vec<String> {
-    let sizes = [BOOK_BYTES - 1, BOOK_BEFORE];
-    let each = |(call, which): &(&str, &'static [&'static str])| {
-        which.iter().flat_map(|which| sizes.map(|size| short_book(call, which, size))).collect::<Vec<_>>()
-    };
-    LENT.iter().flat_map(each).collect()
-}
-
-/// Counts a book that was lent in so many bytes to a call that had room for all else.
-pub fn lent_short(judge: &mut Judge, call: &str, which: &str, size: usize) {
-    if [BOOK_BYTES - 1, BOOK_BEFORE].contains(&size) {
-        judge.mark(short_book(call, which, size));
-    }
-}
-
-/// Has a desk thirteen numbers, and its two books the room they want?
-pub fn table_room(table: &Table) -> bool {
-    table.desk().is_some() && table.live.len().min(table.run.len()) >= BOOK_BYTES
-}
-
-/// Counts a desk one of whose books was lent short to a call that had room for all else.
-pub fn table_lent_short(judge: &mut Judge, call: &str, table: &Table) {
-    let [live, run] = [table.live.len(), table.run.len()];
-    if table.desk().is_some() && run >= BOOK_BYTES {
-        lent_short(judge, call, "live", live);
-    } else if table.desk().is_some() && live >= BOOK_BYTES {
-        lent_short(judge, call, "run", run);
-    }
 }
 
 /// Counts the type of a frame that is given to a desk.
@@ -585,7 +408,7 @@ pub fn second_given(judge: &mut Judge, before: &Table, frame: &[u8], second: u64
     // ROOM and STATE are answered before the second counts, of a live book too that would be emptied
     if [9, 17].contains(&answer) {
         let emptied = Desk { live: book::Book::default(), ..desk };
-        if gap && answer == 9 && before.live.len() < BOOK_BYTES {
+        if gap && answer == 9 && before.live.len() < book::BOOK_BYTES {
             judge.mark("gap: ROOM, the live book lent short");
         }
         if gap && answer == 17 && desk::sound(&emptied, &before.live, &before.run) {
@@ -704,11 +527,9 @@ fn taken_without_gap(judge: &mut Judge, desk: &Desk, second: u64, past: Past, ty
 fn taken_after_gap(judge: &mut Judge, before: &Table, desk: &Desk, frame: &[u8], type_: u64, of_run: bool) {
     if type_ == 2 {
         judge.mark("gap: GAD taken");
-        if desk.live.count > 32 {
-            judge.mark("gap: GAD taken, the old book of over 32");
-        }
         return match timeless_answer(before, desk, frame) {
             (14, _) => judge.mark("gap: GAD taken, the old book alone against it"),
+            (15, _) => judge.mark("gap: GAD taken, the old book alone without room"),
             (_, Desk { live: then, .. }) if then.aiou == desk.live.aiou => {
                 let same_siou = then.siou == desk.live.siou;
                 if desk.live.siou.is_none() {
@@ -725,9 +546,6 @@ fn taken_after_gap(judge: &mut Judge, before: &Table, desk: &Desk, frame: &[u8],
     if let (Some(open), Some(Message::Hpac(hpac)), true) = (desk.run, message_of(frame), of_run) {
         if open.book.aiou == Some(hpac.aiou) && open.book.siou != Some(hpac.siou) {
             judge.mark("gap: HPAC of the open run, left out by 5");
-        }
-        if open.book.count > 32 {
-            judge.mark("gap: HPAC of the open run, its copy of over 32");
         }
     }
     judge.mark(match desk.run {
@@ -750,26 +568,6 @@ fn unsound_by_siou(book: &Book, bytes: &[u8]) -> bool {
     !book::sound(book, bytes) && book::sound(&Book { siou: None, ..*book }, bytes)
 }
 
-/// Is a book, which is not sound, so by its first 32 areas alone?
-fn unsound_behind(book: &Book, bytes: &[u8]) -> bool {
-    (33..=256).contains(&book.count) && book::sound(&Book { count: 32, ..*book }, bytes)
-}
-
-/// Is a count one too many, and all else of the book sound?
-fn unsound_by_257(book: &Book, bytes: &[u8]) -> bool {
-    book.count == 257 && book::sound(&Book { count: 1, ..*book }, bytes)
-}
-
-/// Counts an unsound book by the names for a count of 257 and for an area behind the 32nd.
-fn unsound_of_many(judge: &mut Judge, names: [&'static str; 2], book: &Book, bytes: &[u8]) {
-    let [by_count, behind] = names;
-    if unsound_by_257(book, bytes) {
-        judge.mark(by_count);
-    } else if unsound_behind(book, bytes) {
-        judge.mark(behind);
-    }
-}
-
 /// Counts what the AIOU and the SIOU of a frame were to the desk, which was sound; there was no gap
 /// before it.
 fn solution_given(judge: &mut Judge, before: &Table, desk: &Desk, frame: &[u8], answer: u8) {
@@ -777,11 +575,8 @@ fn solution_given(judge: &mut Judge, before: &Table, desk: &Desk, frame: &[u8], 
     match message_of(frame).filter(|_| ours) {
         Some(Message::Gad(gad)) => {
             let other_aiou = "GAD: another AIOU, the same SIOU begins a new book";
-            let names = (&GADS, other_aiou, "GAD: CONFLICT, same AIOU and same SIOU", &GROWS);
+            let names = (&GADS, other_aiou, "GAD: CONFLICT, same AIOU and same SIOU");
             gad_met(judge, names, &desk.live, &before.live, &gad, answer);
-            if answer == 0 && desk.live.count == 256 && !desk.live.is_of(gad.aiou, gad.siou) {
-                judge.mark("GAD: over a book of 256 one of another AIOU or SIOU");
-            }
         }
         Some(Message::Hpac(hpac)) if answer == 0 => {
             let tag = frame::check(frame).map_or(0, |header| header.tag % HALF_DAY);
@@ -791,7 +586,6 @@ fn solution_given(judge: &mut Judge, before: &Table, desk: &Desk, frame: &[u8], 
                 _ => (desk.live, &before.live),
             };
             hpac_met(judge, desk, &book, bytes, &hpac);
-            hpac_of_many(judge, of_run, &book, bytes, &hpac);
             if !of_run && before.past.form_1 && book.aiou == Some(hpac.aiou) {
                 judge.mark("HPAC: left out by 5, a book taken in by form 1");
             }
@@ -800,18 +594,17 @@ fn solution_given(judge: &mut Judge, before: &Table, desk: &Desk, frame: &[u8], 
     }
 }
 
-/// The names for what a GAD of the same AIOU met; of another AIOU; of CONFLICT; of a book of many areas.
-type Names = (&'static [[&'static str; 4]; 2], &'static str, &'static str, &'static [&'static str; 15]);
+/// The names for what a GAD of the same AIOU met; of another AIOU; of CONFLICT.
+type Names = (&'static [[&'static str; 5]; 2], &'static str, &'static str);
 
 /// Counts what a GAD was to a sound book.
 fn gad_met(judge: &mut Judge, names: Names, held: &Book, bytes: &[u8], gad: &Gad, answer: u8) {
-    let (of_same_aiou, other_aiou, conflict, grows) = names;
+    let (of_same_aiou, other_aiou, conflict) = names;
     if held.is_of(gad.aiou, gad.siou) {
         if answer == 14 {
             judge.mark(conflict);
         }
-        let areas = book::areas(held, bytes).expect("a sound book");
-        return gad_to_many(judge, grows, &areas, gad, answer);
+        return;
     }
     if held.aiou != Some(gad.aiou) {
         if answer == 0 && held.siou == Some(gad.siou) {
@@ -820,7 +613,7 @@ fn gad_met(judge: &mut Judge, names: Names, held: &Book, bytes: &[u8], gad: &Gad
         return;
     }
     let unknown = held.siou.is_none();
-    let [begins, added, conflict, refused] = of_same_aiou[usize::from(unknown)];
+    let [begins, added, conflict, no_room, refused] = of_same_aiou[usize::from(unknown)];
     if answer != 0 {
         return judge.mark(refused);
     }
@@ -828,103 +621,9 @@ fn gad_met(judge: &mut Judge, names: Names, held: &Book, bytes: &[u8], gad: &Gad
     let areas = book::areas(held, bytes).expect("a sound book");
     match book::with_gad(&Book { siou: Some(gad.siou), ..*held }, &areas, gad) {
         Err(Refusal::Conflict) => judge.mark(conflict),
+        Err(_) => judge.mark(no_room),
         Ok(then) if then.len() > areas.len() => judge.mark(added),
-        _ => {}
-    }
-}
-
-/// Counts what a GAD of its AIOU and SIOU was to a book of these areas, and what it left.
-fn gad_to_many(judge: &mut Judge, names: &[&'static str; 15], areas: &[GadArea], gad: &Gad, answer: u8) {
-    let [of_32, sizes @ .., before, between, behind, descend, mixed, conflict, repeat, alone, full_conflict, full_off] =
-        names;
-    let old = |id: u64| areas.iter().position(|area| area.id == id);
-    let full = areas.len() == 256;
-    match answer {
-        13 if full => return judge.mark(*full_off),
-        14 => {
-            // the first block that conflicts, by the book alone
-            let against = |block: &&GadArea| areas.iter().any(|area| area.id == block.id && area != *block);
-            let place = gad.areas.iter().find(against).and_then(|block| old(block.id));
-            if place.is_some_and(|place| place >= 32) {
-                judge.mark(*conflict);
-            }
-            if full {
-                judge.mark(*full_conflict);
-            }
-            return;
-        }
-        0 => {}
-        _ => return,
-    }
-    if full {
-        judge.mark(*alone);
-    }
-    if gad.areas.iter().any(|block| old(block.id).is_some_and(|place| place >= 32)) {
-        judge.mark(*repeat);
-    }
-    let mut new: Vec<u64> = gad.areas.iter().map(|block| block.id).filter(|&id| old(id).is_none()).collect();
-    let ordered = |pair: &[u64]| pair[0] < pair[1];
-    let (ascend, fall) = (new.windows(2).all(ordered), new.windows(2).all(|pair| pair[0] > pair[1]));
-    let several = new.len() > 2;
-    new.sort();
-    new.dedup();
-    let count = areas.len() + new.len();
-    if new.is_empty() || count <= 32 {
-        if count == 32 {
-            judge.mark(*of_32);
-        }
-        return;
-    }
-    for (least, name) in [33, 90, 128, 256].iter().zip(sizes) {
-        if count >= *least {
-            judge.mark(*name);
-        }
-    }
-    if several && !ascend {
-        judge.mark(if fall { *descend } else { *mixed });
-    }
-    let (Some(first), Some(last)) = (areas.first(), areas.last()) else { return };
-    for id in new {
-        judge.mark(match id {
-            _ if id < first.id => *before,
-            _ if id > last.id => *behind,
-            _ => *between,
-        });
-    }
-}
-
-/// Counts what an HPAC was to a book of many areas: the open run's, or one that it opens a run by.
-fn hpac_of_many(judge: &mut Judge, of_run: bool, book: &Book, bytes: &[u8], hpac: &Hpac) {
-    if book.count <= 32 {
-        return;
-    }
-    if !of_run {
-        judge.mark(match book.count {
-            256 => "HPAC: a run opened with 256 areas",
-            128.. => "HPAC: a run opened with 128 areas or more",
-            _ => "HPAC: a run opened with 127 areas or fewer, over 32",
-        });
-    }
-    if !book.is_of(hpac.aiou, hpac.siou) {
-        return;
-    }
-    let areas = book::areas(book, bytes).expect("a sound book");
-    for block in &hpac.areas {
-        let Some(place) = areas.iter().position(|area| area.id == block.id) else {
-            judge.mark("HPAC: left out by 3, a book of over 32");
-            continue;
-        };
-        let grid = block.troposphere_blocks == 2 || block.ionosphere_blocks == 2;
-        let left_out = grid && block.nodes != book::nodes(&areas[place]);
-        match place {
-            0..32 => {}
-            _ if left_out => judge.mark("HPAC: left out by 4, an area behind the 32nd"),
-            255 => judge.mark("HPAC: placed, the 256th area"),
-            _ => judge.mark("HPAC: placed, an area behind the 32nd"),
-        }
-        if of_run && place >= 32 && !left_out {
-            judge.mark("HPAC: the run goes on with over 32 areas, placed behind the 32nd");
-        }
+        Ok(_) => {}
     }
 }
 
@@ -965,15 +664,12 @@ pub fn gad_given(judge: &mut Judge, held: &Book, bytes: &[u8], payload: &[u8], a
     if answer == 17 && unsound_by_siou(held, bytes) {
         judge.mark("book: unsound by its SIOU");
     }
-    if answer == 17 {
-        unsound_of_many(judge, [UNSOUND[4], UNSOUND[5]], held, bytes);
-    }
     if [9, 17].contains(&answer) {
         return;
     }
     if let Ok((Message::Gad(gad), ..)) = sheet::open(2, 0, payload) {
         let other_aiou = "book: another AIOU, the same SIOU begins a new book";
-        let names = (&BOOK_GADS, other_aiou, "book: CONFLICT, same AIOU and same SIOU", &BOOK_GROWS);
+        let names = (&BOOK_GADS, other_aiou, "book: CONFLICT, same AIOU and same SIOU");
         gad_met(judge, names, held, bytes, &gad, answer);
     }
 }
@@ -983,16 +679,10 @@ pub fn book_taken_in(judge: &mut Judge, before: &Table, held: &Book, bytes: &[u8
     if answer == 0 && held.count > 0 && held.siou.is_none() {
         judge.mark("taken in: a book of unknown SIOU");
     }
-    if answer == 0 && held.count > 32 {
-        judge.mark(if held.count == 256 { "taken in: a book of 256" } else { "taken in: a book of over 32" });
-    }
     let desk = before.desk();
     let sound = desk.is_some_and(|desk| desk::sound(&desk, &before.live, &before.run));
     if answer == 17 && sound && unsound_by_siou(held, bytes) {
         judge.mark("taken in: STATE, the book by its SIOU");
-    }
-    if answer == 17 && sound && unsound_behind(held, bytes) {
-        judge.mark("taken in: STATE, an area behind the 32nd");
     }
 }
 
@@ -1003,18 +693,11 @@ pub fn book_kept(judge: &mut Judge, held: &Book, bytes: &[u8], result: &Result<u
             if unsound_by_siou(held, bytes) {
                 judge.mark("kept: STATE by its SIOU");
             }
-            unsound_of_many(judge, [UNSOUND[6], UNSOUND[7]], held, bytes);
         }
         Err(_) => {}
         Ok(size) => {
-            // eight areas have IDs under 8 and six groups, so that no book fills its room
-            if *size == LONGEST_KEPT {
-                judge.mark("kept: written in 1,790 bytes, the longest");
-            }
-            match held.count {
-                256 => judge.mark("kept: written, 256 areas"),
-                33.. => judge.mark("kept: written, over 32 areas"),
-                _ => {}
+            if *size == KEPT_BYTES {
+                judge.mark("kept: written in all its room");
             }
             if held.count == 0 {
                 judge.mark("kept: written, empty");
@@ -1025,111 +708,44 @@ pub fn book_kept(judge: &mut Judge, held: &Book, bytes: &[u8], result: &Result<u
     }
 }
 
-/// The bytes of the longest kept book.
-const LONGEST_KEPT: usize = 1 + 1 + 2 + 2 + 8 * 6 + 248 * 7;
-
-/// Counts what kept bytes were that were read, or were not; by their form number if it is 1 to 3.
+/// Counts what kept bytes were that were read, or were not; by their form number if it is 1 or 2.
 pub fn kept_given(judge: &mut Judge, bytes: &[u8], result: &Result<Book, Refusal>) {
-    // form 1 for any other number too
-    let of = match bytes.first() {
-        Some(2) => 1,
-        Some(3) => 2,
-        _ => 0,
-    };
-    let head = KEPT_FORM[of].len() - 1;
+    let form_2 = bytes.first() == Some(&2);
     match result {
-        Ok(book) => kept_read(judge, of, book),
+        Ok(book) => judge.mark(match (form_2, book.count > 0, book.siou) {
+            (false, true, _) => "kept: form 1 read",
+            (false, false, _) => "kept: form 1 read, empty",
+            (true, false, _) => "kept: form 2 read, empty",
+            (true, true, None) => "kept: form 2 read, SIOU unknown",
+            (true, true, Some(511)) => "kept: form 2 read, SIOU 511",
+            (true, true, Some(_)) => "kept: form 2 read",
+        }),
         Err(Refusal::Leftover) => {
-            judge.mark(["kept: LEFTOVER, form 1", "kept: LEFTOVER, form 2", "kept: LEFTOVER, form 3"][of])
+            judge.mark(if form_2 { "kept: LEFTOVER, form 2" } else { "kept: LEFTOVER, form 1" })
         }
         Err(Refusal::Short) => {
-            let (place, form) = kept_place(bytes);
-            judge.mark(KEPT_SHORT[of][place.min(head)]);
-            if place == head - 1 && form.len() == 1 {
-                judge.mark("kept: SHORT, the second group of a count missing");
-            }
-            if place >= head + 32 {
-                judge.mark("kept: SHORT at an area behind the 32nd");
-            }
+            let names = KEPT_SHORT[usize::from(form_2)];
+            judge.mark(names[kept_place(bytes).0.min(names.len() - 1)]);
         }
         Err(Refusal::Form) => {
+            let names = KEPT_FORM[usize::from(form_2)];
             let (place, form) = kept_place(bytes);
-            judge.mark(KEPT_FORM[of][place.min(head)]);
-            let number = groups::read(form).map(|(number, _)| number);
-            match (place, number) {
-                (0, Ok(0)) => judge.mark("kept: FORM, form number 0"),
-                (0, Ok(4)) => judge.mark("kept: FORM, form number 4"),
-                (2, Ok(_)) if of > 0 && bytes[1] == 0 => {
+            judge.mark(names[place.min(names.len() - 1)]);
+            match (place, groups::read(form)) {
+                (0, Ok((0, _))) => judge.mark("kept: FORM, form number 0"),
+                (0, Ok((3, _))) => judge.mark("kept: FORM, form number 3"),
+                (2, Ok(_)) if form_2 && bytes[1] == 0 => {
                     judge.mark("kept: FORM, a SIOU without an AIOU");
                 }
-                (2, Ok(513)) if of > 0 => judge.mark("kept: FORM, SIOU + 1 of 513"),
-                (2, Err(_)) if of > 0 && form.last() == Some(&0) => {
+                (2, Ok((513, _))) if form_2 => judge.mark("kept: FORM, SIOU + 1 of 513"),
+                (2, Err(_)) if form_2 && form.last() == Some(&0) => {
                     judge.mark("kept: FORM, SIOU + 1 not in shortest form")
                 }
-                _ if place == head - 1 => kept_count(judge, of, bytes[1], number, form),
-                (_, Ok(_)) if place >= head + 32 => {
-                    judge.mark("kept: FORM at an area behind the 32nd");
-                }
                 _ => {}
-            }
-            let count = if place >= head && of == 2 { kept_number(bytes, head - 1) } else { 0 };
-            let area = number.ok().and_then(book::area_of);
-            if count == 256 && area.is_some_and(|area| area.id as usize > place - head) {
-                judge.mark("kept: FORM at an area that leaves no ID, of 256");
             }
         }
         Err(_) => {}
     }
-}
-
-/// Counts a kept book that was read, by its form, from 0 on.
-fn kept_read(judge: &mut Judge, of: usize, book: &Book) {
-    judge.mark(match (of, book.count > 0, book.siou) {
-        (0, true, _) => "kept: form 1 read",
-        (0, false, _) => "kept: form 1 read, empty",
-        (1, false, _) => "kept: form 2 read, empty",
-        (1, true, None) => "kept: form 2 read, SIOU unknown",
-        (1, true, Some(511)) => "kept: form 2 read, SIOU 511",
-        (1, true, Some(_)) => "kept: form 2 read",
-        (_, false, _) => "kept: form 3 read, empty",
-        (_, true, None) => "kept: form 3 read, SIOU unknown",
-        (_, true, Some(511)) => "kept: form 3 read, SIOU 511",
-        (_, true, Some(_)) => "kept: form 3 read",
-    });
-    judge.mark(match (of, book.count) {
-        (0, 32) => "kept: form 1 read, 32 areas",
-        (1, 32) => "kept: form 2 read, 32 areas",
-        (2, 32) => "kept: form 3 read, 32 areas",
-        (2, 33) => "kept: form 3 read, 33 areas",
-        (2, 90) => "kept: form 3 read, 90 areas",
-        (2, 127) => "kept: form 3 read, 127 areas",
-        (2, 128) => "kept: form 3 read, 128 areas",
-        (2, 255) => "kept: form 3 read, 255 areas",
-        (2, 256) => "kept: form 3 read, 256 areas",
-        _ => return,
-    });
-}
-
-/// Counts a count at which a kept book was FORM, in its groups: over the most of its form where the book has an AIOU, or not
-/// in shortest form.
-fn kept_count(judge: &mut Judge, of: usize, aiou_plus_one: u8, number: Result<u64, Refusal>, form: &[u8]) {
-    judge.mark(match (of, number, form) {
-        (0, Ok(33), _) if aiou_plus_one > 0 => "kept: FORM at the count, form 1 with 33",
-        (0, Ok(256), _) if aiou_plus_one > 0 => "kept: FORM at the count, form 1 with 256",
-        (1, Ok(33), _) if aiou_plus_one > 0 => "kept: FORM at the count, form 2 with 33",
-        (1, Ok(256), _) if aiou_plus_one > 0 => "kept: FORM at the count, form 2 with 256",
-        (2, Ok(257), _) if aiou_plus_one > 0 => "kept: FORM at the count, form 3 with 257",
-        (2, Err(_), [_, 0]) => "kept: FORM, a count of two groups, not in shortest form",
-        (2, Err(_), [_, _, 0]) => "kept: FORM, a count of three groups, not in shortest form",
-        _ => return,
-    });
-}
-
-/// The number at a place of kept bytes, where those before it and it end.
-fn kept_number(bytes: &[u8], place: usize) -> u64 {
-    let behind =
-        (0..place).fold(bytes, |rest, _| groups::read(rest).map_or(&[][..], |(_, used)| &rest[used..]));
-    groups::read(behind).map_or(0, |(number, _)| number)
 }
 
 /// How many numbers of kept bytes ended before the one at which they are FORM or SHORT; and that
@@ -1150,6 +766,9 @@ pub fn frame_taken(judge: &mut Judge, frame: &[u8], before: &Desk, after: &Desk,
             (old, new) if old.aiou == new.aiou && old.siou == new.siou => "GAD: the book grows",
             _ => "GAD: a book begins",
         });
+        if after.live.count == 32 {
+            judge.mark("GAD: a book of 32");
+        }
         return;
     }
     if header.tag_kind == 1 && header.tag >= HALF_DAY {
@@ -1250,15 +869,11 @@ pub fn unsound_by(desk: &Desk, table: &Table) -> &'static str {
         _ if table.numbers[RUN_FLAG] > 1 => "unsound: flag of the run",
         _ if table.numbers[SECOND_FLAG] > 1 => "unsound: flag of the last second",
         _ if unsound_by_siou(&desk.live, &table.live) => "unsound: live book, by its SIOU",
-        _ if unsound_by_257(&desk.live, &table.live) => UNSOUND[0],
-        _ if !book::sound(&desk.live, &table.live) && unsound_behind(&desk.live, &table.live) => UNSOUND[1],
         _ if !book::sound(&desk.live, &table.live) => "unsound: live book",
         Some(open) if open.tag >= HALF_DAY => "unsound: tag",
         Some(Run { book, .. }) if unsound_by_siou(&book, &table.run) => {
             "unsound: the run's book, by its SIOU"
         }
-        Some(Run { book, .. }) if unsound_by_257(&book, &table.run) => UNSOUND[2],
-        Some(Run { book, .. }) if unsound_behind(&book, &table.run) => UNSOUND[3],
         _ => "unsound: the run's book",
     }
 }
@@ -1283,9 +898,6 @@ pub fn entry_read(judge: &mut Judge, entry: &entries::Entry, used: usize) {
     }
     let placed = match entry {
         Entry::Opened { aiou: None, .. } => return judge.mark("entry: 1, opened without a book"),
-        Entry::Opened { count: 127, .. } => return judge.mark("entry: 1, opened with 127 areas"),
-        Entry::Opened { count: 256, .. } => return judge.mark("entry: 1, opened with 256 areas"),
-        Entry::Opened { count: 128.., .. } => return judge.mark("entry: 1, opened with 128 areas or more"),
         Entry::Opened { .. } => return judge.mark("entry: 1, opened with a book"),
         Entry::LeftOut { reason: 1, .. } => return judge.mark("entry: 3, left out by 1"),
         Entry::LeftOut { reason: 2, .. } => return judge.mark("entry: 3, left out by 2"),
@@ -1347,12 +959,9 @@ pub fn outside(judge: &mut Judge, entry: &entries::Entry) {
     }
 }
 
-/// Counts at which number an entry was too short, before it or inside it.
-pub fn short_at(judge: &mut Judge, role: Role, inside: bool) {
+/// Counts at which number an entry was too short.
+pub fn short_at(judge: &mut Judge, role: Role) {
     judge.mark(SHORT_AT[role as usize]);
-    if role == Role::Count && inside {
-        judge.mark("entry: SHORT, the second group of a count missing");
-    }
 }
 
 /// Counts after which number, in which form, no entry could follow; of a satellite's number it is known how large it may be.
@@ -1367,22 +976,12 @@ pub fn form_at(judge: &mut Judge, role: Role, form: &[u8], most: u64) {
             if role == Role::Reason && number == 6 {
                 judge.mark("entry: FORM, reason 6");
             }
-            if role == Role::Count && number == 257 {
-                judge.mark("entry: FORM, a count of 257");
-            }
             let last = if most <= 64 { 64 } else { 256 };
             if role == Role::Satellite && most < number && number <= last {
                 judge.mark("entry: FORM, a satellite that leaves too few behind it");
             }
         }
-        Err(_) if form.last() == Some(&0) => {
-            judge.mark("entry: FORM, a number not in shortest form");
-            match (role, form.len()) {
-                (Role::Count, 2) => judge.mark("entry: FORM, a count of two groups, not in shortest form"),
-                (Role::Count, 3) => judge.mark("entry: FORM, a count of three groups, not in shortest form"),
-                _ => {}
-            }
-        }
+        Err(_) if form.last() == Some(&0) => judge.mark("entry: FORM, a number not in shortest form"),
         Err(_) => judge.mark("entry: FORM, a number beyond 64 bits"),
     }
 }

@@ -131,10 +131,6 @@ fn step(
         _ => Err(Refusal::Room),
     };
     judge.number(&input, answer, number(&result));
-    let enough = places.tray >= 3 && places.told >= TOLD && places.header >= 15 && places.log >= LOG_BYTES;
-    if enough && old_bytes.len() >= LONGEST_FRAME {
-        marks::table_lent_short(judge, call, &old_table);
-    }
     if let Ok(done) = &result {
         marks::event(judge, &done.event);
         job.tray = done.state.tray;
@@ -147,10 +143,6 @@ fn step(
             header[..15].copy_from_slice(&header_of(&shown));
             let in_one = in_one(answer, place);
             judge.count_answer("prepare, of a frame", in_one);
-            judge.not_full(&input, answer);
-            if answer == 0 && done.state.desk.live.count == 256 {
-                judge.mark("prepare: a book of 256");
-            }
             if answer == Refusal::NotOurs.number() {
                 types::framed(judge, "prepare: NOT_OURS, a TBD type", &job.bytes);
             }

@@ -18,9 +18,6 @@ pub const OF_RUN: Range<usize> = 7..11;
 pub const SECOND_FLAG: usize = 11;
 pub const SECOND: usize = 12;
 
-/// The bytes of a book of 32 areas, before request 7.
-pub const BOOK_BEFORE: usize = 192;
-
 #[derive(Clone)]
 pub struct Table {
     pub numbers: Vec<u64>,
@@ -106,7 +103,6 @@ impl Table {
         let run_book = desk.run.map_or(desk.live, |open| open.book);
         let (book, bytes) = if rng.one_in(2) { (run_book, &self.run) } else { (desk.live, &self.live) };
         match book::areas(&book, bytes) {
-            Some(held) if !held.is_empty() && rng.one_in(5) => held[held.len() - 1].id as u8,
             Some(held) if !held.is_empty() && !rng.one_in(4) => rng.pick(&held).id as u8,
             _ => any as u8,
         }
@@ -141,7 +137,7 @@ pub fn any(rng: &mut Rng) -> Table {
     }
     if desk.run.is_none() {
         for place in OF_RUN {
-            table.numbers[place] = rng.pick(&[0, 1, 33, 257, 513, 43200, u64::MAX]);
+            table.numbers[place] = rng.pick(&[0, 1, 33, 513, 43200, u64::MAX]);
         }
     }
     // with flag 0 the second does not count, and is not always 0
@@ -160,25 +156,18 @@ pub fn any(rng: &mut Rng) -> Table {
     }
     match rng.below(20) {
         0 => table.numbers.truncate(rng.pick(&[0, 3, 8, 10, 11, 12])),
-        1..=3 => table.live.truncate(short(rng)),
-        4..=6 => table.run.truncate(short(rng)),
-        7 => table.numbers.push(rng.draw()),
+        1 => table.live.truncate(rng.pick(&[0, 6, 191])),
+        2 => table.run.truncate(rng.pick(&[0, 6, 191])),
+        3 => table.numbers.push(rng.draw()),
         _ => {}
     }
     table
-}
-
-/// A size that is short of a book: by one, that of a book before request 7, any.
-pub fn short(rng: &mut Rng) -> usize {
-    let any = rng.below(BOOK_BYTES as u64) as usize;
-    let (less, before) = (BOOK_BYTES - 1, BOOK_BEFORE);
-    rng.pick(&[less, less, less, before, before, before, before - 1, 6, 0, any])
 }
 
 /// A number next to a bound of some field, or one that is the old one again if it is cut to 8, 16 or 32 bits.
 fn wild(rng: &mut Rng, old: u64) -> u64 {
     let cut = old.wrapping_add(1 << rng.pick(&[8, 16, 32]));
     let small = rng.pick(&[0, 1, 2, 4, 5, 15, 16, 17, 32, 33]);
-    let large = rng.pick(&[127, 128, 255, 256, 257, 511, 512, 513, 43199, 43200, u64::MAX]);
+    let large = rng.pick(&[127, 128, 255, 511, 512, 513, 43199, 43200, u64::MAX]);
     rng.pick(&[cut, small, small, small, large, large, large])
 }

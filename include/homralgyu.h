@@ -2,7 +2,6 @@
  *
  * Each call answers with document 01's number: 0 OK, 1 SHORT, 2 PREAMBLE, 3 FRAME_CRC, 4 LENGTH, 5 MESSAGE_CRC, 6 UNKNOWN_TYPE,
  * 7 MASK_EMPTY, 8 FIELD, 9 ROOM, 10 SEALED, 11 TAG, 12 NOT_OURS, 13 AREA_OFF, 14 CONFLICT, 15 BOOK_FULL, 16 LEFTOVER, 17 STATE, 18 FORM.
- * BOOK_FULL would be a 257th area ID, and SF031 has 256 values.
  * A call that returns a uint64_t also says where a payload or a sheet is at fault: it answers number + 2^8 * SF number + 2^32 * place. The
  * place is where the entry of that field begins, for SHORT where it would begin: a bit of the payload or an entry of the sheet, as the call
  * says, counted from 0. SHORT, FIELD and MASK_EMPTY carry a place where a payload or a sheet is refused by them. All other refusals carry
@@ -38,12 +37,12 @@
 extern "C" {
 #endif
 
-/* The sizes of documents 01 and 02 that a caller lends by: bytes, and entries of a sheet. */
+/* The sizes of document 01 that a caller lends by: bytes, and entries of a sheet. */
 #define HOMRALGYU_LONGEST_PAYLOAD 1023
 #define HOMRALGYU_LONGEST_FRAME 1103 /* also a tray */
 #define HOMRALGYU_SHEET_ROOM 8184
-#define HOMRALGYU_BOOK_BYTES 1536
-#define HOMRALGYU_KEPT_ROOM 1798
+#define HOMRALGYU_BOOK_BYTES 192
+#define HOMRALGYU_KEPT_ROOM 229
 #define HOMRALGYU_LOG_ROOM 4096
 
 /* An answer of 64 bits, taken apart: document 01's number; the number of the field at fault, 20 for SF020, or 0 if there is no place; and
@@ -140,32 +139,31 @@ uint8_t homralgyu_stream_call(uint8_t *bytes, size_t bytes_len, uint64_t *tray, 
 uint8_t homralgyu_stream_finish(uint8_t *bytes, size_t bytes_len, uint64_t *tray, size_t tray_len, uint64_t *told, size_t told_len,
                                 uint64_t *header, size_t header_len);
 
-/* A book is three numbers and 1,536 bytes, six an area. The first two are those of the GAD that filled it. Without areas it has neither: neither
+/* A book is three numbers and 192 bytes, six an area. The first two are those of the GAD that filled it. Without areas it has neither: neither
  * number counts, and both are written as 0. With areas, an AIOU over 15 or a SIOU + 1 over 512 is STATE. */
 enum homralgyu_book {
     HOMRALGYU_BOOK_AIOU,          /* SF068, 0 to 15 */
     HOMRALGYU_BOOK_SIOU_PLUS_ONE, /* SF005 + 1, 1 to 512; or 0, the SIOU is unknown */
-    HOMRALGYU_BOOK_AREAS,         /* their count, 0 to 256 */
+    HOMRALGYU_BOOK_AREAS,         /* their count, 0 to 32 */
     HOMRALGYU_BOOK                /* the room that the numbers want: 3 */
 };
 
 /* Takes the payload of a GAD into the book, whole or not at all. A GAD with another AIOU or another SIOU than the book's begins a new book, one with
  * both the same adds to it. Over a book of unknown SIOU every SIOU is another.
- * Refusals in order: ROOM (book, 3; bytes, 1,536), STATE (the book is not sound), LENGTH, the payload's first fault (SHORT or FIELD, with SF
+ * Refusals in order: ROOM (book, 3; bytes, 192), STATE (the book is not sound), LENGTH, the payload's first fault (SHORT or FIELD, with SF
  * number and bit of the payload), then at the first faulty block AREA_OFF, CONFLICT, BOOK_FULL, without a place.
  * Writes the book's numbers, and six bytes an area. */
 uint64_t homralgyu_book_take(uint64_t *book, size_t book_len, uint8_t *bytes, size_t bytes_len, const uint8_t *payload,
                              size_t payload_len);
 
-/* Writes a book as a kept book, of form 3.
- * Refusals in order: ROOM (book, 3; written, 1; bytes, 1,536; out, 1,798), STATE (the book is not sound).
+/* Writes a book as a kept book, of form 2.
+ * Refusals in order: ROOM (book, 3; written, 1; bytes, 192; out, 229), STATE (the book is not sound).
  * Writes the kept book into out, and how many bytes it has into written. */
 uint8_t homralgyu_kept_write(const uint64_t *book, size_t book_len, const uint8_t *bytes, size_t bytes_len, uint8_t *out,
                              size_t out_len, uint64_t *written, size_t written_len);
 
-/* Reads a kept book, of form 1, 2 or 3. One of form 1, which has no SIOU, is a book of unknown SIOU; in forms 1 and 2 more than 32 areas are FORM.
- * Older versions of this call read no form above their own, 1 or 2: to a book of form 3 they answer FORM, and write nothing.
- * Refusals in order: ROOM (book, 3; bytes, 1,536), the first fault in reading order, SHORT or FORM, then LEFTOVER.
+/* Reads a kept book, of form 1 or 2. One of form 1, which has no SIOU, is a book of unknown SIOU.
+ * Refusals in order: ROOM (book, 3; bytes, 192), the first fault in reading order, SHORT or FORM, then LEFTOVER.
  * Writes the book's numbers, and six bytes an area. */
 uint8_t homralgyu_kept_read(const uint8_t *kept, size_t kept_len, uint64_t *book, size_t book_len, uint8_t *bytes, size_t bytes_len);
 
@@ -237,7 +235,7 @@ uint64_t homralgyu_hpac_area(uint8_t subtype, uint8_t id, const uint64_t *sheet,
 uint64_t homralgyu_bpac_area(uint8_t id, const uint64_t *sheet, size_t sheet_len, uint64_t *view, size_t view_len, double *floats,
                              size_t floats_len);
 
-/* A desk is thirteen numbers and the bytes of two books, 1,536 each: the live book's and the run's. The three numbers of a book stand together as enum
+/* A desk is thirteen numbers and the bytes of two books, 192 each: the live book's and the run's. The three numbers of a book stand together as enum
  * homralgyu_book has them: &desk[HOMRALGYU_DESK_AIOU] is the live book to be kept. */
 enum homralgyu_desk {
     HOMRALGYU_DESK_SOLUTION,      /* TF010, 0 to 127 */
@@ -279,7 +277,7 @@ enum homralgyu_desk {
  *     is;
  *   - the copy of an open run has no second: a message of its tag is told by it after any outage, also one of 510 seconds, after which SF005 has
  *     the solution taken as changed, and one of twelve hours, after which the tag comes round;
- *   - a book that was kept in form 1 has an unknown SIOU: it is looked up as ever, but no area of it is ever placed, and the next GAD that
+ *   - a book that an older version kept (form 1) has an unknown SIOU: it is looked up as ever, but no area of it is ever placed, and the next GAD that
  *     is taken begins a new one;
  *   - a book places by its own SIOU alone. Where the SIOU of HPAC messages moves on, none of their areas is placed until a GAD of the new SIOU has
  *     come and after it a run has opened. */
@@ -290,14 +288,14 @@ enum homralgyu_desk {
 uint8_t homralgyu_desk_new(uint8_t solution, uint8_t processor, uint8_t constellation, uint64_t *desk, size_t desk_len);
 
 /* Whether a desk and its two books are sound: 0 if they are.
- * Refusals in order: ROOM (desk, 13; live, 1,536; run, 1,536), STATE (a number out of its range, an unsound live book, or, if a run is open, an
+ * Refusals in order: ROOM (desk, 13; live, 192; run, 192), STATE (a number out of its range, an unsound live book, or, if a run is open, an
  * unsound book of the run). */
 uint8_t homralgyu_desk_is_sound(const uint64_t *desk, size_t desk_len, const uint8_t *live, size_t live_len, const uint8_t *run,
                                 size_t run_len);
 
 /* Takes a frame that came in at this second: a GAD into the live book; an HPAC message into the run log by the run's book, after opening a run if
  * its tag is another; after a gap with an empty live book.
- * Refusals in order: ROOM (desk, 13; written, 1; live, 1,536; run, 1,536; log, 4,096), STATE (the desk is not sound), those of homralgyu_frame_check,
+ * Refusals in order: ROOM (desk, 13; written, 1; live, 192; run, 192; log, 4,096), STATE (the desk is not sound), those of homralgyu_frame_check,
  * NOT_OURS, SEALED, the payload's first fault (SHORT, FIELD or MASK_EMPTY, with SF number and bit of the frame's payload, counted from its first
  * bit), then for HPAC TAG, for GAD AREA_OFF, CONFLICT, BOOK_FULL, without a place. SHORT with SF number 0 is the frame's own.
  * Writes the desk, of both books bytes of areas that they hold, the entries of the run log into log, and how many bytes they have into written. */
@@ -307,14 +305,14 @@ uint64_t homralgyu_desk_take(const uint8_t *frame, size_t frame_len, uint64_t se
 
 /* Takes a book (three numbers and its bytes, as homralgyu_kept_read gives them) as the live book. An open run stays as it is, and so does the
  * second of the last accepted frame.
- * Refusals in order: ROOM (desk, 13; book, 3; bytes, 1,536; live, 1,536; run, 1,536), STATE (the desk or the book is not sound).
+ * Refusals in order: ROOM (desk, 13; book, 3; bytes, 192; live, 192; run, 192), STATE (the desk or the book is not sound).
  * Writes the desk, and six bytes an area into live. */
 uint8_t homralgyu_desk_take_book(uint64_t *desk, size_t desk_len, uint8_t *live, size_t live_len, const uint8_t *run, size_t run_len,
                                  const uint64_t *book, size_t book_len, const uint8_t *bytes, size_t bytes_len);
 
 /* Looks an area up by its ID: out of the run's book if a run is open, else out of the live book.
  * Refusals: ROOM (area, 6; found, 1).
- * Writes the area's six bytes into area, and 6 into found. An absent ID, a desk under thirteen numbers, a book under 1,536 bytes, and a desk or book
+ * Writes the area's six bytes into area, and 6 into found. An absent ID, a desk under thirteen numbers, a book under 192 bytes, and a desk or book
  * that is not sound are no refusals: 0 is written into found, and nothing into area. */
 uint8_t homralgyu_desk_find(const uint64_t *desk, size_t desk_len, const uint8_t *live, size_t live_len, const uint8_t *run,
                             size_t run_len, uint8_t id, uint8_t *area, size_t area_len, uint64_t *found, size_t found_len);
@@ -338,7 +336,7 @@ enum homralgyu_told {
 /* homralgyu_prepare_call takes input until an event is due or all of it is used, and gives a frame to the desk, with this second;
  * homralgyu_prepare_finish is called at the stream's end until it says done. Tray and its bytes are those of homralgyu_stream_call, desk and
  * the bytes of its two books, live and run, those of homralgyu_desk_take.
- * Refusals in order: ROOM (tray, 3; desk, 13; told, 7; header, 15; bytes, 1,103; live, 1,536; run, 1,536; log, 4,096), STATE (the tray or
+ * Refusals in order: ROOM (tray, 3; desk, 13; told, 7; header, 15; bytes, 1,103; live, 192; run, 192; log, 4,096), STATE (the tray or
  * the desk is not sound). A frame that the desk refuses is an event like another, with the refusal's number and place in told, as
  * homralgyu_desk_take has them; books and log stay.
  * Writes the tray and its bytes, the desk and its books, told, and the frame's entries of the run log from the log's start on. Of a
@@ -358,7 +356,7 @@ enum homralgyu_entry {
     HOMRALGYU_ENTRY_USED,          /* bytes that the entry takes */
     HOMRALGYU_ENTRY_TAG,           /* of a run: its tag, */
     HOMRALGYU_ENTRY_AIOU_PLUS_ONE, /* AIOU + 1, 0 without a book, */
-    HOMRALGYU_ENTRY_COUNT,         /* the count of areas in its book, 0 to 256; nothing more is written */
+    HOMRALGYU_ENTRY_COUNT,         /* the count of areas in its book; nothing more is written */
     HOMRALGYU_ENTRY_ID = 2,        /* of an area: its ID, */
     HOMRALGYU_ENTRY_REASON,        /* if it is left out the reason, 1 to 5 as below, and nothing more is written; */
     HOMRALGYU_ENTRY_BITS = 3,      /* if it is placed the 47 bits as a number, which lie as below, */

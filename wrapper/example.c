@@ -2,8 +2,7 @@
  * then a desk is made, the same stream is prepared, a portion a second, and each event is printed with the log bytes that it adds, and these are
  * read back entry by entry; of the last message a byte is lost, and the desk says where it ends too early. Then an area is looked up, a message
  * comes before and after a gap, the provider restarts its solver while a run is open, and the book is kept and taken in by a second desk, and one
- * that was kept in form 1 by a third. A fourth has a book of 256 areas, which a fifth takes. Last come views of two sheets, and where a third is at
- * fault. */
+ * that an older version kept by a third. Last come views of two sheets, and where a third is at fault. */
 #include "homralgyu.h"
 
 #include <stdio.h>
@@ -365,7 +364,7 @@ static void hand_over(const struct job *from, struct job *to)
     take_kept(to, kept, written[0]);
 }
 
-/* The same book as it was kept at first, in form 1, which has no SIOU: no area of it is ever placed. */
+/* The same book as an older version kept it, in form 1, which has no SIOU: no area of it is ever placed. */
 static void take_older(struct job *to)
 {
     const uint8_t kept[] = {0x01, 0x04, 0x01, 0x80, 0xC0, 0x80, 0x80, 0x84, 0x57};
@@ -373,37 +372,6 @@ static void take_older(struct job *to)
     take_message(to, 0, 9);
     take_definition(to, 0);
     take_message(to, 0, 10);
-}
-
-/* A book of a whole continent: eight GADs of 32 areas each, one area for each ID that there is. It is kept, its count in two groups, and taken in by another
- * desk; in form 2, which is still read, 33 areas are FORM. */
-static void take_continent(struct job *from, struct job *to)
-{
-    const uint8_t many[] = {0x02, 0x04, 0x00, 33};
-    uint8_t kept[HOMRALGYU_KEPT_ROOM], bytes[HOMRALGYU_BOOK_BYTES];
-    uint64_t gad[4 + 7 * 32] = {0, 3, 0, 31}, book[HOMRALGYU_BOOK], written[1];
-    for (unsigned first = 0; first < 256; first += 32) {
-        struct input frame = {.size = 0};
-        for (unsigned i = 0; i < 32; i++) {
-            const uint64_t block[] = {first + i, 900, 0, 1, 0, 0, 0};
-            memcpy(&gad[4 + 7 * i], block, sizeof block);
-        }
-        add(&frame, GAD, SOLUTION, 0, gad, sizeof gad / sizeof *gad);
-        take(from, &frame);
-    }
-    take_message(from, 0, 11);
-    must(homralgyu_kept_write(&from->desk[HOMRALGYU_DESK_AIOU], HOMRALGYU_BOOK, from->live, sizeof from->live, kept, sizeof kept,
-                              written, 1),
-         "kept_write");
-    printf("kept in %u bytes\n", (unsigned)written[0]);
-    print_bytes("the first", kept, 6);
-    must(homralgyu_kept_read(kept, written[0], book, HOMRALGYU_BOOK, bytes, sizeof bytes), "kept_read");
-    tell_book("read", book);
-    must(homralgyu_desk_take_book(to->desk, HOMRALGYU_DESK, to->live, sizeof to->live, to->run, sizeof to->run, book, HOMRALGYU_BOOK,
-                                  bytes, sizeof bytes),
-         "desk_take_book");
-    take_message(to, 0, 12);
-    printf("33 areas in form 2: %u\n", homralgyu_kept_read(many, sizeof many, book, HOMRALGYU_BOOK, bytes, sizeof bytes));
 }
 
 /* An area of a GAD in degrees, and a satellite with an orbit block and its yaw. */
@@ -440,7 +408,7 @@ static void look_wrong(void)
 
 int main(void)
 {
-    static struct job stream, job, next, last, whole, other; /* zeros: a tray has to start so */
+    static struct job stream, job, next, last; /* zeros: a tray has to start so */
     static struct input input;
     make_input(&input);
     listen(&stream, &input);
@@ -448,8 +416,6 @@ int main(void)
     must(homralgyu_desk_new(SOLUTION, PROCESSOR, GPS, job.desk, HOMRALGYU_DESK), "desk_new");
     must(homralgyu_desk_new(SOLUTION, PROCESSOR, GPS, next.desk, HOMRALGYU_DESK), "desk_new");
     must(homralgyu_desk_new(SOLUTION, PROCESSOR, GPS, last.desk, HOMRALGYU_DESK), "desk_new");
-    must(homralgyu_desk_new(SOLUTION, PROCESSOR, GPS, whole.desk, HOMRALGYU_DESK), "desk_new");
-    must(homralgyu_desk_new(SOLUTION, PROCESSOR, GPS, other.desk, HOMRALGYU_DESK), "desk_new");
     prepare(&job, &input);
     find(&job, 5);
     find(&job, 6);
@@ -458,7 +424,6 @@ int main(void)
     hand_over(&job, &next);
     find(&next, 5);
     take_older(&last);
-    take_continent(&whole, &other);
     look();
     look_wrong();
     return 0;

@@ -1,6 +1,6 @@
 //! The wrapper in use: a frame written, found in a stream behind three bytes of noise, and its payload read; where a payload and a sheet are at fault;
 //! then a desk that takes two messages, the run log read back, a desk before and after a gap, one whose provider restarts its
-//! solver, a book kept and an older one read, a book of a whole continent, and views of two sheets.
+//! solver, a book kept and an older one read, and views of two sheets.
 
 use homralgyu::{Book, Desk, Entry, Event, Fault, Parts, Stream};
 
@@ -164,7 +164,7 @@ fn restart() -> Result<(), Fault> {
     keep(&desk)
 }
 
-/// The live book kept, and one that was kept in form 1, which has no SIOU: no area of it is ever placed.
+/// The live book kept, and one that an older version kept, in form 1, which has no SIOU: no area of it is ever placed.
 fn keep(desk: &Desk) -> Result<(), Fault> {
     let mut kept = [0; homralgyu::KEPT_ROOM];
     let written = desk.book().keep(&mut kept)?;
@@ -176,27 +176,7 @@ fn keep(desk: &Desk) -> Result<(), Fault> {
     desk.take_book(&older)?;
     tell(&mut desk, 299, 102)?;
     desk.take(&definition_by(299)?, 1000, &mut [0; homralgyu::LOG_ROOM])?;
-    tell(&mut desk, 299, 103)?;
-    continent()
-}
-
-/// A book of a whole continent: eight GADs of 32 areas each, one area for each ID that there is. Kept, its count takes two
-/// groups; the earlier forms, 1 and 2, have 32 areas at most.
-fn continent() -> Result<(), Fault> {
-    let mut desk = Desk::new(5, 11, 0)?;
-    for first in (0..256).step_by(32) {
-        let mut sheet = vec![299, 3, 0, 31];
-        (first..first + 32).for_each(|id| sheet.extend([id, 900, 0, 1, 0, 0, 0]));
-        desk.take(&framed(2, 0, &payload_of(2, &sheet)?.0)?, 1000, &mut [0; homralgyu::LOG_ROOM])?;
-    }
-    tell(&mut desk, 299, 104)?;
-    let mut kept = [0; homralgyu::KEPT_ROOM];
-    let written = desk.book().keep(&mut kept)?;
-    println!("kept in {written} bytes, the first {:02X?}", &kept[..6]);
-    let back = Book::kept(&kept[..written])?;
-    println!("read back: {} areas, area 255 {:02X?}", back.areas().len() / 6, back.find(255));
-    println!("33 areas in form 2: {:?}", Book::kept(&[0x02, 0x04, 0x00, 33]).err());
-    Ok(())
+    tell(&mut desk, 299, 103)
 }
 
 /// The run log entry by entry, with the residuals of each area that is placed.

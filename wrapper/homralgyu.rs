@@ -29,9 +29,9 @@ pub const LONGEST_FRAME: usize = 1103;
 /// The entries that reading a payload wants.
 pub const SHEET_ROOM: usize = 8184;
 /// The bytes of a book.
-pub const BOOK_BYTES: usize = 1536;
+pub const BOOK_BYTES: usize = 192;
 /// The bytes that writing a kept book wants.
-pub const KEPT_ROOM: usize = 1798;
+pub const KEPT_ROOM: usize = 229;
 /// The bytes of log that a frame wants.
 pub const LOG_ROOM: usize = 4096;
 
@@ -1249,8 +1249,8 @@ impl Book {
         (self.numbers[2] != 0).then_some(self.numbers[0] as u8)
     }
 
-    /// SF005 of the GAD that filled the book; none if it is unknown, as in an empty book, and in one that was kept in form
-    /// 1. No area of a book of unknown SIOU is ever placed: the next GAD that is taken begins a new one.
+    /// SF005 of the GAD that filled the book; none if it is unknown, as in an empty book, and in one that an older version
+    /// kept. No area of a book of unknown SIOU is ever placed: the next GAD that is taken begins a new one.
     pub fn siou(&self) -> Option<u16> {
         (self.numbers[1] != 0).then(|| (self.numbers[1] - 1) as u16)
     }
@@ -1260,15 +1260,14 @@ impl Book {
         &self.bytes[..6 * self.numbers[2] as usize]
     }
 
-    /// Writes the book as a kept book, of form 3, into `KEPT_ROOM` bytes or more: the bytes written.
+    /// Writes the book as a kept book, of form 2, into `KEPT_ROOM` bytes or more: the bytes written.
     pub fn keep(&self, out: &mut [u8]) -> Result<usize, Refusal> {
         let mut written = [0];
         answer(raw::kept_write(&self.numbers, &self.bytes, out, &mut written), ())
             .map(|()| written[0] as usize)
     }
 
-    /// The book that a kept book holds, of form 1, 2 or 3; one of form 1 has an unknown SIOU, and more than 32 areas are FORM in
-    /// forms 1 and 2.
+    /// The book that a kept book holds, of form 1 or 2; one of form 1 has an unknown SIOU.
     pub fn kept(kept: &[u8]) -> Result<Book, Refusal> {
         let mut book = Book::new();
         answer(raw::kept_read(kept, &mut book.numbers, &mut book.bytes), ())?;
@@ -1343,7 +1342,7 @@ impl Desk {
     /// Takes a book, as one that was kept, as the live book; an open run stays as it is, and so does the second of the last
     /// accepted frame. A book taken before any frame was accepted is used however old it is, since no frame has dated it;
     /// one taken later counts as old as the last accepted frame: if the next accepted one comes 450 seconds or more after
-    /// that, the book is emptied, however new it is. One that was kept in form 1 places nothing until a GAD comes.
+    /// that, the book is emptied, however new it is. One that an older version kept places nothing until a GAD comes.
     pub fn take_book(&mut self, book: &Book) -> Result<(), Refusal> {
         let number =
             raw::desk_take_book(&mut self.numbers, &mut self.live, &self.run, &book.numbers, &book.bytes);

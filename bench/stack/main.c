@@ -1,5 +1,5 @@
 /* How much stack the calls take, beside what the caller lends: each runs on a stack of its own, painted before and looked at behind, over messages
- * of every type, accepted and refused, on desks without a book and with books of 32, 224 and 256 areas. What is counted is all below the place of the call: arguments that go by the stack and the return address
+ * of every type, accepted and refused. What is counted is all below the place of the call: arguments that go by the stack and the return address
  * too. Prints a line a call: its name, the most bytes that it took, and on which input (bench/stack/report reads it). Exits with 2 if an input is
  * not what it should be, so that nothing was measured. */
 #define _XOPEN_SOURCE 700
@@ -9,13 +9,6 @@
 #include <ucontext.h>
 
 enum { ROOM = 128 * 1024, PAINT = 0xA5, AIOU = 3, SIOU = 5, TAG = 100, SOLUTION = 5, PROCESSOR = 11 };
-
-/* A book of every area is filled by GADs of 32 each, one of which has its middle. */
-enum { MOST_AREAS = HOMRALGYU_BOOK_BYTES / 6, BLOCKS = 32, PARTS = MOST_AREAS / BLOCKS, MIDDLE = PARTS / 2 - 1 };
-
-/* Of a desk: new; with a live book of 32 areas, and with an open run too; the same with 256 areas; with an open run and 224 areas in both books, all
- * but the middle. */
-enum { NEW, BOOK_32, RUN_32, BOOK_256, RUN_256, RUN_224, STATES };
 
 static unsigned char stack[ROOM];
 static ucontext_t here, there;
@@ -34,7 +27,7 @@ struct input {
     size_t length;
 };
 
-static struct input inputs[32], parts[PARTS];
+static struct input inputs[32];
 static size_t made;
 static struct input *at;
 static int wrong;
@@ -106,24 +99,13 @@ static void hpac(const char *name, uint64_t areas, uint64_t id, uint64_t points,
     end();
 }
 
-/* Areas from an ID on, so many apart, with rows and columns, as codes, and their reference corner as far south as told. */
-static void blocks(uint64_t id, uint64_t apart, uint64_t rows, uint64_t latitude) {
-    code(SIOU), code(AIOU), code(0), code(BLOCKS - 1);
-    for (int area = 0; area < BLOCKS; area++, id += apart)
-        code(id), code(latitude), code(10 * id / 7), code(rows), code(7), code(9), code(9);
-    end();
-}
-
-static void gad(const char *name, uint64_t rows, uint64_t latitude) {
+/* So many areas with rows and columns, as codes, and their reference corner as far south as told. */
+static void gad(const char *name, uint64_t areas, uint64_t rows, uint64_t latitude) {
     begin(name, 2, 0);
-    blocks(7, 7, rows, latitude);
-}
-
-/* A part of the book of every area, which says the same of an ID as the GAD of 32 does. */
-static void gad_part(struct input *to, const char *name, uint64_t i) {
-    at = to;
-    at->name = name, at->kind = 2;
-    blocks(BLOCKS * i, 1, 7, 1800);
+    code(SIOU), code(AIOU), code(0), code(areas - 1);
+    for (uint64_t area = 1; area <= areas; area++)
+        code(7 * area), code(latitude), code(10 * area), code(rows), code(7), code(9), code(9);
+    end();
 }
 
 static void bpac(void) {
@@ -165,7 +147,7 @@ static void another(const struct input *of, const char *name) {
     end();
 }
 
-static struct input *known, *placed, *renewed, *outdated, *middle, *later;
+static struct input *known, *placed, *renewed, *outdated;
 
 static void make(void) {
     ocb("OCB of GPS, 16 satellites", 0, 0xFFFF, 0x7FF, 11);
@@ -176,13 +158,10 @@ static void make(void) {
     hpac("HPAC, no grids, 6 areas", 6, 7, 64, 1);
     struct input *plain = at;
     hpac("HPAC, an area left out", 1, 8, 64, 2);
-    gad("GAD of 32", 7, 1800);
+    gad("GAD of 32", 32, 7, 1800);
     known = at;
-    gad("GAD in conflict", 6, 1800);
-    gad("GAD off", 7, 0);
-    gad_part(&inputs[made++], "GAD of 32 in the middle", MIDDLE);
-    middle = at;
-    for (uint64_t i = 0; i < PARTS; i++) gad_part(&parts[i], "GAD of a book of 256", i);
+    gad("GAD in conflict", 32, 6, 1800);
+    gad("GAD off", 32, 7, 0);
     bpac();
     struct input *vtec = at;
     cut(rich, "OCB, cut");
@@ -196,7 +175,6 @@ static void make(void) {
     renewed = at;
     another(placed, "HPAC of another SIOU");
     outdated = at;
-    later = again(placed, "HPAC, another tag"), frame_of(TAG + 1, SOLUTION);
     again(placed, "HPAC, a tag out of range"), frame_of(43200, SOLUTION);
     again(placed, "HPAC, another solution"), frame_of(TAG, SOLUTION + 1);
     again(placed, "HPAC, damaged")->frame[30] ^= 4;
@@ -238,7 +216,7 @@ static void on_frame_write(void) {
                                    written, 1);
 }
 static void on_book_take(void) { answer = homralgyu_book_take(book, HOMRALGYU_BOOK, live, sizeof live, at->payload, at->bytes); }
-static void on_kept_write(void) { answer = homralgyu_kept_write(book, HOMRALGYU_BOOK, live, sizeof live, kept, sizeof kept, written, 1); }
+static void on_kept_write(void) { answer = homralgyu_kept_write(book, HOMRALGYU_BOOK, live, sizeof live, out, sizeof out, written, 1); }
 static void on_kept_read(void) { answer = homralgyu_kept_read(kept, kept_bytes, book, HOMRALGYU_BOOK, live, sizeof live); }
 static void on_satellite_at(void) {
     answer = homralgyu_satellite_at(at->subtype, at->sheet, at->entries, place, view, HOMRALGYU_SATELLITE, floats, HOMRALGYU_SATELLITE_FLOATS);
@@ -275,7 +253,7 @@ static void on_entry_residual(void) { answer = homralgyu_entry_residual(entries,
     X(entry_satellite) X(entry_residual) X(satellite_at) X(gad_area) X(hpac_area) X(bpac_area) X(value) X(orbit) X(desk_new)            \
     X(desk_is_sound) X(desk_take_book) X(desk_find) X(book_find)
 #define INDEX(name) IS_##name,
-#define ROW(name) {#name, on_##name, 0, "", ""},
+#define ROW(name) {#name, on_##name, 0, ""},
 
 enum { EVERY(INDEX) CALLS };
 
@@ -283,12 +261,8 @@ static struct most {
     const char *name;
     void (*call)(void);
     size_t bytes;
-    const char *input, *books;
+    const char *input;
 } calls[] = {EVERY(ROW)};
-
-/* What is said of the desk's books beside an input, if they are large. */
-static const char *const BOOKS[STATES] = {[BOOK_256] = ", a book of 256", [RUN_256] = ", two books of 256", [RUN_224] = ", two books of 224"};
-static const char *beside = "";
 
 /* The call is made on the other stack, which is left from there and not behind it: so nothing but the call writes below. */
 static void (*calling)(void);
@@ -314,24 +288,17 @@ static size_t taken(void (*f)(void)) {
 
 static void measure(int call, const char *input) {
     size_t used = taken(calls[call].call) - base;
-    if (used > calls[call].bytes) calls[call].bytes = used, calls[call].input = input, calls[call].books = beside;
+    if (used > calls[call].bytes) calls[call].bytes = used, calls[call].input = input;
 }
 
-static void take(struct input *frame) {
-    struct input *now = at;
-    at = frame, on_desk_take(), expect(answer == 0, "the desk does not take it");
-    at = now;
-}
-
-/* A tray at the start, and a desk in a state. */
+/* A tray and a desk at the start; the desk with a book of 32 areas, and with an open run too. */
 static void fresh(int state) {
     memset(bytes, 0, sizeof bytes), memset(tray, 0, sizeof tray);
     homralgyu_desk_new(SOLUTION, PROCESSOR, 0, desk, HOMRALGYU_DESK);
-    if (state == BOOK_32 || state == RUN_32) take(known);
-    for (int i = 0; state >= BOOK_256 && i < PARTS; i++)
-        if (state != RUN_224 || i != MIDDLE) take(&parts[i]);
-    if (state == RUN_32 || state >= RUN_256) take(placed);
-    beside = BOOKS[state] ? BOOKS[state] : "";
+    struct input *now = at;
+    if (state >= 1) at = known, on_desk_take(), expect(answer == 0, "the book is not taken");
+    if (state >= 2) at = placed, on_desk_take(), expect(answer == 0, "the message is not taken");
+    at = now;
 }
 
 /* The bytes in portions, then the end. */
@@ -399,44 +366,15 @@ static void lookups(const char *name) {
     measure(IS_desk_new, name);
 }
 
-/* The kept book as older versions kept it: form 2, which is the same but for its number, and form 1, without the SIOU, whose number has one byte here.
- * Both have at most 32 areas: more of them are FORM. */
+/* The kept book as an older version kept it: form 1, without the SIOU, whose number has one byte here. */
 static void older(void) {
-    static uint8_t newer[sizeof kept];
-    int few = book[HOMRALGYU_BOOK_AREAS] <= 32;
-    uint64_t expected = few ? 0 : 18;
+    uint8_t newer[sizeof kept];
     memcpy(newer, kept, sizeof kept);
-    kept[0] = 2;
-    measure(IS_kept_read, few ? "a kept book of form 2" : "a kept book of form 2 with 256 areas");
-    expect(answer == expected && book[HOMRALGYU_BOOK_SIOU_PLUS_ONE] != 0, "a kept book of form 2");
     kept[0] = 1;
     memmove(kept + 2, kept + 3, --kept_bytes - 2);
-    measure(IS_kept_read, few ? "a kept book of form 1" : "a kept book of form 1 with 256 areas");
-    expect(answer == expected && (book[HOMRALGYU_BOOK_SIOU_PLUS_ONE] == 0) == few, "a kept book of form 1");
+    measure(IS_kept_read, "a kept book of form 1");
+    expect(answer == 0 && book[HOMRALGYU_BOOK_SIOU_PLUS_ONE] == 0, "a kept book of form 1 does not read");
     memcpy(kept, newer, sizeof kept), kept_bytes++;
-}
-
-/* A sound book kept, read again, cut, going on, in older forms, and of no form; and one that is not sound. */
-static void keeping(const char *name) {
-    measure(IS_kept_write, name);
-    expect(answer == 0 && kept[0] == 3, "the book is not kept");
-    kept_bytes = written[0];
-    measure(IS_kept_read, name);
-    expect(answer == 0, "the kept book does not read");
-    kept_bytes--;
-    measure(IS_kept_read, "a kept book, cut");
-    expect(answer == 1, "a kept book, cut, is not SHORT");
-    kept_bytes += 2;
-    measure(IS_kept_read, "a kept book that goes on");
-    expect(answer == 16, "a kept book that goes on is not LEFTOVER");
-    kept_bytes--;
-    older();
-    kept[1] = 99;
-    measure(IS_kept_read, "a kept book of no form");
-    expect(answer == 18, "a kept book of no form reads");
-    book[HOMRALGYU_BOOK_AREAS] = MOST_AREAS + 1;
-    measure(IS_kept_write, "a book that is not sound");
-    expect(answer == 17, "a book that is not sound is kept");
 }
 
 static void books(void) {
@@ -449,30 +387,21 @@ static void books(void) {
     homralgyu_desk_new(SOLUTION, PROCESSOR, 0, desk, HOMRALGYU_DESK);
     measure(IS_desk_take_book, at->name);
     expect(answer == 0, "the desk does not take the book");
-    keeping(at->name);
-}
-
-/* The same with a book of every area, whose middle comes last. */
-static void whole_book(void) {
-    memset(book, 0, sizeof book), memset(live, 0, sizeof live), beside = "";
-    for (int i = 0; i < PARTS; i++) {
-        at = &parts[i];
-        if (i != MIDDLE) on_book_take(), expect(answer == 0, "the book does not take a part");
-    }
-    at = middle;
-    measure(IS_book_take, "GAD of 32 in the middle of a book of 256");
-    expect(answer == 0 && book[HOMRALGYU_BOOK_AREAS] == MOST_AREAS, "the book does not take its middle");
-    measure(IS_book_take, "GAD of 32 that a book of 256 has");
-    expect(answer == 0 && book[HOMRALGYU_BOOK_AREAS] == MOST_AREAS, "the book does not take what it has");
-    for (int i = 0; i < MOST_AREAS; i++) {
-        id = (uint8_t)i;
-        measure(IS_book_find, "a book of 256");
-        expect(found[0] == 6 && area[0] == id, "an area is not found");
-    }
-    memcpy(held, live, sizeof held);
-    fresh(RUN_256), beside = "", measure(IS_desk_take_book, "a book of 256");
-    expect(answer == 0, "the desk does not take the book of 256");
-    keeping("a book of 256");
+    measure(IS_kept_write, at->name);
+    expect(answer == 0, "the book is not kept");
+    kept_bytes = written[0];
+    memcpy(kept, out, sizeof kept);
+    measure(IS_kept_read, at->name);
+    expect(answer == 0, "the kept book does not read");
+    kept_bytes--;
+    measure(IS_kept_read, "a kept book, cut");
+    kept_bytes++;
+    older();
+    kept[1] = 99;
+    measure(IS_kept_read, "a kept book of no form");
+    expect(answer != 0, "a kept book of no form reads");
+    book[HOMRALGYU_BOOK_AREAS] = 33;
+    measure(IS_kept_write, "a book that is not sound");
 }
 
 static void put(uint64_t x) {
@@ -511,7 +440,7 @@ static void run_log(void) {
 
 static void all(void) {
     for (size_t i = 0; i < made; i++) {
-        at = &inputs[i], beside = "";
+        at = &inputs[i];
         measure(IS_payload_judge, at->name);
         measure(IS_payload_read, at->name);
         measure(IS_sheet_judge, at->name);
@@ -520,13 +449,12 @@ static void all(void) {
         measure(IS_frame_write, at->name);
         views();
         if (at->kind == 2) books();
-        for (int state = 0; state < STATES; state++) {
+        for (int state = 0; state < 3; state++) {
             fresh(state), measure(IS_desk_take, at->name);
             lookups(at->name);
             streams(state);
         }
     }
-    whole_book();
     at = NULL;
     values();
     run_log();
@@ -541,15 +469,10 @@ static void answers(void) {
         if (refused) expect(homralgyu_sf(answer) != 0, "the payload's refusal has no place");
         on_sheet_judge(), expect((answer != 0) == (refused || strstr(at->name, "goes on")), "the sheet's answer");
     }
-    at = placed, fresh(BOOK_32), on_desk_take(), expect(answer == 0 && written[0] > 600, "the area is not placed");
-    at = outdated, fresh(RUN_32), on_desk_take(), expect(answer == 0 && written[0] == 3 && log_[2] == 5, "the area is not left out for its SIOU");
-    at = renewed, fresh(RUN_32), on_desk_take();
+    at = placed, fresh(1), on_desk_take(), expect(answer == 0 && written[0] > 600, "the area is not placed");
+    at = outdated, fresh(2), on_desk_take(), expect(answer == 0 && written[0] == 3 && log_[2] == 5, "the area is not left out for its SIOU");
+    at = renewed, fresh(2), on_desk_take();
     expect(answer == 0 && desk[HOMRALGYU_DESK_SIOU_PLUS_ONE] == SIOU + 2, "the GAD begins no new book");
-    at = middle, fresh(RUN_224), on_desk_take();
-    expect(answer == 0 && desk[HOMRALGYU_DESK_AREAS] == MOST_AREAS, "the GAD adds no 32 areas in the middle");
-    at = later, fresh(RUN_256), on_desk_take();
-    expect(answer == 0 && desk[HOMRALGYU_DESK_RUN_AREAS] == MOST_AREAS && desk[HOMRALGYU_DESK_TAG] == TAG + 1, "no run is opened with 256 areas");
-    expect(log_[0] == 1 && log_[3] == 0x80 && log_[4] == 2 && written[0] > 600, "the run's count does not take two groups");
 }
 
 int main(void) {
@@ -558,7 +481,7 @@ int main(void) {
     if (!wrong) all();
     for (size_t i = 0; i < CALLS; i++) {
         at = NULL, expect(calls[i].bytes > 0, calls[i].name);
-        printf("%s %zu %s%s\n", calls[i].name, calls[i].bytes, calls[i].input, calls[i].books);
+        printf("%s %zu %s\n", calls[i].name, calls[i].bytes, calls[i].input);
     }
     return wrong ? 2 : 0;
 }

@@ -31,7 +31,7 @@ pub enum Refusal {
     AreaOff = 13,
     /// same area ID, AIOU and (request 5) SIOU, other definition
     Conflict = 14,
-    /// a 257th area ID (request 7); SF031 has 256 values, so no book ever answers it
+    /// a 33rd area ID
     BookFull = 15,
     /// sheet or kept book goes on after its end
     Leftover = 16,

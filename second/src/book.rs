@@ -1,9 +1,9 @@
-//! Document 01, "Book and run", with document 02, request 5, "One solution update per book", and
-//! request 7, "Whole-continent books": the area book.
+//! Document 01, "Book and run", with document 02, request 5, "One solution update per book": the
+//! area book.
 //!
 //! "The book holds one AIOU and up to 32 areas, ascending by ID, six bytes each: the 47 bits of the
 //! GAD block and a zero bit, 192 bytes." Request 5: "The book now also holds the SIOU of the GAD
-//! that filled it." Request 7: "Raise the book from 32 to 256 areas, 1,536 bytes for each book".
+//! that filled it."
 
 use crate::answer::{stop, Refusal, Refused};
 use crate::payload::{gad_area, Entries, Field, Gad, GadArea, Message};
@@ -11,11 +11,9 @@ use crate::sheet::{close, open};
 use crate::views::AreaId;
 use std::ops::Range;
 
-/// as many as there are IDs: a book of so many has all of 0 to 255
-pub const MOST_AREAS: u64 = 256;
+pub const MOST_AREAS: u64 = 32;
 pub const AREA_BYTES: usize = 6;
-/// "ROOM uses the new size"
-pub const BOOK_BYTES: usize = 1536;
+pub const BOOK_BYTES: usize = 192;
 pub const TOP_AIOU: u64 = 15;
 /// "In a sound book the SIOU is 0 to 511 or unknown"
 pub const TOP_SIOU: u64 = 511;
@@ -123,7 +121,7 @@ pub fn nodes(area: &GadArea) -> u64 {
 /// The areas held, if the book is sound: "A book has an AIOU exactly when it has an area, at most
 /// 32, ascending, each with fields in range, the last bit zero and no AREA_OFF; bytes past them do
 /// not count." "... AIOU and tag are in range." Request 5: "In a sound book the SIOU is 0 to 511 or
-/// unknown, and unknown where there is no AIOU." Request 7: "STATE the new count", at most 256.
+/// unknown, and unknown where there is no AIOU."
 pub fn areas(book: &Book, bytes: &[u8]) -> Option<Vec<GadArea>> {
     let sound_numbers = book.aiou.is_some() == (book.count > 0)
         && book.aiou.is_none_or(|aiou| aiou <= TOP_AIOU)
@@ -156,8 +154,7 @@ pub fn sound(book: &Book, bytes: &[u8]) -> bool {
 /// changes nothing. It is taken whole or refused at its first faulty block: AREA_OFF, CONFLICT,
 /// BOOK_FULL." The blocks are judged in order against the book with the earlier ones added. Request
 /// 5: "A GAD with another SIOU begins a new book, as another AIOU does": it is judged from an empty
-/// one, and so is a GAD over a book whose SIOU is unknown. BOOK_FULL is for a 257th ID: a book of
-/// 256 has every one, so that a block over it is AREA_OFF, a repeat or a conflict.
+/// one, and so is a GAD over a book whose SIOU is unknown.
 pub fn with_gad(book: &Book, held: &[GadArea], gad: &Gad) -> Result<Vec<GadArea>, Refusal> {
     let mut areas = if book.is_of(gad.aiou, gad.siou) { held.to_vec() } else { Vec::new() };
     for block in &gad.areas {
@@ -166,8 +163,8 @@ pub fn with_gad(book: &Book, held: &[GadArea], gad: &Gad) -> Result<Vec<GadArea>
             Some(area) => stop(area != block, Refusal::Conflict)?,
             None => {
                 stop(areas.len() as u64 == MOST_AREAS, Refusal::BookFull)?;
-                let before = areas.iter().filter(|area| area.id < block.id).count();
-                areas.insert(before, *block);
+                areas.push(*block);
+                areas.sort_by_key(|area| area.id);
             }
         }
     }
@@ -289,58 +286,20 @@ mod tests {
         let one = book(3, Some(7), 1);
         assert_eq!(with_gad(&one, &[a], &gad(3, 7, &[b])), Err(Refusal::Conflict));
         assert_eq!(with_gad(&one, &[a], &gad(4, 7, &[b])), Ok(vec![b]));
-        let even: Vec<_> = (0..32).map(|id| area(2 * id, 900, 0, 0)).collect();
+        let full: Vec<_> = (0..32).map(|id| area(2 * id, 900, 0, 0)).collect();
         let of_32 = book(3, Some(7), 32);
-        assert_eq!(with_gad(&of_32, &even, &gad(3, 7, &[even[7]])), Ok(even.clone()));
+        assert_eq!(with_gad(&of_32, &full, &gad(3, 7, &[full[7]])), Ok(full.clone()));
+        assert_eq!(with_gad(&of_32, &full, &gad(3, 7, &[a])), Err(Refusal::BookFull));
         let conflict = gad(3, 7, &[area(4, 7, 0, 0)]);
-        assert_eq!(with_gad(&of_32, &even, &conflict), Err(Refusal::Conflict));
-        // a 33rd, between others, before all and behind all
-        for id in [0, 5, 255] {
-            let added =
-                with_gad(&book(3, Some(7), 31), &even[1..], &gad(3, 7, &[area(id, 900, 0, 0)])).unwrap();
-            assert_eq!(added.len(), 32);
-            assert!(added.windows(2).all(|pair| pair[0].id < pair[1].id));
-        }
-    }
-
-    #[test]
-    fn a_book_grows_to_256_areas_in_any_order_and_then_every_id_is_held() {
-        let all: Vec<_> = (0..256).map(|id| area(id, 900, 0, 0)).collect();
-        let ascending: Vec<u64> = (0..256).collect();
-        let descending: Vec<u64> = (0..256).rev().collect();
-        // 77 has no divisor in common with 256
-        let mixed: Vec<u64> = (0..256).map(|i| i * 77 % 256).collect();
-        for ids in [ascending, descending, mixed] {
-            let mut bytes = [0xA5; BOOK_BYTES + 1];
-            let mut of = Book::default();
-            for message in ids.chunks(32) {
-                let blocks: Vec<_> = message.iter().map(|&id| all[id as usize]).collect();
-                of = take_gad(&of, &mut bytes, &gad(3, 7, &blocks)).unwrap();
-                assert!(bytes[6 * of.count as usize..].iter().all(|&byte| byte == 0xA5));
-                assert!(sound(&of, &bytes));
-            }
-            assert_eq!((of, areas(&of, &bytes)), (book(3, Some(7), 256), Some(all.clone())));
-            let before = bytes;
-            for id in 0..256 {
-                let held = all[id as usize];
-                assert_eq!(take_gad(&of, &mut bytes, &gad(3, 7, &[held])), Ok(of));
-                let other = gad(3, 7, &[held, GadArea { latitude: 901, ..held }]);
-                assert_eq!(take_gad(&of, &mut bytes, &other), Err(Refusal::Conflict));
-                let six = AREA_BYTES * id as usize;
-                assert_eq!(find(&of, &bytes, AreaId(id)), six..six + 6);
-                assert_eq!(find(&of, &bytes[..BOOK_BYTES - 1], AreaId(id)), 0..0);
-            }
-            assert_eq!(bytes, before);
-            // another SIOU begins a new book; the bytes past it stay
-            assert_eq!(take_gad(&of, &mut bytes, &gad(3, 8, &all[200..201])), Ok(book(3, Some(8), 1)));
-            assert_eq!((bytes[0], &bytes[6..]), (200, &before[6..]));
-        }
+        assert_eq!(with_gad(&of_32, &full, &conflict), Err(Refusal::Conflict));
+        let added = with_gad(&book(3, Some(7), 31), &full[..31], &gad(3, 7, &[a])).unwrap();
+        assert!(added.windows(2).all(|pair| pair[0].id < pair[1].id));
     }
 
     #[test]
     fn another_siou_begins_a_new_book_and_so_does_any_over_an_unknown_one() {
         let (a, b, c) = (area(5, 900, 0, 0), area(5, 901, 0, 0), area(9, 900, 0, 0));
-        let full: Vec<_> = (0..256).map(|id| area(id, 900, 0, 0)).collect();
+        let full: Vec<_> = (0..32).map(|id| area(2 * id, 900, 0, 0)).collect();
         for old in [None, Some(0), Some(7), Some(511)] {
             for new in [0, 7, 8, 511] {
                 let same = old == Some(new);
@@ -348,12 +307,11 @@ mod tests {
                 let expected = if same { vec![a, c] } else { vec![c] };
                 assert_eq!(with_gad(&book(3, old, 1), &[a], &gad(3, new, &[c])), Ok(expected));
                 assert_eq!(with_gad(&book(3, old, 1), &[a], &gad(4, new, &[c])), Ok(vec![c]));
-                // CONFLICT needs both numbers to be the same
+                // CONFLICT and BOOK_FULL need both numbers to be the same
                 let conflict = if same { Err(Refusal::Conflict) } else { Ok(vec![b]) };
                 assert_eq!(with_gad(&book(3, old, 1), &[a], &gad(3, new, &[b])), conflict);
-                assert_eq!(with_gad(&book(3, old, 256), &full, &gad(3, new, &[b])), conflict);
-                let repeat = if same { full.clone() } else { vec![c] };
-                assert_eq!(with_gad(&book(3, old, 256), &full, &gad(3, new, &[c])), Ok(repeat));
+                let no_room = if same { Err(Refusal::BookFull) } else { Ok(vec![a]) };
+                assert_eq!(with_gad(&book(3, old, 32), &full, &gad(3, new, &[a])), no_room);
             }
         }
     }
@@ -414,7 +372,7 @@ mod tests {
 
     #[test]
     fn only_bytes_of_areas_held_are_written() {
-        let mut bytes = [0xA5; BOOK_BYTES + 1];
+        let mut bytes = [0xA5; 193];
         let none = Book::default();
         let sheet = [0, 3, 0, 1, 9, 900, 0, 0, 0, 0, 0, 5, 901, 0, 0, 0, 0, 0];
         let book = take(&none, &mut bytes, &sheet).unwrap();
@@ -423,14 +381,9 @@ mod tests {
         assert_eq!((bytes[0], bytes[6]), (5, 9));
         assert_eq!(find(&book, &bytes, AreaId(9)), 6..12);
         assert_eq!(find(&book, &bytes, AreaId(6)), 0..0);
-        // two areas lie there, and yet the book is lent short
-        for short in [0, 12, 191, 192, 1535] {
-            assert_eq!(find(&book, &bytes[..short], AreaId(9)), 0..0);
-        }
+        assert_eq!(find(&book, &bytes[..191], AreaId(9)), 0..0);
         let before = bytes;
-        for short in [0, 12, 191, 192, 1535] {
-            assert_eq!(take(&book, &mut bytes[..short], &sheet), Err(Refusal::Room.into()));
-        }
+        assert_eq!(take(&book, &mut bytes[..191], &sheet), Err(Refusal::Room.into()));
         assert_eq!(take(&Book { count: 3, ..book }, &mut bytes, &sheet), Err(Refusal::State.into()));
         let missing = Place { sf: 37, at: 17 };
         assert_eq!(take(&book, &mut bytes, &sheet[..17]), Err(missing.refuses(Refusal::Short)));
@@ -461,7 +414,7 @@ mod tests {
         payload[3] |= 0b00010000;
         let latitude = Place { sf: 32, at: 27 };
         assert_eq!(take_payload(&none, &mut bytes, &payload), Err(latitude.refuses(Refusal::Field)));
-        assert_eq!(take_payload(&none, &mut bytes[..1535], &payload), Err(Refusal::Room.into()));
+        assert_eq!(take_payload(&none, &mut bytes[..191], &payload), Err(Refusal::Room.into()));
         assert_eq!(bytes, [0xA5; BOOK_BYTES]);
         payload[3] &= 0b11101111;
         assert_eq!(take_payload(&none, &mut bytes, &payload), Ok(book(3, Some(0), 1)));
@@ -478,7 +431,7 @@ mod tests {
             assert!(!sound(&Book { aiou: Some(16), siou, count: 2 }, &bytes));
             assert!(!sound(&Book { aiou: None, siou, count: 2 }, &bytes));
             assert!(!sound(&Book { aiou: Some(1), siou, count: 0 }, &bytes));
-            assert!(!sound(&Book { aiou: Some(1), siou, count: 257 }, &bytes));
+            assert!(!sound(&Book { aiou: Some(1), siou, count: 33 }, &bytes));
             assert!(!sound(&Book { aiou: Some(1), siou, count: u64::MAX }, &bytes));
             assert!(sound(&Book { siou, ..book }, &bytes));
             // "unknown where there is no AIOU"
@@ -500,33 +453,5 @@ mod tests {
         let mut past = bytes;
         past[12..].fill(0xFF);
         assert!(sound(&book, &past));
-    }
-
-    #[test]
-    fn every_area_of_256_counts() {
-        let all: Vec<_> = (0..256).map(|id| area(id, 900, 0, 0)).collect();
-        let mut bytes = [0u8; BOOK_BYTES];
-        put(&all, &mut bytes);
-        let of = |count| book(3, Some(7), count);
-        for count in [1, 31, 32, 33, 90, 127, 128, 255, 256] {
-            assert!(sound(&of(count), &bytes));
-        }
-        for count in [257, 258, 512, 256 + (1 << 32), u64::MAX] {
-            // with the byte of a 257th area behind them too
-            assert!(!sound(&of(count), &bytes));
-            assert!(!sound(&of(count), &[&bytes[..], &[0; 6]].concat()));
-        }
-        for at in [0, 31, 32, 33, 89, 127, 128, 254, 255] {
-            let mut other = bytes;
-            other[6 * at + 5] |= 1;
-            for count in [at, at + 1, 256] {
-                // an area counts where it is held
-                let expected = count <= at && count > 0;
-                assert_eq!(sound(&of(count as u64), &other), expected, "{at} {count}");
-            }
-        }
-        // the last two are of one ID
-        bytes[6 * 255] = 254;
-        assert!(sound(&of(255), &bytes) && !sound(&of(256), &bytes));
     }
 }

@@ -7,12 +7,12 @@
 use crate::answer::{Place, Refusal, Refused};
 use crate::bits::BitWriter;
 use crate::book::{area_number, area_of, put, with_gad, Book};
-use crate::book::{AREA_BYTES, BOOK_BYTES, MOST_AREAS, TOP_AIOU, TOP_SIOU};
+use crate::book::{BOOK_BYTES, MOST_AREAS, TOP_AIOU, TOP_SIOU};
 use crate::desk::{Desk, Last, Run, GAP, HALF_DAY};
 use crate::entries::{self, Entry, Placed, Satellite, BANDS, LAST_REASON, MOST_COUNT, MOST_SATELLITES};
 use crate::frame::{assemble, Plain, Seal, AUTHENTICATION_BYTES, LONGEST_FRAME, LONGEST_PAYLOAD, PREAMBLE};
 use crate::groups::groups;
-use crate::kept::{self, FORM_1, FORM_2, FORM_3, MOST_BEFORE};
+use crate::kept::{self, FORM_1, FORM_2};
 use crate::payload::{message, Entries, Field, Gad, GadArea, Takes, CONSTELLATIONS};
 use crate::sheet::open;
 use crate::stream::{Tray, MOST_NOISE};
@@ -71,16 +71,7 @@ impl Rng {
     }
 
     pub fn bytes(&mut self, count: usize) -> Vec<u8> {
-        let mut bytes: Vec<u8> = (0..count.div_ceil(8)).flat_map(|_| self.draw().to_le_bytes()).collect();
-        bytes.truncate(count);
-        bytes
-    }
-
-    /// the same ones in another order, each order as likely
-    pub fn shuffle<T>(&mut self, all: &mut [T]) {
-        for last in (1..all.len()).rev() {
-            all.swap(last, self.below(last as u64 + 1) as usize);
-        }
+        (0..count).map(|_| self.draw() as u8).collect()
     }
 }
 
@@ -1049,69 +1040,21 @@ pub fn area_off(rng: &mut Rng, id: u64) -> GadArea {
     of
 }
 
-/// How many areas a book has: none, few, 90, 256 and those beside 32, 128 and 256, any.
-pub fn area_count(rng: &mut Rng) -> u64 {
-    let (few, some) = (rng.below(33), rng.below(MOST_AREAS + 1));
-    rng.pick(&[0, 0, 1, 2, 31, 32, 33, 90, 127, 128, 255, 256, 256, few, few, few, some])
-}
-
-/// The same of a book that forms 1 and 2 have: none to 32.
-pub fn small_count(rng: &mut Rng) -> u64 {
-    let some = rng.below(MOST_BEFORE + 1);
-    rng.pick(&[0, 1, 2, 31, 32, some])
-}
-
-/// A sound book as areas: ascending, none to 256.
+/// A sound book as areas: ascending, none to 32, IDs at the ends now and then.
 pub fn areas(rng: &mut Rng) -> Vec<GadArea> {
-    let count = area_count(rng);
-    areas_of(rng, count)
-}
-
-/// A sound book of so many areas: ascending; the first IDs, the last ones, or any.
-pub fn areas_of(rng: &mut Rng, count: u64) -> Vec<GadArea> {
-    let mut ids: Vec<u64> = (0..256).collect();
-    match rng.below(3) {
-        0 => {}
-        1 => ids.reverse(),
-        _ => rng.shuffle(&mut ids),
+    let some = rng.below(33);
+    let count = rng.pick(&[0, 1, 2, 31, 32, some]);
+    let mut ids: Vec<u64> = Vec::new();
+    let first = rng.pick(&[0, 256 - count, 1000]);
+    while (ids.len() as u64) < count {
+        let id = if first < 256 { first + ids.len() as u64 } else { rng.below(256) };
+        let id = if id > 255 || ids.contains(&id) { rng.below(256) } else { id };
+        if !ids.contains(&id) {
+            ids.push(id);
+        }
     }
-    ids.truncate(count as usize);
     ids.sort();
     ids.into_iter().map(|id| area(rng, id)).collect()
-}
-
-/// A GAD has at most 32 areas: SF030 has five bits and means code plus one.
-pub const MOST_BLOCKS: usize = 32;
-
-/// In ascending, in descending, or in any order.
-fn in_some_order<T>(rng: &mut Rng, all: &mut [T]) {
-    match rng.below(3) {
-        0 => {}
-        1 => all.reverse(),
-        _ => rng.shuffle(all),
-    }
-}
-
-/// So many areas, at most 32, with IDs that none of the known ones has, or as many as there are: the first
-/// such IDs, the last ones, or any; in any order.
-pub fn new_areas(rng: &mut Rng, known: &[GadArea], count: usize) -> Vec<GadArea> {
-    let mut held = [false; 256];
-    known.iter().for_each(|area| held[area.id as usize & 255] = true);
-    let mut ids: Vec<u64> = (0..256).filter(|&id| !held[id as usize]).collect();
-    in_some_order(rng, &mut ids);
-    ids.truncate(count.min(MOST_BLOCKS));
-    if rng.one_in(2) {
-        in_some_order(rng, &mut ids);
-    }
-    ids.into_iter().map(|id| area(rng, id)).collect()
-}
-
-/// Some of the known areas, at most 32, in any order.
-pub fn same_areas(rng: &mut Rng, known: &[GadArea], count: usize) -> Vec<GadArea> {
-    let mut some = known.to_vec();
-    in_some_order(rng, &mut some);
-    some.truncate(count.min(MOST_BLOCKS));
-    some
 }
 
 /// A SIOU: 0 and 511, those whose SIOU + 1 is just of one and of two groups, any.
@@ -1138,13 +1081,7 @@ fn book_of(rng: &mut Rng, count: u64) -> Book {
 
 /// A sound book and its lent bytes: garbage past the areas, surplus now and then.
 pub fn book(rng: &mut Rng) -> (Book, Vec<u8>) {
-    let count = area_count(rng);
-    sized_book(rng, count)
-}
-
-/// The same of so many areas.
-pub fn sized_book(rng: &mut Rng, count: u64) -> (Book, Vec<u8>) {
-    let held = areas_of(rng, count);
+    let held = areas(rng);
     let of = book_of(rng, held.len() as u64);
     let surplus = rng.pick(&[0, 0, 1, 7]);
     let mut bytes = rng.bytes(BOOK_BYTES + surplus);
@@ -1155,19 +1092,13 @@ pub fn sized_book(rng: &mut Rng, count: u64) -> (Book, Vec<u8>) {
 /// A book that is, but for rare chance, not sound.
 pub fn unsound_book(rng: &mut Rng) -> (Book, Vec<u8>) {
     let (mut of, mut bytes) = book(rng);
-    let at = if rng.one_in(4) { of.count.saturating_sub(1) } else { rng.below(of.count) } as usize;
-    match rng.below(12) {
-        // an area more, which is the last one again
-        10 if (1..MOST_AREAS).contains(&of.count) => {
-            let end = AREA_BYTES * of.count as usize;
-            bytes.copy_within(end - AREA_BYTES..end, end);
-            of.count += 1;
-        }
+    let at = rng.below(of.count) as usize;
+    match rng.below(10) {
         8 => of.siou = Some(rng.pick(&[512, 513, 1024, 512 + (1 << 32), u64::MAX])),
         // a SIOU where there is no AIOU: nothing else is wrong with it
         9 => of = Book { siou: Some(siou(rng)), ..Book::default() },
         0 => of.aiou = Some(rng.pick(&[16, 255, u64::MAX])),
-        1 | 11 => of.count = rng.pick(&[257, 257, 257, 257, 258, 512, 256 + (1 << 32), u64::MAX]),
+        1 => of.count = rng.pick(&[33, 256, u64::MAX]),
         2 => of.aiou = if of.aiou.is_some() { None } else { Some(0) },
         3 if of.count > 0 => of.count = 0,
         4 if of.count > 0 => bytes[6 * at + 5] |= 1,
@@ -1193,31 +1124,24 @@ pub fn unsound_book(rng: &mut Rng) -> (Book, Vec<u8>) {
                 }
             }
         }
-        _ => of.count = 257,
+        _ => of.count = 33,
     }
     (of, bytes)
 }
 
-/// A kept book that is read, of any form.
+/// A kept book that is read, of either form.
 pub fn kept(rng: &mut Rng) -> Vec<u8> {
     kept_numbers(rng).into_iter().flat_map(groups).collect()
 }
 
-/// A kept book that is read, of any form, as its numbers.
+/// A kept book that is read, of either form, as its numbers.
 pub fn kept_numbers(rng: &mut Rng) -> Vec<u64> {
-    let form = rng.pick(&[FORM_1, FORM_2, FORM_3, FORM_3]);
-    let count = if form == FORM_3 { area_count(rng) } else { small_count(rng) };
-    kept_of(rng, form, count)
-}
-
-/// A kept book of a form with so many areas, up to 256, as its numbers. It is read if the form has so
-/// many.
-pub fn kept_of(rng: &mut Rng, form: u64, count: u64) -> Vec<u64> {
-    let (of, held) = (book_of(rng, count), areas_of(rng, count));
+    let (form, held) = (rng.pick(&[FORM_1, FORM_2]), areas(rng));
+    let of = book_of(rng, held.len() as u64);
     kept::numbers(form, &of, &held)
 }
 
-/// How many numbers a kept book has before its areas: form number, AIOU + 1, in forms 2 and 3 SIOU + 1,
+/// How many numbers a kept book has before its areas: form number, AIOU + 1, in form 2 SIOU + 1,
 /// count.
 pub fn kept_head(form: u64) -> usize {
     if form == FORM_1 {
@@ -1234,8 +1158,7 @@ pub fn kept_head(form: u64) -> usize {
 pub fn kept_changes(numbers: &[u64], at: usize) -> Vec<u64> {
     let number = numbers[at];
     let mut others = vec![number.wrapping_sub(1), number.wrapping_add(1)];
-    let counts = [MOST_BEFORE, 90, 127, 128, 255, MOST_AREAS];
-    for limit in [0, 1, 2, 3, 4, TOP_AIOU + 1, TOP_SIOU + 1, 1 << 47].into_iter().chain(counts) {
+    for limit in [0, 1, 2, 3, TOP_AIOU + 1, MOST_AREAS, 128, 255, TOP_SIOU + 1, 1 << 47] {
         others.extend([limit, limit + 1]);
     }
     others.extend([number.wrapping_add(1 << 8), number.wrapping_add(1 << 16)]);
@@ -1274,7 +1197,7 @@ pub fn kept_changes(numbers: &[u64], at: usize) -> Vec<u64> {
 
 /// A kept book that, mostly, is not: cut, longer, a number out of range, not in shortest form, of
 /// many groups, too large for any type, areas out of order, IDs that leave no room for the rest;
-/// the numbers of another form, a SIOU without an AIOU, more areas than the form has.
+/// the numbers of the other form, a SIOU without an AIOU.
 pub fn broken_kept(rng: &mut Rng) -> Vec<u8> {
     let mut numbers = kept_numbers(rng);
     let form = numbers[0];
@@ -1283,32 +1206,15 @@ pub fn broken_kept(rng: &mut Rng) -> Vec<u8> {
     let at = rng.below(numbers.len() as u64) as usize;
     // the area that stands there
     let held = if at >= head { area_of(numbers[at]) } else { None };
-    match (rng.below(15), held) {
-        (0, _) => numbers[0] = rng.pick(&[0, 4, 4, 5, 128, 257, 258, 259, u64::MAX]),
-        (1, _) => {
-            numbers[0] =
-                rng.pick(&[FORM_1, FORM_2, FORM_3].map(|other| if other == form { 4 } else { other }))
-        }
+    match (rng.below(13), held) {
+        (0, _) => numbers[0] = rng.pick(&[0, 3, 128, 257, 258, u64::MAX]),
+        (1, _) => numbers[0] = FORM_1 + FORM_2 - form,
         (2, _) => numbers[1] = rng.pick(&[0, 1, 17, 128, u64::MAX]),
-        (9 | 10, _) => {
-            // more areas than forms 1 and 2 have, all of them there; a 257th, which is the last one again
-            let form = rng.pick(&[FORM_1, FORM_1, FORM_2, FORM_2, FORM_3]);
-            let over = rng.pick(&[33, 33, 34, 90, 127, 128, 256]);
-            numbers = kept_of(rng, form, if form == FORM_3 { 256 } else { over });
-            if form == FORM_3 {
-                numbers[kept_head(form) - 1] = 257;
-                numbers.extend(numbers.last().copied());
-            }
-            // whole or cut behind the count
-            if rng.one_in(3) {
-                numbers.truncate(kept_head(form));
-            }
-        }
-        (3, _) if form != FORM_1 => {
+        (3, _) if form == FORM_2 => {
             let large = rng.between(513, 2000);
             numbers[2] = rng.pick(&[513, 513, 514, 1024, large, 512 + (1 << 32), u64::MAX]);
         }
-        (4, _) if form != FORM_1 => {
+        (4, _) if form == FORM_2 => {
             // a SIOU without an AIOU: with no area behind it, and with some
             let some = rng.between(1, 512);
             (numbers[1], numbers[2]) = (0, rng.pick(&[1, 512, 513, some]));
@@ -1317,7 +1223,7 @@ pub fn broken_kept(rng: &mut Rng) -> Vec<u8> {
                 numbers.truncate(4);
             }
         }
-        (5, _) => numbers[head - 1] = rng.pick(&[0, 33, 128, 256, 257, 257, count + 1, u64::MAX]),
+        (5, _) => numbers[head - 1] = rng.pick(&[0, 33, 128, count + 1, u64::MAX]),
         (6, Some(some)) => {
             let lower = GadArea { latitude: 1801, ..some };
             let off = area_off(rng, some.id);
@@ -1404,13 +1310,12 @@ pub fn entry(rng: &mut Rng) -> Entry {
 
 /// A run opened.
 pub fn opened(rng: &mut Rng) -> Entry {
-    let (few, some, tag) = (rng.between(1, 127), rng.between(128, MOST_COUNT), rng.below(HALF_DAY));
+    let (some, tag) = (rng.between(1, MOST_COUNT), rng.below(HALF_DAY));
     let tag = rng.pick(&[0, 127, 128, 16383, 16384, HALF_DAY - 1, tag, tag]);
     if rng.one_in(4) {
         return Entry::Opened { tag, aiou: None, count: 0 };
     }
-    let count = rng.pick(&[1, 32, 33, 90, 127, 128, 255, MOST_COUNT, few, some]);
-    Entry::Opened { tag, aiou: Some(rng.below(16)), count }
+    Entry::Opened { tag, aiou: Some(rng.below(16)), count: rng.pick(&[1, MOST_COUNT, some, some]) }
 }
 
 /// An area left out.
@@ -1475,7 +1380,7 @@ pub fn broken_entry(rng: &mut Rng) -> Vec<u8> {
     let old = numbers[at];
     let beside = rng.pick(&[old.wrapping_sub(1), old + 1]);
     let small = rng.pick(&[0, 2, 3, 4, 5, 6, 16, 33, 64, 65]);
-    let large = rng.pick(&[127, 128, 192, 193, 255, 256, 257, 257, 16384, 43200, 1 << 47, u64::MAX]);
+    let large = rng.pick(&[128, 192, 193, 255, 256, 257, 16384, 43200, 1 << 47, u64::MAX]);
     let limit = rng.pick(&[small, large]);
     let mut form: Vec<Vec<u8>> = numbers.iter().map(|&number| groups(number)).collect();
     match rng.below(7) {
@@ -1605,12 +1510,12 @@ pub fn table(rng: &mut Rng) -> Table {
 /// now and then it is broken there, and the desk is sound.)
 pub fn unsound_table(rng: &mut Rng) -> Table {
     let mut made = table(rng);
-    match rng.below(9) {
+    match rng.below(7) {
         0 => made.desk.solution = rng.pick(&[128, 255, u64::MAX]),
         1 => made.desk.processor = rng.pick(&[16, 255, u64::MAX]),
         2 => made.desk.constellation = rng.pick(&[5, 255, u64::MAX]),
-        3 | 7 => (made.desk.live, made.live) = unsound_book(rng),
-        4 | 8 => {
+        3 => (made.desk.live, made.live) = unsound_book(rng),
+        4 => {
             let (run_book, run) = unsound_book(rng);
             made.run = run;
             if let Some(open) = &mut made.desk.run {
@@ -1658,8 +1563,7 @@ pub fn hpac_sheet(rng: &mut Rng, subtype: u64, aiou: u64, siou: u64, known: &[Ga
             node_counts.push_back(rng.below(8));
             continue;
         }
-        // the last one is one in 256 of a full book
-        let area = if rng.one_in(8) { known[known.len() - 1] } else { rng.pick(known) };
+        let area = rng.pick(known);
         let right = (area.latitude_count + 1) * (area.longitude_count + 1);
         ids.push_back(area.id);
         node_counts.push_back(rng.pick(&[right, right, right, right, right - 1, right + 1, 0, 127]));
@@ -1690,7 +1594,7 @@ pub struct Scene {
     pub seconds: Vec<u64>,
 }
 
-/// A scene: GADs that begin, add, repeat, conflict and fill the book up to 256 areas, run over the pole,
+/// A scene: GADs that begin, add, repeat, conflict, fill and overfill the book, run over the pole,
 /// come with the same and with other AIOUs and SIOUs and changed grids; HPACs that are placed and
 /// left out for all five reasons, with tags that stay, go on, go back, are over 43,199 or large;
 /// frames of others, sealed ones, odd ones; seconds that stay, go on, go back, and in some scenes
@@ -1710,12 +1614,12 @@ pub fn scene_of(rng: &mut Rng, count: u64) -> Scene {
     let mut time = rng.pick(&[0, 43195, 20000]);
     let mut frames = Vec::new();
     let mut seconds = Vec::new();
-    // now and then many areas at once, so that a book of 256 comes soon
+    // now and then every area at once, so that a 33rd comes soon
     let eager = rng.one_in(3);
     // one in so many frames comes after a gap; 0 for none
-    let gaps = if eager { rng.pick(&[0, 0, 0, 20]) } else { rng.pick(&[0, 0, 3, 8, 20]) };
+    let gaps = rng.pick(&[0, 0, 3, 8, 20]);
     // before one in so many frames the solver restarts; 0 for never
-    let restarts = if eager { rng.pick(&[0, 0, 0, 25]) } else { rng.pick(&[0, 0, 8, 12, 25]) };
+    let restarts = rng.pick(&[0, 0, 8, 12, 25]);
     let mut latest = first_second(rng);
     while (frames.len() as u64) < count {
         if restarts > 0 && rng.one_in(restarts) {
@@ -1766,7 +1670,7 @@ pub fn scene_of(rng: &mut Rng, count: u64) -> Scene {
         if rng.one_in(12) {
             parts.tag = tag(rng, parts.tag_kind);
         }
-        let payload = if rng.below(5) < if eager { 3 } else { 2 } {
+        let payload = if rng.below(5) < 2 {
             parts.type_ = 2;
             parts.subtype = 0;
             scene_gad(rng, eager, &mut provider)
@@ -1778,11 +1682,7 @@ pub fn scene_of(rng: &mut Rng, count: u64) -> Scene {
             let siou = if rng.one_in(15) { other } else { siou };
             hpac_sheet(rng, constellation, aiou, siou, &provider.known).payload()
         };
-        frames.push(if eager && !rng.one_in(4) {
-            assemble(&parts, None, &payload, &[])
-        } else {
-            scene_frame(rng, parts, payload)
-        });
+        frames.push(scene_frame(rng, parts, payload));
     }
     Scene { solution, processor, constellation, frames, seconds }
 }
@@ -1828,14 +1728,10 @@ fn scene_gad(rng: &mut Rng, eager: bool, provider: &mut Provider) -> Vec<u8> {
     let mut blocks: Vec<GadArea> = Vec::new();
     // a late one of another solution
     let now = provider.siou;
-    let siou = if rng.one_in(if eager { 80 } else { 25 }) { other_siou(rng, now) } else { now };
+    let siou = if rng.one_in(25) { other_siou(rng, now) } else { now };
     // a solver that has restarted mostly keeps its AIOU
     let restarted = provider.told_with.is_some_and(|old| old != siou);
-    let other_aiou = rng.one_in(match (eager, restarted) {
-        (true, _) => 80,
-        (_, true) => 20,
-        _ => 4,
-    });
+    let other_aiou = rng.one_in(if eager || restarted { 20 } else { 4 });
     if other_aiou {
         provider.aiou = (provider.aiou + rng.between(1, 15)) % 16;
     }
@@ -1849,52 +1745,45 @@ fn scene_gad(rng: &mut Rng, eager: bool, provider: &mut Provider) -> Vec<u8> {
             }
         }
     }
-    if eager {
-        // IDs that are not known yet; all of them known, some of them again
-        let held: Vec<GadArea> = known.iter().chain(&blocks).copied().collect();
-        let count = rng.between(16, 32) as usize;
-        let mut more = new_areas(rng, &held, count);
-        if more.is_empty() {
-            more = same_areas(rng, known, count);
-        }
-        blocks.extend(more);
-    } else {
-        for _ in 0..rng.pick(&[1, 1, 2, 5]) {
-            let id = rng.below(256);
-            let id = rng.pick(&[id, id, 0, 255]);
-            let other = known.iter().chain(&blocks).find(|area| area.id == id).copied();
-            blocks.push(match other {
-                Some(same) => same,
-                None => area(rng, id),
-            });
-        }
+    let more = if eager { rng.between(8, 32) } else { rng.pick(&[1, 1, 2, 5]) };
+    for _ in 0..more {
+        let id = rng.below(256);
+        let id = rng.pick(&[id, id, 0, 255]);
+        let other = known.iter().chain(&blocks).find(|area| area.id == id).copied();
+        blocks.push(match other {
+            Some(same) => same,
+            None => area(rng, id),
+        });
     }
-    blocks.truncate(MOST_BLOCKS);
+    blocks.truncate(MOST_AREAS as usize);
     let mut refused = false;
     if rng.one_in(6) && !known.is_empty() {
         blocks.push(rng.pick(known));
     }
-    let faulty = if eager { 20 } else { 9 };
-    if rng.one_in(faulty) {
+    if rng.one_in(9) {
         // the same ID, another definition
         let mut other = rng.pick(&blocks);
         other.longitude_spacing ^= 1;
         blocks.push(other);
         refused = true;
     }
-    if rng.one_in(faulty) {
+    if rng.one_in(9) {
         let at = rng.below(blocks.len() as u64) as usize;
         blocks[at] = area_off(rng, blocks[at].id);
         refused = true;
     }
-    blocks.truncate(MOST_BLOCKS);
+    blocks.truncate(MOST_AREAS as usize);
     if !refused {
+        let mut then = known.clone();
         for block in &blocks {
-            if !known.iter().any(|area| area.id == block.id) {
-                known.push(*block);
+            if !then.iter().any(|area| area.id == block.id) {
+                then.push(*block);
             }
         }
-        provider.told_with = Some(siou);
+        if then.len() as u64 <= MOST_AREAS {
+            *known = then;
+            provider.told_with = Some(siou);
+        }
     }
     gad_sheet(rng, aiou, siou, &blocks).payload()
 }
@@ -1997,10 +1886,8 @@ pub enum Sort {
     Gad,
     /// a GAD that conflicts with the live book alone
     Against,
-    /// a GAD of IDs that the live book has not yet, as many as fit: over 224 and more it has 256 then
-    Filling,
-    /// a GAD of areas that the live book has
-    Repeat,
+    /// a GAD that the live book alone has no room for
+    Overfull,
     /// an HPAC of the open run's tag
     OfRun,
     /// an HPAC of another tag
@@ -2016,12 +1903,11 @@ pub enum Sort {
 }
 
 /// The sorts; the refusals are those of the frame, of the desk, of the payload, and of a GAD's blocks
-/// by themselves. (No GAD is BOOK_FULL: there is no 257th ID.)
-pub const SORTS: [Sort; 21] = [
+/// by themselves. (No GAD has more than 32 areas, so none is BOOK_FULL over an empty book.)
+pub const SORTS: [Sort; 20] = [
     Sort::Gad,
     Sort::Against,
-    Sort::Filling,
-    Sort::Repeat,
+    Sort::Overfull,
     Sort::OfRun,
     Sort::OtherTag,
     Sort::OtherSiou,
@@ -2042,7 +1928,7 @@ pub const SORTS: [Sort; 21] = [
 ];
 
 /// A frame of a sort for a sound desk. None where the desk has none: no run is open, the live book
-/// is empty, or it has all IDs, or its SIOU is unknown or known; or none was found.
+/// is empty, or it has room for all, or its SIOU is unknown or known; or none was found.
 pub fn frame_of(rng: &mut Rng, table: &Table, sort: Sort) -> Option<Vec<u8>> {
     let desk = &table.desk;
     let live = crate::book::areas(&desk.live, &table.live)?;
@@ -2088,16 +1974,13 @@ pub fn frame_of(rng: &mut Rng, table: &Table, sort: Sort) -> Option<Vec<u8>> {
             let blocks = against(rng, &live)?;
             plain(gad, &gad_sheet(rng, aiou, some_siou, &blocks).payload())
         }
-        Sort::Filling | Sort::Repeat => {
+        Sort::Overfull => {
             desk.live.siou?;
-            let count = rng.pick(&[1, 2, MOST_BLOCKS, MOST_BLOCKS, MOST_BLOCKS]);
-            let blocks = match sort {
-                Sort::Filling => new_areas(rng, &live, count),
-                _ => same_areas(rng, &live, count),
-            };
-            if live.is_empty() || blocks.is_empty() {
-                return None;
-            }
+            let room = (MOST_AREAS as usize).checked_sub(live.len()).filter(|_| !live.is_empty())?;
+            let new: Vec<u64> = (0..256).filter(|&id| live.iter().all(|area| area.id != id)).collect();
+            let first = rng.below((new.len() - room) as u64) as usize;
+            let ids = &new[first..first + room + 1];
+            let blocks: Vec<GadArea> = ids.iter().map(|&id| area(rng, id)).collect();
             plain(gad, &gad_sheet(rng, aiou, siou, &blocks).payload())
         }
         Sort::OfRun | Sort::OfRunOtherSiou => {
@@ -2120,15 +2003,12 @@ pub fn frame_of(rng: &mut Rng, table: &Table, sort: Sort) -> Option<Vec<u8>> {
             plain(Plain { tag: other, ..hpac }, &payload)
         }
         Sort::Refused(Refusal::AreaOff) => {
-            // the live book may conflict at a block before it, or have those blocks
-            let mut blocks = match rng.below(3) {
-                0 if !live.is_empty() => {
-                    let one = rng.pick(&live);
-                    vec![changed(rng, one)]
-                }
-                1 => same_areas(rng, &live, 3),
-                _ => blocks(rng),
-            };
+            // the live book may conflict at a block before it
+            let mut blocks = blocks(rng);
+            if !live.is_empty() && rng.one_in(2) {
+                let one = rng.pick(&live);
+                blocks = vec![changed(rng, one)];
+            }
             let id = rng.below(256);
             blocks.push(area_off(rng, id));
             plain(gad, &gad_sheet(rng, aiou, siou, &blocks).payload())

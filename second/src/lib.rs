@@ -1,4 +1,4 @@
-//! The second program: document 01, and requests 1 to 3 and 5 to 7 of document 02, written once more,
+//! The second program: document 01, and requests 1 to 3, 5 and 6 of document 02, written once more,
 //! from the documents alone.
 //!
 //! It was written without the desk's own code at hand, so that a mistake in one need not be

@@ -8,7 +8,6 @@ use second::desk::{self, Last, Of};
 use second::entries::{self, Coded, Entry, BANDS};
 use second::frame::{self, check, Plain};
 use second::generate::*;
-use second::kept::{READER_1, READER_2};
 use second::payload::{self, Message, Takes, CONSTELLATIONS};
 use second::prepare::{self, Lent};
 use second::stream::{self, Event};
@@ -139,8 +138,7 @@ fn sizes_are_those_of_table_8_2() {
 /// 0, small, next to bounds, or any number at all
 fn wild(rng: &mut Rng) -> u64 {
     let any = rng.draw();
-    let small = rng.pick(&[0, 1, 2, 6, 16, 32, 33, 192, 256, 257]);
-    rng.pick(&[small, small, small, 1103, 1536, 65535, u64::MAX, any, any >> 32, any >> 52, any >> 60])
+    rng.pick(&[0, 1, 2, 6, 16, 32, 192, 1103, 65535, u64::MAX, any, any >> 32, any >> 52, any >> 60])
 }
 
 #[test]
@@ -157,7 +155,7 @@ fn any_numbers_at_all_are_answered() {
                 lent_bytes(&mut rng, size)
             }
         };
-        let (mut tray, mut live, mut run, mut log) = (buffer(1103), buffer(1536), buffer(1536), buffer(4096));
+        let (mut tray, mut live, mut run, mut log) = (buffer(1103), buffer(192), buffer(192), buffer(4096));
         let bytes = if rng.one_in(2) { odd_frame(&mut rng) } else { second::generate::frame(&mut rng) };
         let state = stream::Tray { held: n[0], shown: n[1], noise: n[2] };
         let _ = stream::call(&state, &mut tray, &bytes);
@@ -409,7 +407,7 @@ fn a_type_without_a_meaning_passes_in_a_frame_whose_payload_is_not_read() {
             let mut out = [0; 1103];
             let length = frame::write_plain(&parts, &payload, &mut out).unwrap();
             assert_eq!(out[check(&out[..length]).unwrap().payload], payload);
-            let (mut live, mut run, mut log) = ([0; 1536], [0; 1536], [0; 4096]);
+            let (mut live, mut run, mut log) = ([0; 192], [0; 192], [0; 4096]);
             let desk = desk::new(parts.solution, parts.processor, subtype).unwrap();
             let taken = desk::take(&desk, &out[..length], 0, &mut live, &mut run, &mut log);
             assert_eq!(taken.err(), Some(Refusal::NotOurs.into()));
@@ -667,12 +665,11 @@ fn kept_beginning_with(given: &[u64]) -> Option<usize> {
     let form = at(0, 1);
     let (aiou, siou, head) = match form {
         1 => (at(1, 0), 0, 3),
-        2 | 3 => (at(1, 0), at(2, 0), 4),
+        2 => (at(1, 0), at(2, 0), 4),
         _ => return None,
     };
     let count = at(head - 1, (aiou != 0) as u64);
-    // no book has more than 256, and none was kept in form 1 or 2 with more than 32
-    if count > if form == 3 { 256 } else { 32 } {
+    if count > 32 {
         return None;
     }
     let (mut bytes, mut next_id) = (Vec::new(), 0);
@@ -685,7 +682,7 @@ fn kept_beginning_with(given: &[u64]) -> Option<usize> {
         next_id = (number >> 39) + 1;
         bytes.extend(&(number << 1).to_be_bytes()[2..]);
     }
-    bytes.resize(1536, 0);
+    bytes.resize(192, 0);
     let book = Book { aiou: aiou.checked_sub(1), siou: siou.checked_sub(1), count };
     book::sound(&book, &bytes).then_some(head + count as usize)
 }
@@ -694,32 +691,23 @@ fn kept_beginning_with(given: &[u64]) -> Option<usize> {
 /// said: "the first fault in reading order, SHORT or FORM (a number not in shortest form, or one
 /// after which no sound book can follow), then LEFTOVER".
 fn kept_answer(kept: &[u8]) -> (Result<(), Refusal>, usize) {
-    // the numbers that end, the byte behind each, and what is said of the first one that is none
-    let (mut numbers, mut ends, mut last) = (Vec::new(), vec![0], None);
-    while last.is_none() {
-        let end = ends[numbers.len()];
-        match groups::read(&kept[end..]) {
-            Err(refusal) => last = Some(refusal),
+    let (mut numbers, mut rest) = (Vec::new(), kept);
+    loop {
+        match kept_beginning_with(&numbers) {
+            None => return (Err(Refusal::Form), numbers.len() - 1),
+            Some(count) if count == numbers.len() => {
+                let answer = if rest.is_empty() { Ok(()) } else { Err(Refusal::Leftover) };
+                return (answer, numbers.len());
+            }
+            Some(_) => {}
+        }
+        match groups::read(rest) {
+            Err(refusal) => return (Err(refusal), numbers.len()),
             Ok((number, used)) => {
                 numbers.push(number);
-                ends.push(end + used);
+                rest = &rest[used..];
             }
         }
-    }
-    // a book that begins with numbers begins with fewer of them too, so that halving finds the most
-    let begins = |count: usize| match kept_beginning_with(&numbers[..count]) {
-        None => Some(Err(Refusal::Form)),
-        Some(all) if all <= count => {
-            Some(if kept.len() == ends[all] { Ok(()) } else { Err(Refusal::Leftover) })
-        }
-        Some(_) => None,
-    };
-    let counts: Vec<usize> = (0..=numbers.len()).collect();
-    let met = counts.partition_point(|&count| begins(count).is_none());
-    match counts.get(met).and_then(|&count| begins(count)) {
-        None => (Err(last.unwrap()), numbers.len()),
-        Some(Err(Refusal::Form)) => (Err(Refusal::Form), met - 1),
-        Some(answer) => (answer, met),
     }
 }
 
@@ -727,7 +715,7 @@ fn kept_answer(kept: &[u8]) -> (Result<(), Refusal>, usize) {
 /// was given at.
 fn read_as_must_be(kept: &[u8]) -> (u8, usize) {
     let (expected, at) = kept_answer(kept);
-    let mut bytes = [0xA5; 1537];
+    let mut bytes = [0xA5; 193];
     let result = kept::read(kept, &mut bytes);
     assert_eq!(result.map(|_| ()), expected, "{kept:02X?}");
     let upto = result.map_or(0, |book| 6 * book.count as usize);
@@ -738,25 +726,15 @@ fn read_as_must_be(kept: &[u8]) -> (u8, usize) {
         // no second string of bytes of a form is read as the same book; form 1 says nothing of the
         // SIOU
         let form = kept[0] as u64;
-        assert!(form != kept::FORM_1 || book.siou.is_none());
+        assert!(form == kept::FORM_2 || book.siou.is_none());
         let again = kept::numbers(form, &book, &held).into_iter().flat_map(groups::groups);
         assert_eq!(again.collect::<Vec<u8>>(), kept);
-        // written in form 3, which reads as the same and has the same fields as form 2
-        let mut out = [0xA5; 1799];
+        // written in form 2, which reads as the same
+        let mut out = [0xA5; 230];
         let length = kept::write(&book, &bytes, &mut out).unwrap();
-        assert!(out[0] == 3 && out[length..].iter().all(|&byte| byte == 0xA5));
-        assert!(form == kept::FORM_1 || out[1..length] == kept[1..]);
+        assert!(out[0] == 2 && out[length..].iter().all(|&byte| byte == 0xA5));
+        assert!(form == kept::FORM_1 || out[..length] == *kept);
         assert_eq!(kept::parse(&out[..length]), Ok((book, held)));
-        // the desks before answer FORM to it, and to form 1 and 2 what they always did
-        for reader in [READER_1, READER_2] {
-            let mut bytes = [0xA5; 193];
-            assert_eq!(reader.read(&out[..length], &mut bytes), Err(Refusal::Form));
-            assert_eq!(bytes, [0xA5; 193]);
-            assert_eq!(
-                reader.read(kept, &mut bytes),
-                if form > reader.highest { Err(Refusal::Form) } else { result }
-            );
-        }
     }
     (number(&result), at)
 }
@@ -772,27 +750,22 @@ fn kept_books_come_back_and_broken_ones_reach_every_refusal() {
     let mut places = BTreeMap::new();
     // SIOU + 1 where it was FORM: over 512, or not 0 without an AIOU
     let mut sious = BTreeSet::new();
-    // how many areas form 3 had, and where a count was FORM: the form and the count
-    let (mut counts, mut over) = (BTreeMap::new(), BTreeSet::new());
     for _ in 0..6000 {
         let (book, bytes) = second::generate::book(&mut rng);
         assert!(book::sound(&book, &bytes));
-        let mut out = lent_bytes(&mut rng, 1799);
+        let mut out = lent_bytes(&mut rng, 230);
         let as_lent = out.clone();
         let length = kept::write(&book, &bytes, &mut out).unwrap();
         assert_eq!(out[length..], as_lent[length..]);
-        let mut back = lent_bytes(&mut rng, 1536);
+        let mut back = lent_bytes(&mut rng, 192);
         assert_eq!(kept::read(&out[..length], &mut back), Ok(book));
         assert_eq!(back[..6 * book.count as usize], bytes[..6 * book.count as usize]);
         let whole = second::generate::kept(&mut rng);
         assert_eq!(read_as_must_be(&whole).0, 0);
         let read = kept::read(&whole, &mut back).unwrap();
         kinds.insert((whole[0], read.aiou.is_some(), read.siou.is_some()));
-        if whole[0] == 3 {
-            *counts.entry(read.count).or_insert(0) += 1;
-        }
         let broken = broken_kept(&mut rng);
-        let size = buffer_size(&mut rng, 1536);
+        let size = buffer_size(&mut rng, 192);
         let mut lent = lent_bytes(&mut rng, size);
         let as_lent = lent.clone();
         let result = kept::read(&broken, &mut lent);
@@ -801,14 +774,7 @@ fn kept_books_come_back_and_broken_ones_reach_every_refusal() {
         reached.insert(number(&result));
         let (answer, at) = read_as_must_be(&broken);
         let form = broken.first().copied().unwrap_or(0);
-        // the desk before reads all but form 3 as this one does, and of form 3 nothing
-        let before = READER_2.parse(&broken);
-        assert_eq!(before, if form == 3 { Err(Refusal::Form) } else { kept::parse(&broken) });
         *places.entry((form, answer, at.min(4))).or_insert(0) += 1;
-        if let (18, true) = (answer, at + 1 == kept_head(form as u64)) {
-            let numbers = (0..at).fold(&broken[..], |rest, _| &rest[groups::read(rest).unwrap().1..]);
-            over.extend(groups::read(numbers).map(|(count, _)| (form, count)));
-        }
         if let (2, 18, 2, Some(&[aiou, ref rest @ ..])) = (form, answer, at, broken.get(1..)) {
             if let Ok((siou, _)) = groups::read(rest) {
                 sious.insert((aiou == 0, siou > 512, siou == 513));
@@ -818,24 +784,18 @@ fn kept_books_come_back_and_broken_ones_reach_every_refusal() {
         assert_eq!(kept::write(&book, &bytes, &mut out), Err(Refusal::State));
     }
     assert_eq!(reached, BTreeSet::from([0, 1, 9, 16, 18]));
-    let with_book = [(1, true, false), (2, true, false), (2, true, true), (3, true, false), (3, true, true)];
-    let without = [(1, false, false), (2, false, false), (3, false, false)];
+    let with_book = [(1, true, false), (2, true, false), (2, true, true)];
+    let without = [(1, false, false), (2, false, false)];
     assert_eq!(kinds, with_book.into_iter().chain(without).collect());
     let met = |form: u8, answer: u8, at: usize| places.get(&(form, answer, at)) > Some(&4);
-    // FORM and SHORT at AIOU + 1, in forms 2 and 3 at SIOU + 1, at the count and at an area; and LEFTOVER
+    // FORM and SHORT at AIOU + 1, in form 2 at SIOU + 1, at the count and at an area; and LEFTOVER
     for at in 1..=4 {
-        for (form, answer) in [(1, 18), (2, 18), (3, 18), (1, 1), (2, 1), (3, 1)] {
+        for (form, answer) in [(1, 18), (2, 18), (1, 1), (2, 1)] {
             assert!(met(form, answer, at), "{form} {answer} {at} {places:?}");
         }
     }
-    assert!([1, 2, 3].iter().all(|&form| met(form, 16, 4) && met(form, 0, 4)), "{places:?}");
-    assert!(met(0, 18, 0) && met(4, 18, 0) && met(0, 1, 0), "{places:?}");
-    for count in [0, 1, 2, 31, 32, 33, 90, 127, 128, 255, 256] {
-        assert!(counts.get(&count) > Some(&20), "{counts:?}");
-    }
-    for (form, count) in [(1, 33), (1, 256), (2, 33), (2, 256), (3, 257)] {
-        assert!(over.contains(&(form, count)), "{over:?}");
-    }
+    assert!([1, 2].iter().all(|&form| met(form, 16, 4) && met(form, 0, 4)), "{places:?}");
+    assert!(met(0, 18, 0) && met(3, 18, 0) && met(0, 1, 0), "{places:?}");
     let over = [(false, true, false), (false, true, true)];
     let alone = [(true, false, false), (true, true, true)];
     assert!(over.iter().chain(&alone).all(|kind| sious.contains(kind)), "{sious:?}");
@@ -847,25 +807,16 @@ fn every_one_number_change_of_a_kept_book_is_answered_as_it_must_be() {
     // the form, the number changed (that of the first area for any), and the answer
     let mut reached = BTreeSet::new();
     let mut forms = BTreeMap::new();
-    for round in 0..60 {
-        let form = round % 3 + 1;
-        let count = match round / 3 % 5 {
-            few @ 0..=1 => few,
-            _ if form == 3 => area_count(&mut rng),
-            _ => small_count(&mut rng),
-        };
-        let numbers = kept_of(&mut rng, form, count);
+    for _ in 0..60 {
+        let numbers = kept_numbers(&mut rng);
+        let form = numbers[0];
         *forms.entry((form, (numbers.len() - kept_head(form)).min(2))).or_insert(0) += 1;
         let write = |numbers: &[u64]| -> Vec<u8> {
             numbers.iter().flat_map(|&number| groups::groups(number)).collect()
         };
         let whole = write(&numbers);
         assert_eq!(read_as_must_be(&whole), (0, numbers.len()));
-        // of many areas those at the ends, beside the 32nd, and some
-        let (head, any) = (kept_head(form), rng.below(numbers.len() as u64) as usize);
-        let many = numbers.len() > head + 32;
-        let ends = [any, head + 31, head + 32, head + 33, numbers.len() - 2, numbers.len() - 1];
-        for at in (0..numbers.len()).filter(|at| !many || *at <= head || ends.contains(at)) {
+        for at in 0..numbers.len() {
             let mut reach = |answer: u8| reached.insert((form, at.min(kept_head(form)), answer));
             for other in kept_changes(&numbers, at) {
                 let mut changed = numbers.clone();
@@ -895,11 +846,11 @@ fn every_one_number_change_of_a_kept_book_is_answered_as_it_must_be() {
         }
         assert_eq!(read_as_must_be(&[&whole[..], &[0]].concat()), (16, numbers.len()));
     }
-    // books of none, one and more areas in all forms
-    assert_eq!(forms.len(), 9, "{forms:?}");
+    // books of none, one and more areas in both forms
+    assert_eq!(forms.len(), 6, "{forms:?}");
     // each number was changed to one that is read and to one that is FORM; the form number of a
     // book of form 1 to 2 and back leaves too few or too many numbers, or others
-    for form in [1, 2, 3] {
+    for form in [1, 2] {
         for at in 1..=kept_head(form) {
             assert!(reached.contains(&(form, at, 18)), "{form} {at}");
         }
@@ -909,9 +860,7 @@ fn every_one_number_change_of_a_kept_book_is_answered_as_it_must_be() {
         assert!(reached.contains(&(form, kept_head(form) - 1, 16)));
     }
     assert!(reached.contains(&(1, 0, 1)) && reached.contains(&(2, 0, 16)), "{reached:?}");
-    // form 2 is read as form 3 too, and the other way round
-    assert!(reached.contains(&(2, 0, 0)) && reached.contains(&(3, 0, 0)), "{reached:?}");
-    assert!([2, 3].iter().all(|&form| reached.contains(&(form, 2, 0))), "another SIOU is read");
+    assert!(reached.contains(&(2, 2, 0)), "another SIOU is read");
 }
 
 #[test]
@@ -1064,7 +1013,7 @@ fn told(log: &[u8]) -> Vec<(u64, u64)> {
         match kind {
             1 => {
                 let (tag, aiou, count) = (next(&mut rest), next(&mut rest), next(&mut rest));
-                assert!(tag < 43200 && aiou <= 16 && count <= 256 && (aiou == 0) == (count == 0));
+                assert!(tag < 43200 && aiou <= 16 && count <= 32 && (aiou == 0) == (count == 0));
                 all.push((1, 0));
             }
             2 => {
@@ -1171,14 +1120,11 @@ fn scenes_reach_every_answer_and_entry_and_the_joined_call_agrees() {
     let mut placing = 0;
     // frames taken after a gap, and frames that finish told
     let (mut gaps, mut at_finish) = (0, 0);
-    // GADs that left more than 32, 90, 128 and all areas, and runs that were opened with so many
-    let (mut grown, mut opened) = ([0; 4], [0; 4]);
-    let reaches = |count: u64| [33, 90, 128, 256].map(|least| u64::from(count >= least));
     for _ in 0..250 {
         let scene = scene(&mut rng);
         let mut desk = desk::new(scene.solution, scene.processor, scene.constellation).unwrap();
-        let mut live = lent_bytes(&mut rng, 1536);
-        let mut run = lent_bytes(&mut rng, 1536);
+        let mut live = lent_bytes(&mut rng, 192);
+        let mut run = lent_bytes(&mut rng, 192);
         let (first_live, first_run) = (live.clone(), run.clone());
         let mut log = lent_bytes(&mut rng, 4096);
         // desk alone, frame by frame
@@ -1201,13 +1147,6 @@ fn scenes_reach_every_answer_and_entry_and_the_joined_call_agrees() {
                 Ok(taken) => {
                     let before = desk::judged_with(&desk, second);
                     desk = taken.desk;
-                    let (met, count) = match desk.run {
-                        Some(open) if desk.run.map(|now| now.tag) != before.run.map(|old| old.tag) => {
-                            (&mut opened, open.book.count)
-                        }
-                        _ => (&mut grown, if before.live == desk.live { 0 } else { desk.live.count }),
-                    };
-                    (0..4).for_each(|i| met[i] += reaches(count)[i]);
                     assert!(desk::sound(&desk, &live, &run));
                     assert_eq!(log[taken.logged..], as_lent[taken.logged..]);
                     let told = told(&log[..taken.logged]);
@@ -1271,9 +1210,8 @@ fn scenes_reach_every_answer_and_entry_and_the_joined_call_agrees() {
         }
     }
     assert!(gaps > 300 && at_finish > 50, "{gaps} {at_finish}");
-    assert!(grown.iter().chain(&opened).all(|&count| count > 5), "{grown:?} {opened:?}");
-    // SHORT to MESSAGE_CRC, MASK_EMPTY, FIELD, SEALED to CONFLICT; no BOOK_FULL
-    let expected: BTreeSet<u8> = [0, 1, 2, 3, 4, 5, 7, 8, 10, 11, 12, 13, 14].into();
+    // SHORT to MESSAGE_CRC, MASK_EMPTY, FIELD, SEALED to BOOK_FULL
+    let expected: BTreeSet<u8> = [0, 1, 2, 3, 4, 5, 7, 8, 10, 11, 12, 13, 14, 15].into();
     assert_eq!(reached, expected);
     assert_eq!(places, BTreeSet::from([Refusal::Short, Refusal::MaskEmpty, Refusal::Field]));
     let kinds: Vec<(u64, u64)> = logged.keys().copied().collect();
@@ -1359,7 +1297,7 @@ fn desks_as_they_stand_and_unsound_ones() {
         let frame = frame_for(&mut rng, &made);
         let size = buffer_size(&mut rng, 4096);
         let mut log = vec![0xA5; size];
-        let size = if rng.one_in(5) { buffer_size(&mut rng, 1536) } else { made.run.len() };
+        let size = if rng.one_in(5) { buffer_size(&mut rng, 192) } else { made.run.len() };
         made.run.resize(size, 0);
         let before = made.clone();
         let sound = desk::sound(&made.desk, &made.live, &made.run);
@@ -1391,12 +1329,10 @@ fn desks_as_they_stand_and_unsound_ones() {
         }
     }
     assert!(reached.contains(&9) && reached.contains(&17) && reached.contains(&0));
-    // areas are placed by forms 2 and 3 alone, where the SIOU is known; each form also comes without a
+    // areas are placed by form 2 alone, where the SIOU is known; each form also comes without a
     // book
-    let expected = [(1, false, 5), (2, false, 5), (2, true, 2), (3, false, 5), (3, true, 2)];
-    let without = [(1, false, 1), (2, false, 1), (3, false, 1)];
-    let met = kept_met.keys().copied().collect::<BTreeSet<_>>();
-    assert_eq!(met, expected.into_iter().chain(without).collect());
+    let expected = [(1, false, 5), (2, false, 5), (2, true, 2), (1, false, 1), (2, false, 1)];
+    assert_eq!(kept_met.keys().copied().collect::<BTreeSet<_>>(), expected.into());
     assert!(kept_met.values().all(|&count| count > 9), "{kept_met:?}");
     let (unsound, sound) = (0..400).fold((0, 0), |(unsound, sound), _| {
         let made = unsound_table(&mut rng);
@@ -1413,7 +1349,7 @@ fn desks_as_they_stand_and_unsound_ones() {
 /// its AIOU over an unknown SIOU begins a new book.
 fn after_kept(rng: &mut Rng, made: &Table, form: u8, met: &mut BTreeMap<(u8, bool, u64), u64>) {
     let book = made.desk.live;
-    assert!(form != 1 || book.siou.is_none());
+    assert!(form == 2 || book.siou.is_none());
     for sort in [Sort::OtherTag, Sort::OverUnknown] {
         let Some(frame) = frame_of(rng, made, sort) else { continue };
         let second = match made.desk.last {
@@ -1459,7 +1395,7 @@ fn tried(
 fn after_a_gap_all_is_as_with_an_empty_live_book_and_else_as_without_seconds() {
     let mut rng = made_from(15);
     let mut met = BTreeMap::new();
-    for round in 0..12000usize {
+    for round in 0..6000usize {
         let made = table(&mut rng);
         let sort = SORTS[round % SORTS.len()];
         let Some(frame) = frame_of(&mut rng, &made, sort) else { continue };
@@ -1510,11 +1446,12 @@ fn after_a_gap_all_is_as_with_an_empty_live_book_and_else_as_without_seconds() {
         }
         let number = match sort {
             Sort::Against if !gap => 14,
+            Sort::Overfull if !gap => 15,
             Sort::Refused(refusal) => refusal.number(),
             _ => 0,
         };
         // a live book may refuse a block before the one that is faulty by itself
-        let earlier = !gap && [13, 14].contains(&number) && answer == 14;
+        let earlier = !gap && [13, 14].contains(&number) && [14, 15].contains(&answer);
         assert!(answer == number || earlier, "{sort:?} {gap} {answer}");
         *met.entry((sort, gap)).or_insert(0) += 1;
     }
@@ -1567,7 +1504,7 @@ fn gads_on_sheets_are_taken_by_the_book() {
     let mut rng = made_from(12);
     let (mut reached, mut kinds) = (BTreeSet::new(), BTreeSet::new());
     let mut book = Book::default();
-    let mut bytes = lent_bytes(&mut rng, 1536);
+    let mut bytes = lent_bytes(&mut rng, 192);
     for _ in 0..3000 {
         if rng.one_in(12) {
             (book, bytes) = second::generate::book(&mut rng);
@@ -1624,7 +1561,7 @@ fn gads_on_sheets_are_taken_by_the_book() {
             }
         }
     }
-    assert_eq!(reached, BTreeSet::from([0, 13, 14]));
+    assert_eq!(reached, BTreeSet::from([0, 13, 14, 15]));
     // the same AIOU or another, over the same SIOU, another and an unknown one
     assert_eq!(kinds.len(), 6, "{kinds:?}");
 }

@@ -3,4 +3,3 @@ pub mod Searching
 pub mod Blocks
 pub mod Payloads
 pub mod Taking
-pub mod Inserting

@@ -2,7 +2,7 @@
 use mathlib.Core.Path.{◌≡◌, refl, ap, sym, ◌∙◌, subst}
 use mathlib.Core.Bool.{Bool, true, false, cond}
 use mathlib.Core.List.{List, ◌∷◌}
-use Prim.Native.Nat.{ℕ, zero, suc, ◌+◌, ◌-◌, ◌*◌, ◌/◌, ◌^◌, ◌≤◌, ◌<◌}
+use Prim.Native.Nat.{ℕ, zero, suc, ◌+◌, ◌*◌, ◌/◌, ◌≤◌, ◌<◌}
 use native.Mathlib.Omega.{arith}
 use native.Mathlib.Numerals.{add-one}
 use lib.Dec.{ltb, eqb}
@@ -17,7 +17,7 @@ use Rattle.area.specs.Area.{sf031, number_at}
 use Rattle.book.specs.Book.{area_in, areas_in, place_of}
 use Rattle.book.specs.Laws.{Ascending, length-areas, areas-at}
 use Rattle.book.specs.Take.{lookup}
-use Rattle.book.specs.Search.{Below, below_up, below_next, below_at, Passed, Reached, reached-end, reached-other, reached-found}
+use Rattle.book.specs.Search.{Below, below_up, below_next, Passed, Reached, reached-end, reached-other, reached-found}
 use Rattle.book.specs.declared.Found.TheVariants.{Area, Nothing}
 use Rattle.book.proofs.Reading.{number-there, first_byte}
 
@@ -106,48 +106,6 @@ module _ (s : List ℕ) (known : (i : ℕ) → Fits w8 (get_or s i 0)) where
           ap (λ x. Area (x / 2)) (number-there s n i x h fits ex) ∙ ap Area (sym (areas-at n i s h)) ∙ ap (λ i. Area (get_or (areas_in n s) i 0)) p
           ∙ ap (λ b. cond b (Area (get_or (areas_in n s) (place_of id n s) 0)) Nothing) (sym z) ∙ sym (place-lookup id n s octets)
 
--- ---- the place of an ID by halves
-
--- it lies between the two: all areas before the lower one have smaller IDs, and the upper one has not
-pub record Halving (id n : ℕ) (s : List ℕ) (low high : ℕ) : Type 0 where
-  pub in_order : low ≤ high
-  pub inside : high ≤ n
-  pub below : Below id (take low (areas_in n s))
-  pub above : high < n → id ≤ sf031 (get_or (areas_in n s) high 0)
-
-pub halve-start : (id n : ℕ) (s : List ℕ) → Halving id n s 0 n
-halve-start id n s = record { in_order = omega arith; inside = omega arith; below = Below.none; above = λ h. absurd (omega arith) }
-
-module _ (id n : ℕ) (s : List ℕ) (low high : ℕ) (q : Halving id n s low high) where
-  pub halve-end : high ≤ low → Reached id n s low
-  halve-end h =
-      let e : high ≡ low = omega (arith, q.in_order) in
-      record { inside = omega (arith, q.inside); below = q.below; above = subst (λ k. k < n → id ≤ sf031 (get_or (areas_in n s) k 0)) e q.above }
-
-  module _ (h : low < high) where
-    pub halve-there : 6 * n ≤ length s → 6 * (low + (high - low) / 2) < length s
-    halve-there k = omega (arith, q.inside)
-
-    pub halve-fits : 6 * n ≤ length s → length s < 2 ^ 64 → 6 * (low + (high - low) / 2) < 2 ^ 64
-    halve-fits k l = omega (arith, q.inside)
-
-    module _ (known : (i : ℕ) → Fits w8 (get_or s i 0)) where
-      middle-id : sf031 (get_or (areas_in n s) (low + (high - low) / 2) 0) ≡ get_or s (6 * (low + (high - low) / 2)) 0
-      middle-id = id-byte s n (low + (high - low) / 2) (octets s known) (omega (arith, q.inside))
-
-      pub halve-up : Ascending 0 (areas_in n s) → get_or s (6 * (low + (high - low) / 2)) 0 < id → Halving id n s (low + (high - low) / 2 + 1) high
-      halve-up up k =
-          record {
-            in_order = omega arith;
-            inside = q.inside;
-            below = subst (λ j. Below id (take j (areas_in n s))) (sym (add-one (low + (high - low) / 2)))
-                (below_at id 0 (low + (high - low) / 2) (areas_in n s) up (omega (arith, length-areas n s, q.inside)) (subst (λ x. x < id) (sym middle-id) k));
-            above = q.above;
-          }
-
-      pub halve-down : id ≤ get_or s (6 * (low + (high - low) / 2)) 0 → Halving id n s low (low + (high - low) / 2)
-      halve-down k = record { in_order = omega arith; inside = omega (arith, q.inside); below = q.below; above = λ l. subst (λ x. id ≤ x) (sym middle-id) k }
-
 -- ---- from where the search for the next ID goes on
 
 module _ (id least n : ℕ) (s : List ℕ) where
@@ -170,3 +128,6 @@ module _ (n at x d : ℕ) (s : List ℕ) (e : d ≡ sf031 x) where
 
   pub reached-by : Reached (sf031 x) n s at → Reached d n s at
   reached-by q = subst (λ d. Reached d n s at) (sym e) q
+
+pub reached-passed : (n at d : ℕ) (s : List ℕ) → Reached d n s at → Passed d n s at
+reached-passed n at d s q = record { inside = q.inside; below = q.below }

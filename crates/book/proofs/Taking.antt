@@ -5,17 +5,18 @@ use mathlib.Core.List.{List, [], ◌∷◌, ◌++◌, append_assoc, append-nil}
 use Prim.Native.Nat.{ℕ, zero, suc, ◌+◌, ◌-◌, ◌*◌, ◌/◌, ◌^◌, ◌≤◌, ◌<◌}
 use native.Mathlib.Omega.{arith}
 use native.Mathlib.Numerals.{add-one}
-use lib.Dec.{leb}
-use lib.ListN.{length, get_or, take, drop, length-append, length-drop, take-append-drop}
-use lib.Seq.{drop-drop, drop_at, take_at}
-use borrow.Author.Tests.{le-leb}
+use lib.Dec.{leb, ltb, eqb}
+use lib.ListN.{length, get_or, take, drop, length-append, length-drop, take-append-drop, drop_of_length-le}
+use lib.Seq.{drop-cons, drop-drop, drop_at, take_at, length-take-le}
+use borrow.Author.Tests.{lt-ltb, le-ltb, le-leb, eq-eqb, ne_eqb}
 use Rattle.answer.specs.declared.Fault as answer
 use mir.Syntax.{w8}
 use mir.Val.{Fits}
 use Rattle.sizes.specs.Sizes.{most_areas, book_bytes}
-use Rattle.area.specs.Area.{sf031, bytes_of, put_at}
+use Rattle.area.specs.Area.{sf031, bytes_of, number_in, number_at, put_at}
+use Rattle.area.specs.Laws.{number-bytes, half-number}
 use Rattle.book.specs.Book.{book_of, areas_in, bytes_of_all, sound}
-use Rattle.book.specs.Laws.{Ascending, length-areas, length-bytes, bytes-join, areas-bytes}
+use Rattle.book.specs.Laws.{Ascending, length-areas, length-bytes, bytes-join, areas-bytes, small_at}
 use Rattle.book.specs.Payload.{siou_of, aiou_of, block_count, block_at, blocks_from, blocks_of, take_bits}
 use Rattle.book.specs.Take.{lookup, insert, Outcome, taken, refused, and_then, take_block, take_all, is_under, before, answer_of, left_by}
 use Rattle.book.specs.TakeLaws.{is-under, other-aiou, other-siou, or_else, or_assoc, or_nothing, lookup-append, Took, took, took-all, all_same, lookup-block, ascending-block, length-block, block-grows, length-insert}
@@ -129,7 +130,27 @@ module _ (s p : List ℕ) (count n i held : ℕ) (q : JudgingBlocks s p count n 
             (ap (λ k. blocks_from i 0 p ++ (block_at p k ∷ [])) {x = i} {y = 0 + i} (omega arith) ∙ sym (blocks-snoc i 0 p) ∙ ap (λ k. blocks_from k 0 p) (sym (add-one i))));
       }
 
--- ---- areas in bytes
+-- ---- a new area takes its place
+
+-- the smaller ID is put down, the other carried on
+unfoldable pub carry : ℕ → List ℕ → List ℕ
+carry a [] = a ∷ []
+carry a (b ∷ l) = cond (ltb (sf031 a) (sf031 b)) (a ∷ carry b l) (b ∷ carry a l)
+
+-- an area before all others is put down before them
+carry-first : (a : ℕ) (l : List ℕ) → Ascending (suc (sf031 a)) l → carry a l ≡ a ∷ l
+unfolding carry
+carry-first a [] p = refl
+carry-first a (b ∷ l) (Ascending.more h k p) = rw (lt-ltb _ _ h) (ap (λ l. a ∷ l) (carry-first b l p))
+
+carry-insert : (a : ℕ) (l : List ℕ) (least : ℕ) → Ascending least l → carry a l ≡ insert a l
+unfolding carry insert
+carry-insert a [] least p = refl
+carry-insert a (b ∷ l) least (Ascending.more h k p) = go (ltb (sf031 a) (sf031 b)) (carry-first b l p) (carry-insert a l _ p)
+  where
+    go : (t : Bool) → carry b l ≡ b ∷ l → carry a l ≡ insert a l → cond t (a ∷ carry b l) (b ∷ carry a l) ≡ cond t (a ∷ b ∷ l) (b ∷ insert a l)
+    go true e f = ap (λ l. a ∷ l) e
+    go false e f = ap (λ l. b ∷ l) f
 
 bytes-snoc : (d t : List ℕ) (c : ℕ) → bytes_of_all d ++ (bytes_of c ++ t) ≡ bytes_of_all (d ++ (c ∷ [])) ++ t
 unfolding bytes_of_all
@@ -148,6 +169,121 @@ put-image d t b i c e f h =
     = sym (drop-drop 6 (6 * i) b) ∙ ap (λ l. drop 6 (drop (6 * i) l)) e ∙ ap (drop 6) (drop_at (bytes_of_all d) t (6 * i) n) in
     rw z
     (ap₂ (λ x y. x ++ (bytes_of c ++ y)) first last ∙ bytes-snoc d (drop 6 t) c)
+
+-- and the number behind areas is twice the next one
+read-image : (d t b : List ℕ) (i a x : ℕ) → b ≡ bytes_of_all d ++ (bytes_of a ++ t) → length d ≡ i → a < 2 ^ 47 → x ≡ number_at b (6 * i) → x / 2 ≡ a
+read-image d t b i a x e f h ex =
+    let n : length (bytes_of_all d) ≡ 6 * i = length-bytes d ∙ ap (λ k. 6 * k) f in
+    let m : length b ≡ 6 * i + (6 + length t) = ap length e ∙ length-append (bytes_of_all d) (bytes_of a ++ t) ∙ omega (arith, n) in
+    let z : leb (6 * i + 6) (length b) ≡ true = le-leb (6 * i + 6) (length b) (omega arith) in
+    ap (λ x. x / 2) (ex ∙ ap (λ b'. cond b' (number_in (drop (6 * i) b)) 0) z
+    ∙ ap number_in (ap (drop (6 * i)) e ∙ drop_at (bytes_of_all d) (bytes_of a ++ t) (6 * i) n) ∙ number-bytes a t h) ∙ half-number a
+
+pub record Inserting (s : List ℕ) (n a i c : ℕ) (b : List ℕ) : Type 0 where
+  pub down : List ℕ
+  pub inside : i ≤ n
+  pub many : length down ≡ i
+  pub bytes : b ≡ bytes_of_all down ++ (bytes_of_all (drop i (areas_in n s)) ++ drop (6 * n) s)
+  pub rest : down ++ carry c (drop i (areas_in n s)) ≡ carry a (areas_in n s)
+  pub small : c < 2 ^ 47
+
+-- areas with a smaller ID are passed
+carry-passed : (a at : ℕ) (l : List ℕ) → Below (sf031 a) (take at l) → at ≤ length l → take at l ++ carry a (drop at l) ≡ carry a l
+unfolding carry
+carry-passed a zero l p h = refl
+carry-passed a (suc at) [] p h = absurd (omega arith)
+carry-passed a (suc at) (b ∷ l) (Below.more k p) h = rw (le-ltb (sf031 a) (sf031 b) (omega arith)) (ap (λ l. b ∷ l) (carry-passed a at l p (omega arith)))
+
+pub insert-start : (s : List ℕ) (n a at : ℕ) → Image n s → a < 2 ^ 47 → Passed (sf031 a) n s at → Inserting s n a at a s
+insert-start s n a at p h q =
+    let l : List ℕ = areas_in n s in
+    record {
+      down = take at l;
+      inside = q.inside;
+      many = length-take-le at l (omega (arith, length-areas n s, q.inside));
+      bytes = sym (take-append-drop (6 * n) s) ∙ ap (λ b. b ++ drop (6 * n) s) (p.image ∙ ap bytes_of_all (sym (take-append-drop at l)) ∙ bytes-join (take at l) (drop at l))
+          ∙ append_assoc (bytes_of_all (take at l)) (bytes_of_all (drop at l)) (drop (6 * n) s);
+      rest = carry-passed a at l q.below (omega (arith, length-areas n s, q.inside));
+      small = h;
+    }
+
+module _ (s : List ℕ) (n a i c : ℕ) (b : List ℕ) (p : Image n s) (fits : 6 * n + 6 ≤ length s) (q : Inserting s n a i c b) where
+  pub insert-length : (z : List ℕ) → length z ≡ length b → length z ≡ length s
+  insert-length z e =
+      e ∙ ap length q.bytes ∙ length-append (bytes_of_all q.down) _
+      ∙ omega (
+        arith,
+        length-append (bytes_of_all (drop i (areas_in n s))) (drop (6 * n) s),
+        length-bytes q.down,
+        length-bytes (drop i (areas_in n s)),
+        length-drop i (areas_in n s),
+        length-drop (6 * n) s,
+        length-areas n s,
+        q.many,
+        q.inside,
+      )
+
+  pub insert-end : n ≤ i → (z : List ℕ) → z ≡ put_at b (6 * n) c → z ≡ bytes_of_all (insert a (areas_in n s)) ++ drop (6 * n + 6) s
+  unfolding carry bytes_of_all
+  insert-end h z ez =
+      let e : i ≡ n = omega (arith, q.inside) in
+      let none : drop i (areas_in n s) ≡ [] = drop_of_length-le (areas_in n s) {i = i} (omega (arith, length-areas n s)) in
+      let all : q.down ++ (c ∷ []) ≡ insert a (areas_in n s)
+      = ap (λ l. q.down ++ carry c l) (sym none) ∙ q.rest ∙ carry-insert a (areas_in n s) 0 p.ascending in
+      ez
+      ∙ put-image q.down (drop (6 * n) s) b n c (q.bytes ∙ ap (λ l. bytes_of_all q.down ++ (bytes_of_all l ++ drop (6 * n) s)) none) (q.many ∙ e) (omega (arith, length-drop (6 * n) s))
+      ∙ ap₂ (λ l t. bytes_of_all l ++ t) all (drop-drop 6 (6 * n) s)
+
+  module _ (h : i < n) (x : ℕ) (ex : x ≡ number_at b (6 * i)) where
+    left : drop i (areas_in n s) ≡ get_or (areas_in n s) i 0 ∷ drop (i + 1) (areas_in n s)
+    left = drop-cons (areas_in n s) i 0 (omega (arith, length-areas n s)) ∙ ap (λ k. get_or (areas_in n s) i 0 ∷ drop k (areas_in n s)) (sym (add-one i))
+
+    y-small : get_or (areas_in n s) i 0 < 2 ^ 47
+    y-small = small_at (areas_in n s) 0 i p.ascending (omega (arith, length-areas n s))
+
+    laid : b ≡ bytes_of_all q.down ++ (bytes_of (get_or (areas_in n s) i 0) ++ (bytes_of_all (drop (i + 1) (areas_in n s)) ++ drop (6 * n) s))
+    unfolding bytes_of_all
+    laid =
+        q.bytes ∙ ap (λ l. bytes_of_all q.down ++ (bytes_of_all l ++ drop (6 * n) s)) left
+        ∙ ap (λ l. bytes_of_all q.down ++ l) (append_assoc (bytes_of (get_or (areas_in n s) i 0)) (bytes_of_all (drop (i + 1) (areas_in n s))) (drop (6 * n) s))
+
+    next-is : x / 2 ≡ get_or (areas_in n s) i 0
+    next-is = read-image q.down (bytes_of_all (drop (i + 1) (areas_in n s)) ++ drop (6 * n) s) b i (get_or (areas_in n s) i 0) x laid q.many y-small ex
+
+    pub insert-down : (d₁ d₂ : ℕ) → d₁ ≡ sf031 c → d₂ ≡ sf031 (x / 2) → d₁ < d₂ → (z : List ℕ) → z ≡ put_at b (6 * i) c → Inserting s n a (i + 1) (x / 2) z
+    unfolding carry
+    insert-down d₁ d₂ e₁ e₂ k z ez =
+        let t : List ℕ = bytes_of_all (drop (i + 1) (areas_in n s)) ++ drop (6 * n) s in
+        let lt : ltb (sf031 c) (sf031 (get_or (areas_in n s) i 0)) ≡ true = lt-ltb _ _ (subst (λ y. sf031 c < sf031 y) next-is (subst (λ k. k < sf031 (x / 2)) e₁ (subst (λ k. d₁ < k) e₂ k))) in
+        let step : carry c (drop i (areas_in n s)) ≡ c ∷ carry (get_or (areas_in n s) i 0) (drop (i + 1) (areas_in n s))
+        = ap (carry c) left
+        ∙ ap (λ t. cond t (c ∷ carry (get_or (areas_in n s) i 0) (drop (i + 1) (areas_in n s))) (get_or (areas_in n s) i 0 ∷ carry c (drop (i + 1) (areas_in n s)))) lt in
+        record {
+          down = q.down ++ (c ∷ []);
+          inside = omega arith;
+          many = length-append q.down (c ∷ []) ∙ ap (λ k. k + 1) q.many;
+          bytes = ez ∙ put-image q.down (bytes_of (get_or (areas_in n s) i 0) ++ t) b i c laid q.many (omega arith);
+          rest = append_assoc q.down (c ∷ []) (carry (x / 2) (drop (i + 1) (areas_in n s)))
+              ∙ ap (λ l. q.down ++ l) (ap (λ y. c ∷ carry y (drop (i + 1) (areas_in n s))) next-is ∙ sym step) ∙ q.rest;
+          small = subst (λ y. y < 2 ^ 47) (sym next-is) y-small;
+        }
+
+    pub insert-keep : (d₁ d₂ : ℕ) → d₁ ≡ sf031 c → d₂ ≡ sf031 (x / 2) → d₂ ≤ d₁ → Inserting s n a (i + 1) c b
+    unfolding carry
+    insert-keep d₁ d₂ e₁ e₂ k =
+        let t : List ℕ = bytes_of_all (drop (i + 1) (areas_in n s)) ++ drop (6 * n) s in
+        let ge : ltb (sf031 c) (sf031 (get_or (areas_in n s) i 0)) ≡ false = le-ltb _ _ (subst (λ y. sf031 y ≤ sf031 c) next-is (subst (λ k. sf031 (x / 2) ≤ k) e₁ (subst (λ k. k ≤ d₁) e₂ k))) in
+        let step : carry c (drop i (areas_in n s)) ≡ get_or (areas_in n s) i 0 ∷ carry c (drop (i + 1) (areas_in n s))
+        = ap (carry c) left
+        ∙ ap (λ t. cond t (c ∷ carry (get_or (areas_in n s) i 0) (drop (i + 1) (areas_in n s))) (get_or (areas_in n s) i 0 ∷ carry c (drop (i + 1) (areas_in n s)))) ge in
+        record {
+          down = q.down ++ (get_or (areas_in n s) i 0 ∷ []);
+          inside = omega arith;
+          many = length-append q.down (get_or (areas_in n s) i 0 ∷ []) ∙ ap (λ k. k + 1) q.many;
+          bytes = laid ∙ bytes-snoc q.down t (get_or (areas_in n s) i 0);
+          rest = append_assoc q.down (get_or (areas_in n s) i 0 ∷ []) (carry c (drop (i + 1) (areas_in n s))) ∙ ap (λ l. q.down ++ l) (sym step) ∙ q.rest;
+          small = q.small;
+        }
 
 -- ---- a block that may be held already
 
@@ -184,9 +320,6 @@ module _ (b : List ℕ) (n x d : ℕ) (v : Found) (ed : d ≡ sf031 x) (ev : v �
 
     pub add-more : n + 1 ≡ length (grown x (areas_in n b))
     add-more = omega (arith, length-areas n b, length-insert x (areas_in n b)) ∙ ap length new-put
-
-    pub add-new : lookup (sf031 x) (areas_in n b) ≡ Nothing
-    add-new = sym asked ∙ q
 
     pub add-room : length (grown x (areas_in n b)) ≤ most_areas → n < most_areas
     add-room h = omega (arith, add-more)
@@ -277,9 +410,6 @@ module _ (s p : List ℕ) (count n i held : ℕ) (b : List ℕ) (q : Filling s p
         image = ap (take (6 * held)) q.bytes ∙ take_at (bytes_of_all q.areas) (drop (6 * held) s) (6 * held) (length-bytes q.areas ∙ ap (λ k. 6 * k) q.many)
             ∙ ap bytes_of_all (sym areas-are);
       }
-
-  pub fill-ascending : Ascending 0 (areas_in held b)
-  fill-ascending = fill-image.ascending
 
   pub fill_end : n ≤ i → b ≡ left_by (take_all (blocks_of p) (areas_in count s)) s
   unfolding take_all

@@ -1,4 +1,4 @@
--- Definitions to believe: the area book in its lent bytes, when it is sound, and finding an ID in it (document 01, "Book and run"; document 02, request 5, "One solution update per book", and request 7, "Whole-continent books").
+-- Definitions to believe: the area book in its lent bytes, when it is sound, and finding an ID in it (document 01, "Book and run"; document 02, request 5, "One solution update per book").
 use Rattle.std.specs.Prelude.{Bool, true, cond, not, ◌&&◌, ◌||◌, List, [], ◌∷◌, ◌++◌, ℕ, zero, suc, ◌*◌, ◌/◌, ◌%◌, leb, ltb, eqb, length, get_or, take, drop}
 use Rattle.std.specs.Bool.{beq}
 use Rattle.sizes.specs.Sizes.{most_areas, book_bytes}
@@ -30,7 +30,7 @@ bytes_of_all (a ∷ l) = bytes_of a ++ bytes_of_all l
 unfoldable pub siou_sound : (aiou-plus-one siou-plus-one : ℕ) → Bool
 siou_sound aiou-plus-one siou-plus-one = leb siou-plus-one 512 && (not (eqb aiou-plus-one 0) || eqb siou-plus-one 0)
 
--- "A book has an AIOU exactly when it has an area, at most 32, ..", 256 by document 02, request 7. AIOU is 0 to 15. A book says AIOU + 1, and 0 where it has none.
+-- "A book has an AIOU exactly when it has an area, at most 32, .." AIOU is 0 to 15. A book says AIOU + 1, and 0 where it has none.
 unfoldable pub head_sound : Book → Bool
 head_sound book =
     beq (eqb book.aiou_plus_one 0) (eqb book.count 0)

@@ -1,5 +1,5 @@
--- Mirror: judging an area of a book by its bytes, and a GAD block by what the book and the earlier blocks say of its ID, without the areas in a row; and, proved, that it comes to the same; and bytes moved up for an area that is put in.
-use Rattle.std.specs.Prelude.{◌≡◌, refl, Bool, true, false, cond, ◌&&◌, List, ◌++◌, ℕ, ◌+◌, ◌-◌, ◌*◌, ◌/◌, ◌%◌, leb, ltb, eqb, length, take, drop}
+-- Mirror: judging an area of a book by its bytes, and a GAD block by what the book and the earlier blocks say of its ID, without the areas in a row; and, proved, that it comes to the same.
+use Rattle.std.specs.Prelude.{◌≡◌, refl, Bool, true, false, cond, ◌&&◌, List, ℕ, ◌+◌, ◌*◌, ◌/◌, ◌%◌, leb, ltb, eqb, length, take}
 use Rattle.std.proofs.Common.{ap, sym, ◌∙◌, arith}
 use Rattle.answer.specs.Stop.{stop}
 use Rattle.answer.specs.Place.{nowhere}
@@ -69,7 +69,3 @@ took-grown a l m (Took.new q e k) = sym (ap (grown_by a l) e)
 pub record Image (n : ℕ) (s : List ℕ) : Type 0 where
   pub ascending : Ascending 0 (areas_in n s)
   pub image : take (6 * n) s ≡ bytes_of_all (areas_in n s)
-
--- the bytes from one place up to another moved six up; the six from the first place on stay as they are
-abbrev pub moved_up : (from to : ℕ) → List ℕ → List ℕ
-moved_up from to s = take (from + 6) s ++ (take (to - from) (drop from s) ++ drop (to + 6) s)

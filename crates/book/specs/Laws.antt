@@ -39,19 +39,6 @@ small_at [] least i p h = absurd (omega arith)
 small_at (a ∷ l) least zero (Ascending.more q k p) h = k
 small_at (a ∷ l) least (suc i) (Ascending.more q k p) h = small_at l _ i p (omega arith)
 
--- IDs are below 256, so that many areas leave room below
-pub ids-left : (l : List ℕ) (least : ℕ) → least ≤ 256 → Ascending least l → least + length l ≤ 256
-ids-left [] least h p = omega arith
-ids-left (a ∷ l) least h (Ascending.more k s p) = omega (arith, ids-left l (suc (sf031 a)) (omega arith) p)
-
--- and as many as there are IDs from the least one on have all of them
-pub ids_all : (l : List ℕ) (least i : ℕ) → Ascending least l → least + length l ≡ 256 → i < length l → sf031 (get_or l i 0) ≡ least + i
-ids_all [] least i p e h = absurd (omega arith)
-ids_all (a ∷ l) least zero (Ascending.more k s p) e h = omega (arith, ids-left l (suc (sf031 a)) (omega arith) p)
-ids_all (a ∷ l) least (suc i) (Ascending.more k s p) e h =
-    let first : sf031 a ≡ least = omega (arith, ids-left l (suc (sf031 a)) (omega arith) p) in
-    ids_all l (suc (sf031 a)) i p (omega arith) (omega arith) ∙ omega arith
-
 -- the i-th area
 pub areas-at : (n i : ℕ) (s : List ℕ) → i < n → get_or (areas_in n s) i 0 ≡ area_in (drop (6 * i) s)
 unfolding areas_in

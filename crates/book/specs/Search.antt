@@ -48,20 +48,6 @@ ascending-drop r least [] p h = absurd (omega arith)
 ascending-drop zero least (a ∷ l) (Ascending.more q k p) h = let e : sf031 a ≤ sf031 a = omega arith in Ascending.more e k p
 ascending-drop (suc r) least (a ∷ l) (Ascending.more q k p) h = ascending-drop r (suc (sf031 a)) l p (omega arith)
 
--- of ascending ones each has an ID of at least the least,
-least_at : (m least : ℕ) (l : List ℕ) → Ascending least l → m < length l → least ≤ sf031 (get_or l m 0)
-least_at m least [] p h = absurd (omega arith)
-least_at zero least (a ∷ l) (Ascending.more q k p) h = q
-least_at (suc m) least (a ∷ l) (Ascending.more q k p) h = omega (arith, least_at m (suc (sf031 a)) l p (omega arith))
-
--- so those before one with a smaller ID have smaller ones too
-pub below_at : (id least m : ℕ) (l : List ℕ) → Ascending least l → m < length l → sf031 (get_or l m 0) < id → Below id (take (suc m) l)
-below_at id least m [] p h k = absurd (omega arith)
-below_at id least zero (a ∷ l) (Ascending.more q s p) h k = Below.more k Below.none
-below_at id least (suc m) (a ∷ l) (Ascending.more q s p) h k =
-    let first : sf031 a < id = omega (arith, least_at m (suc (sf031 a)) l p (omega arith)) in
-    Below.more first (below_at id (suc (sf031 a)) m l p (omega arith) k)
-
 -- a new area takes its place behind those with a smaller ID
 pub take-insert : (a r : ℕ) (l : List ℕ) → Below (sf031 a) (take r l) → r ≤ length l → take r (insert a l) ≡ take r l
 unfolding insert

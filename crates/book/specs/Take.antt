@@ -1,4 +1,4 @@
--- Definitions to believe: what a GAD does to the book (document 01, "Book and run"; document 02, request 5, "One solution update per book", and request 7, "Whole-continent books").
+-- Definitions to believe: what a GAD does to the book (document 01, "Book and run"; document 02, request 5, "One solution update per book").
 use Rattle.std.specs.Prelude.{Bool, cond, not, ◌&&◌, List, [], ◌∷◌, ◌++◌, map, ℕ, ◌+◌, ◌*◌, ◌^◌, ltb, eqb, length, drop}
 use Rattle.answer.specs.Number.{number_of}
 use Rattle.answer.specs.Stop.{stop}
@@ -53,7 +53,7 @@ pub data Outcome : Type 0 where
   taken : List ℕ → Outcome
   refused : answer.Fault → Outcome
 
--- "An identical repeat changes nothing." CONFLICT: "same area ID and AIOU, other definition", and the same SIOU, since another begins a new book. BOOK_FULL: "a 33rd area ID", by document 02, request 7, a 257th.
+-- "An identical repeat changes nothing." CONFLICT: "same area ID and AIOU, other definition", and the same SIOU, since another begins a new book. BOOK_FULL: "a 33rd area ID".
 abbrev pub placed : ℕ → List ℕ → Found → Outcome
 placed a l (Area b) = cond (eqb a b) (taken l) (refused (nowhere Conflict))
 placed a l Nothing = cond (ltb (length l) most_areas) (taken (insert a l)) (refused (nowhere BookFull))

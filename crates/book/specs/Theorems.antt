@@ -1,7 +1,7 @@
 -- Theorems: the book after a GAD, in the words of the calls `take` and `find`. It is sound (`stays-sound`), or as it was (`refusal-keeps`, `repeat-keeps`); under each ID there is what
 -- there was, else the GAD's block, else nothing (`in-book`, and its three parts `block-found`, `area-stays`, `nothing-else`). It has the GAD's AIOU and SIOU (`has-update`); a GAD of the
 -- book's own adds to it (`same-adds`), one of another AIOU or SIOU is judged from an empty book, and only its blocks are found then (`another-begins`, `another-alone`), as over a book
--- of unknown SIOU every one is (`unknown-begins`). A book of 256 areas has every ID, 0 to 255 (`full-ids`). Proved; assumes nothing.
+-- of unknown SIOU every one is (`unknown-begins`). Proved; assumes nothing.
 use Rattle.std.specs.Prelude.{◌≡◌, ◌⊎◌, Bool, true, ◌&&◌, List, [], ◌∷◌, ◌++◌, ℕ, ◌+◌, ◌*◌, ◌<◌, get_or, drop}
 use Rattle.std.proofs.Math.Path.{refl, ap}
 use Rattle.std.proofs.Common.{ap₂, sym, ◌∙◌, inl, inr, arith, drop_at}
@@ -15,10 +15,9 @@ use Rattle.gad.specs.Gad.{Gad}
 use Rattle.message.specs.Messages.{gad_message}
 use Rattle.sheet.specs.Sheet.{judging}
 use Rattle.area.specs.Area.{sf031, bytes_of}
-use Rattle.sizes.specs.Sizes.{most_areas}
 use Rattle.area.specs.declared.AreaId.{AreaId}
 use Rattle.book.specs.Book.{book_of, areas_in, bytes_of_all, sound, found}
-use Rattle.book.specs.Laws.{length-areas, areas-bytes, length-bytes, ids_all, sound-areas, sound-ascending}
+use Rattle.book.specs.Laws.{areas-bytes, length-bytes}
 use Rattle.book.specs.Take.{reading, areas_of, lookup, Outcome, taken, refused, take_all, is_under, before, outcome, answer_of, left_by, taken_of, bytes_after}
 use Rattle.book.specs.TakeLaws.{is-under, other-aiou, other-siou, or_else, TookAll, lookup-after, holds-each, retake}
 use Rattle.book.specs.FindLaws.{bytes_of_found, found_in, found-is}
@@ -176,10 +175,3 @@ module _ (book : Book) (s payload : List ℕ) (after : Book) (w : sound book s �
   -- Every GAD that is taken gives the book its AIOU and its SIOU.
   pub has-update : (after.aiou_plus_one ≡ m.aiou + 1) × (after.siou_plus_one ≡ m.siou + 1)
   has-update = (ap (λ (x : Book). x.aiou_plus_one) held.head, ap (λ (x : Book). x.siou_plus_one) held.head)
-
--- "SF031 has 256 values" (document 02, request 8): a book of 256 areas has one for each, in their order.
-pub full-ids : (book : Book) (s : List ℕ) → sound book s ≡ true → book.count ≡ most_areas → (i : ℕ) → i < most_areas → sf031 (get_or (areas_in book.count s) i 0) ≡ i
-full-ids book s w e i h =
-    let l : List ℕ = areas_in book.count s in
-    let many : length l ≡ most_areas = length-areas book.count s ∙ e in
-    ids_all l 0 i (sound-ascending book.count 0 s (sound-areas book s w)) (omega arith) (omega arith) ∙ omega arith

@@ -1,4 +1,4 @@
-// The area book: one AIOU, one SIOU and up to 256 areas, ascending by ID, in lent bytes (document 01, "Book and run"; document 02, requests 5 and 7).
+// The area book: one AIOU, one SIOU and up to 32 areas, ascending by ID, in lent bytes (document 01, "Book and run"; document 02, request 5).
 ghost use Rattle.std.specs.Prelude.{◌≡◌, true, cond, ◌++◌, ◌+◌, ◌*◌, ◌^◌, ◌<◌, ◌≤◌, length, get_or, drop};
 ghost use Rattle.sizes.specs.Sizes.{most_areas, book_bytes};
 ghost use Rattle.bits.specs.Part.{PartOf};
@@ -9,8 +9,7 @@ ghost use Rattle.book.specs.Payload.{most_blocks, siou_of, aiou_of, block_count,
 ghost use Rattle.book.specs.Laws.{Ascending};
 ghost use Rattle.book.specs.TakeLaws.{or_else};
 ghost use Rattle.book.specs.Search.{Below, Passed, Reached};
-ghost use Rattle.book.specs.declared.Found.TheVariants.{Nothing};
-ghost use Rattle.book.specs.Judge.{sound_area, judged_by, is_taken, judge_found, judge_block, grown, Image, moved_up};
+ghost use Rattle.book.specs.Judge.{sound_area, judged_by, is_taken, judge_found, judge_block, grown, Image};
 
 use answer::{Fault, Place, Refusal};
 use area::AreaId;
@@ -299,31 +298,13 @@ fn reach(bytes: &[u8], count: usize, from: usize, id: u8) -> usize
     count
 }
 
-// How many of ascending areas have a smaller ID, by halves.
-fn halve(bytes: &[u8], count: usize, id: u8) -> usize
-    requires { (6 * count ≤ length bytes.now) × Ascending 0 (areas_in count bytes.now) }
-    ensures { Reached id count bytes.now result }
-{
-    let mut low: usize = 0;
-    let mut high = count;
-    while low < high {
-        let middle = low + (high - low) / 2;
-        if bytes[6 * middle] < id {
-            low = middle + 1;
-        } else {
-            high = middle;
-        }
-    }
-    low
-}
-
-// The same for the next block's ID. One that is above all before it goes on from the last one's place; another is sought by halves.
+// The same for the next block's ID. One that is above all before it goes on from the last one's place; another is sought anew.
 fn seek(bytes: &[u8], count: usize, at: usize, least: usize, id: u8) -> usize
-    requires { (6 * count ≤ length bytes.now) × Ascending 0 (areas_in count bytes.now) × Passed least count bytes.now at }
+    requires { (6 * count ≤ length bytes.now) × Passed least count bytes.now at }
     ensures { Reached id count bytes.now result }
 {
     if wide(id) < least {
-        return halve(bytes, count, id);
+        return reach(bytes, count, 0, id);
     }
     reach(bytes, count, at, id)
 }
@@ -464,26 +445,26 @@ fn judge(bytes: &[u8], count: usize, payload: &[u8]) -> Judged
     Judged::Held(held)
 }
 
-// The bytes from one place up to another are moved six up, the last first. Internal: there is room for them.
-fn move_up(bytes: &mut [u8], from: usize, to: usize)
-    requires { (from ≤ to) × (to + 6 ≤ length bytes.old) }
-    ensures { bytes.new ≡ moved_up from to bytes.old }
-{
-    let mut i = to;
-    while from < i {
-        i = i - 1;
-        bytes[i + 6] = bytes[i];
-    }
-}
-
-// A new area takes its place among the book's, of which so many have a smaller ID: the others are moved up, and it is put where they began.
+// A new area takes its place among the book's, of which so many have a smaller ID: of the others the one with the smaller ID is put down, the other is
+// carried on.
 fn insert(bytes: &mut [u8], count: usize, at: usize, area: u64)
     requires image { Image count bytes.old × (count < most_areas) × (6 * count + 6 ≤ length bytes.old) × (area < 2 ^ 47) }
-    requires reached { Reached (sf031 area) count bytes.old at × (lookup (sf031 area) (areas_in count bytes.old) ≡ Nothing) }
+    requires passed { Passed (sf031 area) count bytes.old at }
     ensures { bytes.new ≡ bytes_of_all (insert area (areas_in count bytes.old)) ++ drop (6 * count + 6) bytes.old }
 {
-    move_up(bytes, 6 * at, 6 * count);
-    area::put_at(bytes, 6 * at, area);
+    let mut carried = area;
+    let mut i = at;
+    while i < count {
+        let next = area::number_at(bytes, 6 * i) / 2;
+        if area::id(carried) < area::id(next) {
+            area::put_at(bytes, 6 * i, carried);
+            carried = next;
+            i += 1;
+        } else {
+            i += 1;
+        }
+    }
+    area::put_at(bytes, 6 * count, carried);
 }
 
 // The same for a block that may be held already: how many areas there are then.

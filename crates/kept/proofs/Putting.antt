@@ -204,7 +204,7 @@ module _ (book : Book) (s : List ℕ) (b : Bool) (eb : b ≡ sound book s) (l : 
   pub book-image : ((i : ℕ) → Fits w8 (get_or s i 0)) → Image book.count s
   book-image known = sound-image book s (sym eb ∙ not-false b l) (record { byte = λ i. (known i).fits })
 
-  pub book-room : (e : ℕ) (out o : List ℕ) → e ≤ 6 → length o ≡ length out → kept_room ≤ length out → e + 7 * book.count ≤ length o
+  pub book-room : (e : ℕ) (out o : List ℕ) → e ≤ 5 → length o ≡ length out → kept_room ≤ length out → e + 7 * book.count ≤ length o
   book-room e out o h n k = omega (arith, book-count)
 
 -- ---- the numbers before the areas
@@ -267,17 +267,17 @@ module _ (book : Book) (h : head_sound book ≡ true) (e₁ : ℕ) (q₁ : e₁ 
         pub issues-laid : o₃ ≡ issue_bytes book ++ drop e₃ out
         issues-laid = all_laid.is
 
--- The count takes two groups at most.
+-- The count takes one group, since a book holds fewer than 128 areas.
 module _ (book : Book) (h : head_sound book ≡ true) (e₃ : ℕ) (k : e₃ ≤ 4) where
-  count-two : length (groups_of book.count) ≤ 2
-  count-two = length-le 1 book.count (omega (arith, (head-parts book h).1))
+  count-one : length (groups_of book.count) ≡ 1
+  count-one = length_last book.count (omega (arith, (head-parts book h).1))
 
-  pub room-count : (o₃ out : List ℕ) → length o₃ ≡ length out → 6 ≤ length out → e₃ + length (groups_of book.count) ≤ length o₃
-  room-count o₃ out n l = omega (arith, count-two)
+  pub room-count : (o₃ out : List ℕ) → length o₃ ≡ length out → 5 ≤ length out → e₃ + length (groups_of book.count) ≤ length o₃
+  room-count o₃ out n l = omega (arith, count-one)
 
   module _ (e₄ : ℕ) (q₄ : e₄ ≡ e₃ + length (groups_of book.count)) where
-    pub head-six : e₄ ≤ 6
-    head-six = omega (arith, count-two)
+    pub head-five : e₄ ≤ 5
+    head-five = omega (arith, count-one)
 
     module _ (q₃ : e₃ ≡ length (issue_bytes book)) (out o₃ o₄ : List ℕ) (r₃ : o₃ ≡ issue_bytes book ++ drop e₃ out) (r₄ : o₄ ≡ take e₃ o₃ ++ (groups_of book.count ++ drop e₄ o₃)) where
       with-count : Laid out (newest_form ∷ book.aiou_plus_one ∷ book.siou_plus_one ∷ book.count ∷ []) e₄ o₄

@@ -21,7 +21,7 @@ use Rattle.groups.specs.Groups.{next_of}
 use Rattle.groups.specs.Rows.{next_le}
 use Rattle.groups.specs.declared.Next.{Next}
 use Rattle.groups.specs.declared.Next.TheVariants as next
-use Rattle.kept.specs.Kept.{newest_form, most_before, is_form, head_in, Said, said, refused, number, whole, not-kept, answer_of, left_by, read_kept, fits, with_area, read_areas, read_count, read_siou, read_aiou, read_head, head_by, read_aiou_by, read_by, read_count_by, read_head_by, read_siou_by}
+use Rattle.kept.specs.Kept.{newest_form, is_form, head_in, Said, said, refused, number, whole, not-kept, answer_of, left_by, read_kept, fits, with_area, read_areas, read_count, read_siou, read_aiou, read_head}
 use Rattle.kept.specs.RoundTrip.{past-none}
 use Rattle.kept.specs.ReadLaws.{head-sound}
 use Rattle.kept.specs.Walk.{HeadIs, Areas, EndIs, stored_by, is_said, step-on, step-off, step-form, step_past}
@@ -43,55 +43,34 @@ module _ (f : ℕ) where
 
   module _ (book : Book) (b : Bool) (eb : b ≡ head_sound book) where
     pub head-unsound : not b ≡ true → false ≡ head_in f book
-    unfolding head_by
+    unfolding head_in
     head-unsound k = let z : head_sound book ≡ false = sym eb ∙ not-true b k in rw z
 
     module _ (k : not b ≡ false) where
       is-sound : head_sound book ≡ true
       is-sound = sym eb ∙ not-false b k
 
-      -- in forms 1 and 2 there are at most 32 areas; from form 3 on, as many as a sound book has
-      module _ (h : f < 3) where
-        old : leb 3 f ≡ false
-        old = lt-leb 3 f h
+      pub head-said : 2 ≤ f → true ≡ head_in f book
+      unfolding head_in
+      head-said h = let z : leb 2 f ≡ true = le-leb 2 f h in rw (is-sound, z)
 
-        pub head-many : most_before < book.count → false ≡ head_in f book
-        unfolding head_by
-        head-many m = let c : leb book.count most_before ≡ false = lt-leb book.count most_before m in rw (is-sound, old, c)
-
-        module _ (m : book.count ≤ most_before) where
-          few : leb book.count most_before ≡ true
-          few = le-leb book.count most_before m
-
-          pub head-said : 2 ≤ f → true ≡ head_in f book
-          unfolding head_by
-          head-said k = let z : leb 2 f ≡ true = le-leb 2 f k in rw (is-sound, old, few, z)
-
-          pub head-unsaid : f < 2 → (u : Bool) → u ≡ eqb book.siou_plus_one 0 → u ≡ head_in f book
-          unfolding head_by
-          head-unsaid k u e = let z : leb 2 f ≡ false = lt-leb 2 f k in rw (is-sound, old, few, z) e
-
-      pub head-new : 3 ≤ f → true ≡ head_in f book
-      unfolding head_by
-      head-new h =
-          let y : leb 3 f ≡ true = le-leb 3 f h in
-          let z : leb 2 f ≡ true = le-leb 2 f (omega arith) in
-          let c : leb book.count most_areas ≡ true = le-leb book.count most_areas (head-parts book is-sound).1 in
-          rw (is-sound, y, z, c)
+      pub head-unsaid : f < 2 → (u : Bool) → u ≡ eqb book.siou_plus_one 0 → u ≡ head_in f book
+      unfolding head_in
+      head-unsaid h u e = let z : leb 2 f ≡ false = lt-leb 2 f h in rw (is-sound, z) e
 
 -- ---- the head
 
 module _ (s : List ℕ) (at : ℕ) (h : at ≤ length s) (v : Next) (e : v ≡ next_of s at) (f : ℕ) where
   pub count-refused : (aiou siou : ℕ) (r : Refusal) → v ≡ next.Refused r → read_count f aiou siou (drop at s) ≡ refused r
-  unfolding read_count_by
+  unfolding read_count
   count-refused aiou siou r q = step-off s at v e _ r q
 
   pub siou-refused : (aiou : ℕ) → 2 ≤ f → (r : Refusal) → v ≡ next.Refused r → read_siou f aiou (drop at s) ≡ refused r
-  unfolding read_siou_by
+  unfolding read_siou
   siou-refused aiou k r q = let z : leb 2 f ≡ true = le-leb 2 f k in rw z (step-off s at v e _ r q)
 
   pub aiou-refused : (r : Refusal) → v ≡ next.Refused r → read_aiou f (drop at s) ≡ refused r
-  unfolding read_aiou_by
+  unfolding read_aiou
   aiou-refused r q = step-off s at v e _ r q
 
   module _ (x end : ℕ) (q : v ≡ next.Number x end) where
@@ -100,18 +79,18 @@ module _ (s : List ℕ) (at : ℕ) (h : at ≤ length s) (v : Next) (e : v ≡ n
       is-in = ap not (sym (eb ∙ ap (head_in f) eo))
 
       pub count-form : not b ≡ true → read_count f aiou siou (drop at s) ≡ refused Form
-      unfolding read_count_by
+      unfolding read_count
       count-form k = step-form s at v e (λ count. not (head_in f (book_of aiou siou count))) (λ count s. said (book_of aiou siou count) s) x end q (is-in ∙ k)
 
       pub count-said : not b ≡ false → read_count f aiou siou (drop at s) ≡ said book (drop end s)
-      unfolding read_count_by
+      unfolding read_count
       count-said k =
           step_past s at v e (λ count. not (head_in f (book_of aiou siou count))) (λ count s. said (book_of aiou siou count) s) x end q (is-in ∙ k)
           ∙ ap (λ z. said z (drop end s)) (sym eo)
 
     module _ (aiou : ℕ) (k : 2 ≤ f) (b : Bool) (eb : b ≡ siou_sound aiou x) where
       pub siou-form : not b ≡ true → read_siou f aiou (drop at s) ≡ refused Form
-      unfolding read_siou_by
+      unfolding read_siou
       siou-form l =
           let z : leb 2 f ≡ true = le-leb 2 f k in
           rw z (step-form s at v e (λ siou. not (siou_sound aiou siou)) (read_count f aiou) x end q (ap not (sym eb) ∙ l))
@@ -121,7 +100,7 @@ module _ (s : List ℕ) (at : ℕ) (h : at ≤ length s) (v : Next) (e : v ≡ n
         siou-small = siou-most aiou x (sym eb ∙ not-false b l)
 
         pub siou-on : (d : ℕ) → d ≡ x → (r : Head) → HeadIs s (read_count f aiou d (drop end s)) r → HeadIs s (read_siou f aiou (drop at s)) r
-        unfolding read_siou_by
+        unfolding read_siou
         siou-on d ed r =
             let z : leb 2 f ≡ true = le-leb 2 f k in
             subst (λ o. HeadIs s o r)
@@ -129,11 +108,11 @@ module _ (s : List ℕ) (at : ℕ) (h : at ≤ length s) (v : Next) (e : v ≡ n
             ∙ sym (rw z (step_past s at v e (λ siou. not (siou_sound aiou siou)) (read_count f aiou) x end q (ap not (sym eb) ∙ l))))
 
     pub aiou-over : 16 < x → read_aiou f (drop at s) ≡ refused Form
-    unfolding read_aiou_by
+    unfolding read_aiou
     aiou-over k = step-form s at v e (ltb 16) (read_siou f) x end q (lt-ltb 16 x k)
 
     pub aiou-on : x ≤ 16 → (d : ℕ) → d ≡ x → (r : Head) → HeadIs s (read_siou f d (drop end s)) r → HeadIs s (read_aiou f (drop at s)) r
-    unfolding read_aiou_by
+    unfolding read_aiou
     aiou-on k d ed r =
         subst (λ o. HeadIs s o r) (ap (λ d. read_siou f d (drop end s)) ed ∙ sym (step_past s at v e (ltb 16) (read_siou f) x end q (le-ltb 16 x k)))
 
@@ -149,16 +128,16 @@ siou-unsaid s at f aiou h r =
 
 module _ (s : List ℕ) (v : Next) (e : v ≡ next_of s 0) where
   pub head-refused : (r : Refusal) → v ≡ next.Refused r → read_head s ≡ refused r
-  unfolding read_head_by
+  unfolding read_head
   head-refused r q = step-off s 0 v e _ r q
 
   module _ (x end : ℕ) (q : v ≡ next.Number x end) (b : Bool) (eb : b ≡ is_form x) where
     pub head-other : not b ≡ true → read_head s ≡ refused Form
-    unfolding read_head_by
+    unfolding read_head
     head-other k = step-form s 0 v e (λ f. not (is_form f)) read_aiou x end q (ap not (sym eb) ∙ k)
 
     pub head-on : not b ≡ false → (r : Head) → HeadIs s (read_aiou x (drop end s)) r → HeadIs s (read_head s) r
-    unfolding read_head_by
+    unfolding read_head
     head-on k r = subst (λ o. HeadIs s o r) (sym (step_past s 0 v e (λ f. not (is_form f)) read_aiou x end q (ap not (sym eb) ∙ k)))
 
 -- ---- an area
@@ -377,11 +356,11 @@ module _ (s bytes : List ℕ) where
     no_room = lt-ltb _ _ h
 
     pub kept-room : answering.Refused Room ≡ answer_of (read_kept s bytes)
-    unfolding read_by
+    unfolding read_kept
     kept-room = rw no_room
 
     pub left-room : bytes ≡ left_by (read_kept s bytes) bytes
-    unfolding read_by
+    unfolding read_kept
     left-room = rw no_room
 
   module _ (h : book_bytes ≤ length bytes) (v : Head) (p : HeadIs s (read_head s) v) where
@@ -393,11 +372,11 @@ module _ (s bytes : List ℕ) where
       head-off = subst (λ v. HeadIs s (read_head s) v) q p
 
       pub kept-refused : answering.Refused r ≡ answer_of (read_kept s bytes)
-      unfolding read_by
+      unfolding read_kept
       kept-refused = rw (has_room, head-off)
 
       pub left-head : bytes ≡ left_by (read_kept s bytes) bytes
-      unfolding read_by
+      unfolding read_kept
       left-head = rw (has_room, head-off)
 
     module _ (book : Book) (at : ℕ) (q : v ≡ head.Is book at) where
@@ -405,11 +384,11 @@ module _ (s bytes : List ℕ) where
       head-is = (subst (λ v. HeadIs s (read_head s) v) q p).0
 
       pub kept_on : (r : ReadKept) → r ≡ answer_of (whole book (read_areas book.count 0 (drop at s))) → r ≡ answer_of (read_kept s bytes)
-      unfolding read_by
+      unfolding read_kept
       kept_on r er = rw (has_room, head-is) er
 
       pub left-on : (z : List ℕ) → z ≡ left_by (whole book (read_areas book.count 0 (drop at s))) bytes → z ≡ left_by (read_kept s bytes) bytes
-      unfolding read_by
+      unfolding read_kept
       left-on z ez = rw (has_room, head-is) ez
 
 module _ (s : List ℕ) (v : Head) (p : HeadIs s (read_head s) v) (book : Book) (at : ℕ) (q : v ≡ head.Is book at) where

@@ -5,7 +5,7 @@ use Rattle.area.specs.Area.{sf031, is_area}
 use Rattle.area.specs.Laws.{area-lt, both_left, both_right}
 use Rattle.area.specs.Plain.{plain, plain-id, plain-area}
 use Rattle.book.specs.Book.{areas_in, areas_sound, sound}
-use Rattle.book.specs.Laws.{Ascending, Areas, ids-left, sound-areas, sound-ascending, sound-each, length-areas}
+use Rattle.book.specs.Laws.{Ascending, Areas, sound-areas, sound-ascending, sound-each, length-areas}
 use Rattle.book.specs.declared.Book.{Book}
 use Rattle.kept.specs.Kept.{fits}
 
@@ -36,6 +36,11 @@ pub row_more : (n least a : ℕ) (l : List ℕ) → fits n least a ≡ true → 
 row_more n least a l f r =
     let w = fits-parts n least a f in
     record { count = ap suc r.count; ascending = Ascending.more w.0 (area-lt a w.2) r.ascending; areas = Areas.more w.2 r.areas }
+
+-- IDs are below 256, so that many areas leave room below
+ids-left : (l : List ℕ) (least : ℕ) → least ≤ 256 → Ascending least l → least + length l ≤ 256
+ids-left [] least h p = omega arith
+ids-left (a ∷ l) least h (Ascending.more k s p) = omega (arith, ids-left l (suc (sf031 a)) (omega arith) p)
 
 -- the first fits, and the others are a row behind it
 module _ (n least a : ℕ) (l : List ℕ) (r : Row (suc n) least (a ∷ l)) where

@@ -1,4 +1,4 @@
--- Definitions to believe: bytes that are a kept book, that go on after its end, that end before it does, that break its form (document 01, "Log and kept book"; document 02, requests 5 and 7).
+-- Definitions to believe: bytes that are a kept book, that go on after its end, that end before it does, that break its form (document 01, "Log and kept book"; document 02, request 5).
 use Rattle.std.specs.Prelude.{◌≡◌, true, List, [], ◌∷◌, ◌++◌, ℕ}
 use Rattle.answer.specs.declared.Refusal.TheVariants.{Form}
 use Rattle.bits.specs.Bits.{Bytes}

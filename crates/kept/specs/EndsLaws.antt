@@ -14,7 +14,7 @@ use Rattle.sizes.specs.Sizes.{most_areas, book_bytes}
 use Rattle.book.specs.Book.{book_of, areas_in, bytes_of_all, siou_sound, head_sound, sound}
 use Rattle.book.specs.Laws.{head-parts, siou-unknown}
 use Rattle.book.specs.declared.Book.{Book}
-use Rattle.kept.specs.Kept.{newest_form, most_before, most_in, is_form, has_siou, numbers_in, said, read_head, kept, not-kept, whole, behind_head, head_by}
+use Rattle.kept.specs.Kept.{newest_form, is_form, has_siou, head_in, numbers_in, said, read_head, kept, not-kept, whole, behind_head}
 use Rattle.kept.specs.AreaRows.{Row, sound-row, following, following-row}
 use Rattle.kept.specs.RoundTrip.{Says, in-sound, unsaid, past-book}
 use Rattle.kept.specs.ReadLaws.{IsKept, kept-sound, kept-areas, left-length}
@@ -139,22 +139,13 @@ record Some (f aiou siou : ℕ) : Type 0 where
   count : ℕ
   says : Says f (book_of aiou siou count)
 
--- every form can say no area, and one
-pub few-areas : (f count : ℕ) → count ≤ most_before → leb count (most_in most_areas f) ≡ true
-few-areas f count h = go (leb 3 f)
-  where
-    go : (b : Bool) → leb count (cond b most_areas most_before) ≡ true
-    go true = le-leb count most_areas (omega arith)
-    go false = le-leb count most_before h
-
 some : (f aiou siou : ℕ) → is_form f ≡ true → aiou ≤ 16 → siou_sound aiou siou ≡ true → (has_siou f || eqb siou 0) ≡ true → Some f aiou siou
-unfolding head_by head_sound
-some f zero siou i h g k = let c : leb 0 (most_in most_areas f) ≡ true = few-areas f 0 (omega arith) in record { count = 0; says = record { is-form = i; in-form = rw (g, c, k) } }
+unfolding head_in head_sound
+some f zero siou i h g k = record { count = 0; says = record { is-form = i; in-form = rw (g, k) } }
 some f (suc aiou) siou i h g k =
     let y : eqb (suc aiou) 0 ≡ false = ne_eqb (suc aiou) 0 (λ q. omega arith) in
     let z : leb (suc aiou) 16 ≡ true = le-leb (suc aiou) 16 h in
-    let c : leb 1 (most_in most_areas f) ≡ true = few-areas f 1 (omega arith) in
-    record { count = 1; says = record { is-form = i; in-form = rw (y, g, z, c, k) } }
+    record { count = 1; says = record { is-form = i; in-form = rw (y, g, z, k) } }
 
 module _ (f aiou siou : ℕ) (w : Some f aiou siou) where
   some-row : Row w.count 0 (following w.count 0)

@@ -1,11 +1,11 @@
--- Definitions to believe: the kept book (document 01, "Log and kept book"; document 02, request 5, "One solution update per book", and request 7, "Whole-continent books").
+-- Definitions to believe: the kept book (document 01, "Log and kept book"; document 02, request 5, "One solution update per book").
 use Rattle.std.specs.Prelude.{Bool, cond, not, ◌&&◌, ◌||◌, List, [], ◌∷◌, ◌++◌, ℕ, zero, suc, ◌+◌, ◌*◌, leb, ltb, eqb, length, drop}
 use Rattle.answer.specs.Number.{number_of}
 use Rattle.answer.specs.Stop.{stop}
 use Rattle.answer.specs.declared.Refusal.{Refusal}
 use Rattle.answer.specs.declared.Refusal.TheVariants.{Room, State, Form, Leftover}
 use Rattle.area.specs.Area.{sf031, is_area}
-use Rattle.sizes.specs.Sizes.{most_areas, area_bytes, book_bytes, kept_room}
+use Rattle.sizes.specs.Sizes.{book_bytes, kept_room}
 use Rattle.book.specs.Book.{book_of, areas_in, bytes_of_all, siou_sound, head_sound, sound}
 use Rattle.book.specs.declared.Book.{Book}
 use Rattle.groups.specs.Groups.{groups_of_all, read_groups}
@@ -18,39 +18,21 @@ use Rattle.kept.specs.declared.ReadKept.TheVariants as answering
 
 -- ---- the forms of a kept book, by their numbers
 
--- "Kept books are written as form 3 ..": it is the one that is written, and the highest that is read
+-- "The kept book gets form 2 ..": it is the one that is written, and the highest that is read
 abbrev pub newest_form : ℕ
-newest_form = 3
+newest_form = 2
 
--- "form 2 with SIOU + 1 after AIOU + 1, 0 for unknown or no book"; form 3 has the "same fields as form 2"
+-- ".. Form 1 is still read"
+abbrev pub is_form : (form : ℕ) → Bool
+is_form form = leb 1 form && leb form newest_form
+
+-- "form 2 with SIOU + 1 after AIOU + 1, 0 for unknown or no book"
 abbrev pub has_siou : (form : ℕ) → Bool
 has_siou form = leb 2 form
 
--- ---- readers
-
--- "Forms 1 and 2 are read as before, still with at most 32. An older desk answers FORM to form 3 ..": what a desk reads goes over the highest form that it knows and the most areas that
--- its book holds. Desks are three of these pairs: (1, 32) of document 01, (2, 32) of request 5, and (3, 256) now.
-abbrev pub most_before : ℕ
-most_before = 32
-
--- the forms that a reader knows
-abbrev pub is_form_by : (highest form : ℕ) → Bool
-is_form_by highest form = leb 1 form && leb form highest
-
--- the most areas that a form can say to it: ".. form 3, same fields as form 2 with a count up to 256. Forms 1 and 2 are .. still with at most 32."
-abbrev pub most_in : (most form : ℕ) → ℕ
-most_in most form = cond (leb 3 form) most most_before
-
--- the heads of sound books that a form can say to it: "Form 1 is still read, its SIOU unknown"
-unfoldable pub head_by : (most form : ℕ) → Book → Bool
-head_by most form book = head_sound book && (leb book.count (most_in most form) && (has_siou form || eqb book.siou_plus_one 0))
-
--- this desk's
-abbrev pub is_form : (form : ℕ) → Bool
-is_form form = is_form_by newest_form form
-
-abbrev pub head_in : (form : ℕ) → Book → Bool
-head_in form book = head_by most_areas form book
+-- the heads of sound books that a form can say: "Form 1 is still read, its SIOU unknown"
+unfoldable pub head_in : (form : ℕ) → Book → Bool
+head_in form book = head_sound book && (has_siou form || eqb book.siou_plus_one 0)
 
 -- the numbers of a kept book: "form number .., AIOU + 1, count, areas as numbers, ascending", with "SIOU + 1 after AIOU + 1" from form 2 on
 unfoldable pub numbers_in : (form : ℕ) → Book → (areas : List ℕ) → List ℕ
@@ -63,7 +45,7 @@ kept_in form book areas = groups_of_all (numbers_in form book areas)
 abbrev pub kept_bytes : Book → List ℕ → List ℕ
 kept_bytes book s = kept_in newest_form book (areas_in book.count s)
 
--- "Writing checks ROOM (..), STATE.", "1,798 of room for a kept one"
+-- "Writing checks ROOM (..), STATE.", "(229 bytes of room)"
 abbrev pub lacks_room : List ℕ → List ℕ → Bool
 lacks_room s out = ltb (length s) book_bytes || ltb (length out) kept_room
 
@@ -110,23 +92,23 @@ unfoldable pub read_areas : ℕ → ℕ → List ℕ → Said (List ℕ)
 read_areas zero least s = said [] s
 read_areas (suc n) least s = number s (λ a rest. stop (not (fits n least a)) (refused Form) (with_area a (read_areas n (suc (sf031 a)) rest)))
 
--- form number, AIOU + 1, from form 2 on SIOU + 1, count: a head that the form can say to the reader
-unfoldable pub read_count_by : (most form aiou siou : ℕ) → List ℕ → Said Book
-read_count_by most form aiou siou s =
-    number s (λ count s. stop (not (head_by most form (book_of aiou siou count))) (refused Form)
+-- form number, AIOU + 1, from form 2 on SIOU + 1, count: a head that the form can say
+unfoldable pub read_count : (form aiou siou : ℕ) → List ℕ → Said Book
+read_count form aiou siou s =
+    number s (λ count s. stop (not (head_in form (book_of aiou siou count))) (refused Form)
     (said (book_of aiou siou count) s))
 
-unfoldable pub read_siou_by : (most form aiou : ℕ) → List ℕ → Said Book
-read_siou_by most form aiou s =
+unfoldable pub read_siou : (form aiou : ℕ) → List ℕ → Said Book
+read_siou form aiou s =
     cond (has_siou form)
-    (number s (λ siou s. stop (not (siou_sound aiou siou)) (refused Form) (read_count_by most form aiou siou s)))
-    (read_count_by most form aiou 0 s)
+    (number s (λ siou s. stop (not (siou_sound aiou siou)) (refused Form) (read_count form aiou siou s)))
+    (read_count form aiou 0 s)
 
-unfoldable pub read_aiou_by : (most form : ℕ) → List ℕ → Said Book
-read_aiou_by most form s = number s (λ aiou s. stop (ltb 16 aiou) (refused Form) (read_siou_by most form aiou s))
+unfoldable pub read_aiou : (form : ℕ) → List ℕ → Said Book
+read_aiou form s = number s (λ aiou s. stop (ltb 16 aiou) (refused Form) (read_siou form aiou s))
 
-unfoldable pub read_head_by : (highest most : ℕ) → List ℕ → Said Book
-read_head_by highest most s = number s (λ form s. stop (not (is_form_by highest form)) (refused Form) (read_aiou_by most form s))
+unfoldable pub read_head : List ℕ → Said Book
+read_head s = number s (λ form s. stop (not (is_form form)) (refused Form) (read_aiou form s))
 
 -- a book and its areas, and then LEFTOVER
 pub data Outcome : Type 0 where
@@ -142,25 +124,9 @@ abbrev pub behind_head : Said Book → Outcome
 behind_head (said book s) = whole book (read_areas book.count 0 s)
 behind_head (refused r) = not-kept r
 
--- "Reading checks ROOM, then the first fault in reading order, SHORT or FORM .., then LEFTOVER.": room for the most areas, whatever the form
-unfoldable pub read_by : (highest most : ℕ) → List ℕ → List ℕ → Outcome
-read_by highest most s bytes = stop (ltb (length bytes) (area_bytes * most)) (not-kept Room) (behind_head (read_head_by highest most s))
-
--- this desk's: (3, 256)
-abbrev pub read_count : (form aiou siou : ℕ) → List ℕ → Said Book
-read_count form aiou siou s = read_count_by most_areas form aiou siou s
-
-abbrev pub read_siou : (form aiou : ℕ) → List ℕ → Said Book
-read_siou form aiou s = read_siou_by most_areas form aiou s
-
-abbrev pub read_aiou : (form : ℕ) → List ℕ → Said Book
-read_aiou form s = read_aiou_by most_areas form s
-
-abbrev pub read_head : List ℕ → Said Book
-read_head s = read_head_by newest_form most_areas s
-
-abbrev pub read_kept : List ℕ → List ℕ → Outcome
-read_kept s bytes = read_by newest_form most_areas s bytes
+-- "Reading checks ROOM, then the first fault in reading order, SHORT or FORM .., then LEFTOVER."
+unfoldable pub read_kept : List ℕ → List ℕ → Outcome
+read_kept s bytes = stop (ltb (length bytes) book_bytes) (not-kept Room) (behind_head (read_head s))
 
 -- what `read_kept` answers, and what it leaves of the lent bytes: six bytes an area
 abbrev pub answer_of : Outcome → ReadKept

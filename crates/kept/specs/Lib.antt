@@ -6,7 +6,6 @@ pub mod RoundTrip
 pub mod ReadLaws
 pub mod EndsLaws
 pub mod StopLaws
-pub mod Older
 pub mod Theorems
 pub mod Determined
 pub mod Examples

@@ -1,11 +1,12 @@
 -- The two round trips of the kept book, over the form's number: what a form says of a book reads back as that book (`written-reads`), and bytes that read are what the form whose number
 -- they begin with says of the book (`read-writes`). Proved; assumes nothing.
-use Rattle.std.specs.Prelude.{◌≡◌, Bool, true, false, not, ◌&&◌, ◌||◌, List, [], ◌∷◌, ◌++◌, ℕ, zero, suc, ◌+◌, ◌^◌, ◌≤◌, ◌<◌, leb, ltb, eqb, length, drop}
+use Rattle.std.specs.Prelude.{◌≡◌, Bool, true, false, not, ◌||◌, List, [], ◌∷◌, ◌++◌, ℕ, zero, suc, ◌+◌, ◌^◌, ◌≤◌, ◌<◌, leb, ltb, length, drop}
 use Rattle.std.proofs.Math.Path.{refl, ap}
-use Rattle.std.proofs.Common.{ap₂, sym, ◌∙◌, subst, append_assoc, append-nil, arith}
+use Rattle.std.proofs.Common.{ap₂, sym, ◌∙◌, subst, append_assoc, append-nil, arith, leb-true, le-ltb, lt-ltb, ltb-true, ltb-false, eqb-true}
 use Rattle.std.proofs.Math.Bool.{cond}
+use Rattle.std.proofs.Math.Dec.{eqb}
 use Rattle.std.proofs.Math.Seq.{drop-append_seam}
-use borrow.Author.Tests.{le-leb, leb-true, le-ltb, lt-ltb, ltb-true, ltb-false, not-false, eqb-true}
+use Rattle.std.proofs.lemmas.Bool.{not-false}
 use Rattle.answer.specs.Stop.{stop}
 use Rattle.answer.specs.declared.Refusal.TheVariants.{Room, Form}
 use Rattle.bits.specs.Bits.{Bytes}
@@ -21,7 +22,7 @@ use Rattle.groups.specs.Laws.{read-written, written_read}
 use Rattle.groups.specs.Rows.{all_more}
 use Rattle.groups.specs.declared.Read.{Read}
 use Rattle.groups.specs.declared.Read.TheVariants as reading
-use Rattle.kept.specs.Kept.{newest_form, most_in, is_form, has_siou, head_in, numbers_in, kept_in, Said, said, refused, behind, number, fits, with_area, read_areas, read_count, read_siou, read_aiou, read_head, Outcome, kept, not-kept, whole, behind_head, read_kept, head_by, read_aiou_by, read_by, read_count_by, read_head_by, read_siou_by}
+use Rattle.kept.specs.Kept.{newest_form, is_form, has_siou, head_in, numbers_in, kept_in, Said, said, refused, behind, number, fits, with_area, read_areas, read_count, read_siou, read_aiou, read_head, Outcome, kept, not-kept, whole, behind_head, read_kept}
 use Rattle.kept.specs.AreaRows.{Row, fits-small, row-none, row_more, row_fits, row-tail, sound-row}
 
 -- ---- a form that can say a book
@@ -33,37 +34,27 @@ pub record Says (f : ℕ) (book : Book) : Type 0 where
 pub form-most : (f : ℕ) → is_form f ≡ true → f ≤ newest_form
 form-most f e = leb-true f newest_form (both_right (leb 1 f) (leb f newest_form) e)
 
--- the book is sound, it has no more areas than the form can say, and its SIOU is unknown where the form does not say it
+-- the book is sound, and its SIOU is unknown where the form does not say it
 module _ (f : ℕ) (book : Book) (e : head_in f book ≡ true) where
-  abbrev few : Bool
-  few = leb book.count (most_in most_areas f)
-
-  abbrev siou : Bool
-  siou = has_siou f || eqb book.siou_plus_one 0
-
   pub in-sound : head_sound book ≡ true
-  unfolding head_by
-  in-sound = both_left (head_sound book) (few && siou) e
-
-  pub in_count : book.count ≤ most_in most_areas f
-  unfolding head_by
-  in_count = leb-true book.count (most_in most_areas f) (both_left few siou (both_right (head_sound book) (few && siou) e))
+  unfolding head_in
+  in-sound = both_left (head_sound book) (has_siou f || eqb book.siou_plus_one 0) e
 
   pub in-siou : (has_siou f || eqb book.siou_plus_one 0) ≡ true
-  unfolding head_by
-  in-siou = both_right few siou (both_right (head_sound book) (few && siou) e)
+  unfolding head_in
+  in-siou = both_right (head_sound book) (has_siou f || eqb book.siou_plus_one 0) e
 
 pub unsaid : (f siou : ℕ) → (has_siou f || eqb siou 0) ≡ true → has_siou f ≡ false → siou ≡ 0
 unsaid f siou e z = eqb-true siou 0 (ap (λ b. b || eqb siou 0) (sym z) ∙ e)
 
 -- every sound book is said by the form that is written
 pub form-says : (book : Book) → head_sound book ≡ true → Says newest_form book
-unfolding head_by
-form-says book e = let c : leb book.count most_areas ≡ true = le-leb book.count most_areas (head-parts book e).1 in record { is-form = refl; in-form = rw (e, c) }
+unfolding head_in
+form-says book e = record { is-form = refl; in-form = rw e }
 
 -- ---- what a form says is read
 
-pub number-said : {A : Type 0} (x : ℕ) (t : List ℕ) (k : ℕ → List ℕ → Said A) → x < 2 ^ 64 → number (groups_of x ++ t) k ≡ k x t
+number-said : {A : Type 0} (x : ℕ) (t : List ℕ) (k : ℕ → List ℕ → Said A) → x < 2 ^ 64 → number (groups_of x ++ t) k ≡ k x t
 number-said x t k h =
     ap (λ r. behind r (groups_of x ++ t) k) (read-written t x h) ∙ ap (k x) (drop-append_seam (groups_of x) t)
 
@@ -93,26 +84,26 @@ areas-past (suc n) least (a ∷ l) t r =
 
 -- the head, number by number
 pub past-form : (f : ℕ) (l t : List ℕ) → is_form f ≡ true → read_head (groups_of_all (f ∷ l) ++ t) ≡ read_aiou f (groups_of_all l ++ t)
-unfolding read_head_by
+unfolding read_head
 past-form f l t e = number_past f l t (λ f. not (is_form f)) read_aiou (omega (arith, form-most f e)) (ap not e)
 
 pub past-aiou : (f aiou : ℕ) (l t : List ℕ) → aiou ≤ 16 → read_aiou f (groups_of_all (aiou ∷ l) ++ t) ≡ read_siou f aiou (groups_of_all l ++ t)
-unfolding read_aiou_by
+unfolding read_aiou
 past-aiou f aiou l t h = number_past aiou l t (ltb 16) (read_siou f) (omega arith) (le-ltb 16 aiou h)
 
 pub past-siou : (f aiou siou : ℕ) (l t : List ℕ) → has_siou f ≡ true → siou_sound aiou siou ≡ true → read_siou f aiou (groups_of_all (siou ∷ l) ++ t) ≡ read_count f aiou siou (groups_of_all l ++ t)
-unfolding read_siou_by
+unfolding read_siou
 past-siou f aiou siou l t z e =
     rw z (number_past siou l t (λ siou. not (siou_sound aiou siou)) (read_count f aiou) (omega (arith, siou-most aiou siou e)) (ap not e))
 
 -- a form that does not say the SIOU
 pub past-none : (f aiou : ℕ) (t : List ℕ) → has_siou f ≡ false → read_siou f aiou t ≡ read_count f aiou 0 t
-unfolding read_siou_by
+unfolding read_siou
 past-none f aiou t z = rw z
 
 pub past-count : (f : ℕ) (book : Book) (l t : List ℕ) → head_in f book ≡ true
     → read_count f book.aiou_plus_one book.siou_plus_one (groups_of_all (book.count ∷ l) ++ t) ≡ said book (groups_of_all l ++ t)
-unfolding read_count_by
+unfolding read_count
 past-count f book l t e =
     number_past book.count l t (λ count. not (head_in f (book_of book.aiou_plus_one book.siou_plus_one count)))
     (λ count s. said (book_of book.aiou_plus_one book.siou_plus_one count) s) (omega (arith, (head-parts book (in-sound f book e)).1)) (ap not e)
@@ -143,11 +134,11 @@ module _ (f : ℕ) (book : Book) (w : Says f book) where
 -- ---- without room, and with room lent, what is read
 
 pub no_room : (s bytes : List ℕ) → length bytes < book_bytes → read_kept s bytes ≡ not-kept Room
-unfolding read_by
+unfolding read_kept
 no_room s bytes h = let z : ltb (length bytes) book_bytes ≡ true = lt-ltb _ _ h in rw z
 
 pub with-room : (s bytes : List ℕ) → book_bytes ≤ length bytes → read_kept s bytes ≡ behind_head (read_head s)
-unfolding read_by
+unfolding read_kept
 with-room s bytes h = let z : ltb (length bytes) book_bytes ≡ false = le-ltb _ _ h in rw z
 
 -- what is answered otherwise than by ROOM is what was read
@@ -231,7 +222,7 @@ record Tail (f aiou : ℕ) (s : List ℕ) (book : Book) (rest : List ℕ) (numbe
 
 count-was : (f aiou siou : ℕ) (s : List ℕ) (book : Book) (rest : List ℕ) → read_count f aiou siou s ≡ said book rest
     → (siou ≡ book.siou_plus_one) × Tail f aiou s book rest (λ l. book.count ∷ l)
-unfolding read_count_by
+unfolding read_count
 count-was f aiou siou s book rest e =
     let g = first s (λ count. not (head_in f (book_of aiou siou count))) (λ count s. said (book_of aiou siou count) s) book rest e in
     go g.x g.behind-it (not-false (head_in f (book_of aiou siou g.x)) g.passes) g.reads g.bytes g.is
@@ -253,7 +244,7 @@ count-was f aiou siou s book rest e =
 
 siou-was : (f aiou : ℕ) (s : List ℕ) (book : Book) (rest : List ℕ) → read_siou f aiou s ≡ said book rest
     → Tail f aiou s book rest (λ l. cond (has_siou f) (book.siou_plus_one ∷ book.count ∷ l) (book.count ∷ l))
-unfolding read_siou_by
+unfolding read_siou
 siou-was f aiou s book rest = go (has_siou f)
   where
     go : (b : Bool) → cond b (number s (λ siou s. stop (not (siou_sound aiou siou)) (refused Form) (read_count f aiou siou s))) (read_count f aiou 0 s) ≡ said book rest
@@ -277,7 +268,7 @@ pub record HeadWas (s : List ℕ) (book : Book) (rest : List ℕ) : Type 0 where
   pub is : Bytes s → (l t : List ℕ) → rest ≡ groups_of_all l ++ t → s ≡ kept_in number book l ++ t
 
 pub head-was : (s : List ℕ) (book : Book) (rest : List ℕ) → read_head s ≡ said book rest → HeadWas s book rest
-unfolding read_head_by read_aiou_by numbers_in
+unfolding read_head read_aiou numbers_in
 head-was s book rest e =
     let g = first s (λ f. not (is_form f)) read_aiou book rest e in
     let h = first g.behind-it (ltb 16) (read_siou g.x) book rest g.reads in

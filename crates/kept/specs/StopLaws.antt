@@ -24,7 +24,7 @@ use Rattle.groups.specs.Laws.{written_read, groups-all-append}
 use Rattle.groups.specs.Rows.{unended-short, short-unended, read-refusals}
 use Rattle.groups.specs.declared.Read.{Read}
 use Rattle.groups.specs.declared.Read.TheVariants as reading
-use Rattle.kept.specs.Kept.{is_form, has_siou, head_in, numbers_in, kept_in, Said, said, refused, behind, number, fits, with_area, read_areas, read_count, read_siou, read_aiou, read_head, Outcome, kept, not-kept, whole, behind_head, read_aiou_by, read_count_by, read_head_by, read_siou_by}
+use Rattle.kept.specs.Kept.{is_form, has_siou, head_in, numbers_in, kept_in, Said, said, refused, behind, number, fits, with_area, read_areas, read_count, read_siou, read_aiou, read_head, Outcome, kept, not-kept, whole, behind_head}
 use Rattle.kept.specs.AreaRows.{Row, row_more, row_fits, row-tail, sound-row, following, following-row, fits-parts}
 use Rattle.kept.specs.RoundTrip.{Says, in-sound, in-siou, unsaid, area-past, past-form, past-aiou, past-siou, past-none, past-count, areas-were, HeadWas, head-was}
 use Rattle.kept.specs.Ends.{SoundBook, numbers_of, IsBook, GoesOn, Begins, EndsEarly, CanFollow, Breaks, BreaksForm}
@@ -185,14 +185,14 @@ module _ (s : List ℕ) (r : Refusal) where
   -- the head
   count-stops : (f aiou siou : ℕ) (u : List ℕ) → s ≡ groups_of_all (head_of f aiou siou) ++ u → Bytes u → Begins (head_of f aiou siou) → (has_siou f || eqb siou 0) ≡ true
       → read_count f aiou siou u ≡ refused r → Stops s r
-  unfolding read_count_by
+  unfolding read_count
   count-stops f aiou siou u is b begins k =
       number-stops (head_of f aiou siou) u is b begins (λ count. not (head_in f (book_of aiou siou count))) (λ count s. said (book_of aiou siou count) s)
       (λ x c. ap not (can-count f aiou siou x k c))
       (λ x t z is b q. let w : ◌≡◌ {A = ℕ} 0 1 = cc in absurd (omega arith))
 
   siou-stops : (f aiou : ℕ) (u : List ℕ) → s ≡ groups_of_all (f ∷ aiou ∷ []) ++ u → Bytes u → is_form f ≡ true → aiou ≤ 16 → read_siou f aiou u ≡ refused r → Stops s r
-  unfolding read_siou_by
+  unfolding read_siou
   siou-stops f aiou u is b i h = go (has_siou f) refl
     where
       go : (z : Bool) → has_siou f ≡ z → cond z (number u (λ siou s. stop (not (siou_sound aiou siou)) (refused Form) (read_count f aiou siou s))) (read_count f aiou 0 u) ≡ refused r → Stops s r
@@ -206,7 +206,7 @@ module _ (s : List ℕ) (r : Refusal) where
           count-stops f aiou 0 u (is ∙ ap (λ b. groups_of_all (f ∷ aiou ∷ cond b (0 ∷ []) []) ++ u) (sym z)) b (at_count f i aiou h 0 (siou-unknown aiou) k) k e
 
   head-stops : Bytes s → read_head s ≡ refused r → Stops s r
-  unfolding read_head_by read_aiou_by groups_of_all
+  unfolding read_head read_aiou groups_of_all
   head-stops b =
       number-stops [] s refl b at-form (λ f. not (is_form f)) read_aiou (λ x c. ap not (can-form x c))
       (λ f t e is b. let i : is_form f ≡ true = not-false (is_form f) e in
@@ -274,7 +274,7 @@ module _ (rest : List ℕ) (r : Refusal) where
 
     stopped-count : (m : List ℕ) (next : ℕ) (others : List ℕ) → m ++ (next ∷ others) ≡ book.count ∷ l → Stopped (head_of f aiou siou ++ m) rest r
         → behind_head (read_count f aiou siou (groups_of_all m ++ rest)) ≡ not-kept r
-    unfolding read_count_by groups_of_all
+    unfolding read_count groups_of_all
     stopped-count [] next others e z =
         ap behind_head
         (stopped-number (head_of f aiou siou) (subst (λ l. Stopped l rest r) (append-nil (head_of f aiou siou)) z) (λ count. not (head_in f (book_of aiou siou count)))
@@ -295,7 +295,7 @@ module _ (rest : List ℕ) (r : Refusal) where
 
     stopped-siou : (m : List ℕ) (next : ℕ) (others : List ℕ) (b : Bool) → has_siou f ≡ b → m ++ (next ∷ others) ≡ cond b (siou ∷ book.count ∷ l) (book.count ∷ l) → Stopped (f ∷ aiou ∷ m) rest r
         → behind_head (read_siou f aiou (groups_of_all m ++ rest)) ≡ not-kept r
-    unfolding read_siou_by groups_of_all
+    unfolding read_siou groups_of_all
     stopped-siou m next others false b e z =
         ap behind_head (past-none f aiou (groups_of_all m ++ rest) b ∙ ap (λ siou. read_count f aiou siou (groups_of_all m ++ rest)) (sym (unsaid f siou (in-siou f book says.in-form) b)))
         ∙ stopped-count m next others e (subst (λ b. Stopped (f ∷ aiou ∷ (cond b (siou ∷ []) [] ++ m)) rest r) (sym b) z)
@@ -314,7 +314,7 @@ module _ (rest : List ℕ) (r : Refusal) where
 
     stopped-head : (numbers : List ℕ) (next : ℕ) (others : List ℕ) → numbers ++ (next ∷ others) ≡ numbers_in f book l → Stopped numbers rest r
         → behind_head (read_head (groups_of_all numbers ++ rest)) ≡ not-kept r
-    unfolding read_head_by read_aiou_by numbers_in groups_of_all
+    unfolding read_head read_aiou numbers_in groups_of_all
     stopped-head [] next others e z =
         ap behind_head (stopped-number [] z (λ f. not (is_form f)) read_aiou (λ x q. can (x ∷ []) (at-aiou x (not-false (is_form x) q))))
     stopped-head (x ∷ []) next others e z =

@@ -1,34 +1,31 @@
 -- Theorems: the kept book, in the words of the calls `write_kept` and `read_kept`. What reads is sound (`reads-sound`), and is said by the form whose number the bytes begin with
--- (`reads-form`, `form-can-say`); a book of form 1 reads with its SIOU unknown (`form-1-unknown`), one of form 1 or 2 has at most 32 areas (`few-before`), and one of 256 areas every ID (`reads-full`).
--- Both round trips, in each form: what a form says of a sound book reads back as that book (`kept-reads`, `form-1-reads`, `form-2-reads`), and bytes that read are what their form says
--- of it (`reads_kept`). So what was written, which is of form 3 (`write-form`), reads back (`write_read`); bytes of form 3 that were read are written back (`read-write`); of bytes of form
--- 1 or 2 the form 3 is written, of form 1 with 0 for SIOU + 1 (`form-1-write-bytes`), of form 2 with the number alone changed (`form-2-write-bytes`); and what was read and is then written
--- reads back as the same book (`read_again`). No second byte string of the same form reads as the same book (`no_second`).
+-- (`reads-form`, `form-can-say`); a book of form 1 reads with its SIOU unknown (`form-1-unknown`).
+-- Both round trips, in each form: what a form says of a sound book reads back as that book (`kept-reads`, `form-1-reads`), and bytes that read are what their form says of it
+-- (`reads_kept`). So what was written, which is of form 2 (`write-form`), reads back (`write_read`); bytes of form 2 that were read are written back (`read-write`); of bytes of form 1
+-- the form 2 is written, with 0 for SIOU + 1 (`form-1-write-bytes`); and what was read and is then written reads back as the same book (`read_again`). No second byte string of the same
+-- form reads as the same book (`no_second`).
 -- Reading is SHORT exactly when, with room lent, the finished numbers properly begin a kept book of a sound book (`short-only`, `short-if`); it reads, is LEFTOVER, is FORM exactly when
 -- Ends.antt says so (`holds-`, `leftover-`, `form-`). Proved; assumes nothing.
-use Rattle.std.specs.Prelude.{◌≡◌, ◌⊎◌, Bool, true, false, cond, not, ◌&&◌, ◌||◌, ltb, length, get_or, take, drop}
-use Rattle.std.proofs.Math.Path.{refl, ap, ap₂, sym}
-use Rattle.std.proofs.Common.{◌∙◌, subst, inl, inr, ⊎_elim, arith, take_at, le-leb, le-ltb, eq-eqb}
+use Rattle.std.specs.Prelude.{◌≡◌, refl, ◌⊎◌, Bool, true, false, not, ◌&&◌, ◌||◌, ltb, length, take, drop}
+use Rattle.std.proofs.Math.Path.{ap, ap₂, sym}
+use Rattle.std.proofs.Common.{◌∙◌, subst, inl, inr, ⊎_elim, arith, take_at, le-ltb, eq-eqb}
 use mathlib.Core.List.{List, [], ◌∷◌, ◌++◌}
 use Prim.Native.Nat.{ℕ, suc, ◌+◌, ◌*◌, ◌≤◌, ◌<◌}
-use Rattle.std.proofs.lemmas.Bool.{lt-leb}
 use Rattle.answer.specs.Stop.{stop}
 use Rattle.answer.specs.declared.Refusal.{Refusal}
 use Rattle.answer.specs.declared.Refusal.TheVariants.{Room, State, Short, Form, Leftover}
-use Rattle.area.specs.Area.{sf031}
 use Rattle.bits.specs.Bits.{Bytes}
 use Rattle.bits.specs.Laws.{bytes-append, bytes_drop}
-use Rattle.sizes.specs.Sizes.{most_areas, book_bytes, kept_room}
+use Rattle.sizes.specs.Sizes.{book_bytes, kept_room}
 use Rattle.book.specs.Book.{areas_in, bytes_of_all, sound}
 use Rattle.book.specs.Laws.{Sound, head-parts, sound-head, sound-lists, sound-room, length-areas, length-bytes}
-use Rattle.book.specs.Theorems.{full-ids}
 use Rattle.book.specs.declared.Book.{Book}
 use Rattle.groups.specs.Groups.{groups_of, groups_of_all, value}
 use Rattle.groups.specs.Laws.{groups-last, value-groups}
 use Rattle.groups.specs.Rows.{once}
-use Rattle.kept.specs.Kept.{newest_form, most_before, is_form, head_in, numbers_in, kept_in, kept_bytes, lacks_room, written, out_after, Outcome, kept, not-kept, read_head, behind_head, read_kept, answer_of, left_by, head_by}
+use Rattle.kept.specs.Kept.{newest_form, is_form, head_in, numbers_in, kept_in, kept_bytes, lacks_room, written, out_after, Outcome, kept, not-kept, read_head, behind_head, read_kept, answer_of, left_by}
 use Rattle.kept.specs.Ends.{OfForm, IsBook, GoesOn, Finished, EndsEarly, BreaksForm}
-use Rattle.kept.specs.RoundTrip.{in-sound, in_count, in-siou, unsaid, form-says, no_room, with-room, had-room, sound-reads, ReadWas, read-writes}
+use Rattle.kept.specs.RoundTrip.{in-sound, in-siou, unsaid, form-says, no_room, with-room, had-room, sound-reads, ReadWas, read-writes}
 use Rattle.kept.specs.ReadLaws.{IsKept, kept-sound, kept-areas, left-length}
 use Rattle.kept.specs.EndsLaws.{bytes-areas, book-reads, over-leftover}
 use Rattle.kept.specs.StopLaws.{Stops, stops-early, early-stops, stops-breaks, breaks-stops, Fault, stops-fault, stops-only, stops-if, Ending, ending}
@@ -68,10 +65,6 @@ module _ (s bytes : List ℕ) (book : Book) (e : answer_of (read_kept s bytes) �
       ap (sound book) left_is
       ∙ kept-sound book read.areas (drop (6 * length read.areas) bytes) read.good
       (omega (arith, left-length book read.areas bytes read.good read.from.room, read.from.room))
-
-  -- One of 256 areas has one for each ID, in their order.
-  pub reads-full : book.count ≡ most_areas → (i : ℕ) → i < most_areas → sf031 (get_or (areas_in book.count (left_by (read_kept s bytes) bytes)) i 0) ≡ i
-  reads-full k i h = full-ids book (left_by (read_kept s bytes) bytes) reads-sound k i h
 
   left-areas : areas_in book.count (left_by (read_kept s bytes) bytes) ≡ read.areas
   left-areas = ap (areas_in book.count) left_is ∙ kept-areas book read.areas (drop (6 * length read.areas) bytes) read.good
@@ -116,10 +109,6 @@ module _ (s bytes : List ℕ) (book : Book) (b : Bytes s) (e : answer_of (read_k
     -- and the bytes are what it says of the book.
     pub reads_kept : s ≡ kept_in f book (areas_in book.count (left_by (read_kept s bytes) bytes))
     reads_kept = sym (ap₂ (λ f l. kept_in f book l) (sym same-form) (left-areas s bytes book e) ∙ (read s bytes book e).from.is b)
-
-  -- ".. still with at most 32"
-  pub few-before : (f : ℕ) → f < 3 → OfForm f s → book.count ≤ most_before
-  few-before f k o = subst (λ (b : Bool). book.count ≤ cond b most_areas most_before) (lt-leb 3 f k) (in_count f book (form-can-say f o))
 
   -- "Form 1 is still read, its SIOU unknown"
   pub form-1-unknown : OfForm 1 s → book.siou_plus_one ≡ 0
@@ -169,18 +158,12 @@ module _ (f : ℕ) (book : Book) (s bytes : List ℕ) (i : is_form f ≡ true) (
       ap (λ o. left_by o bytes) said-again
       ∙ ap₂ (λ x n. x ++ drop (6 * n) bytes) (sym p.image) (length-areas book.count s)
 
--- "Forms 1 and 2 are read as before, still with at most 32": so form 2 is still read, of every sound book of at most 32 areas,
-module _ (book : Book) (s bytes : List ℕ) (e : sound book s ≡ true) (few : book.count ≤ most_before) (h : book_bytes ≤ length bytes) where
-  pub form-2-reads : answer_of (read_kept (kept_in 2 book (areas_in book.count s)) bytes) ≡ answering.Holds book
-  unfolding head_by
-  form-2-reads = kept-reads 2 book s bytes refl (ap₂ (λ x y. x && y) (sound-head book s e) (ap (λ x. x && true) (le-leb book.count most_before few))) e h
-
-  -- and form 1, if its SIOU is unknown.
-  pub form-1-reads : book.siou_plus_one ≡ 0 → answer_of (read_kept (kept_in 1 book (areas_in book.count s)) bytes) ≡ answering.Holds book
-  unfolding head_by
-  form-1-reads u =
-      kept-reads 1 book s bytes refl
-      (ap₂ (λ x y. x && y) (sound-head book s e) (ap₂ (λ x y. x && y) (le-leb book.count most_before few) (eq-eqb book.siou_plus_one 0 u))) e h
+-- So form 1 is still read, of every sound book whose SIOU is unknown.
+pub form-1-reads : (book : Book) (s bytes : List ℕ) → sound book s ≡ true → book.siou_plus_one ≡ 0 → book_bytes ≤ length bytes
+    → answer_of (read_kept (kept_in 1 book (areas_in book.count s)) bytes) ≡ answering.Holds book
+unfolding head_in
+form-1-reads book s bytes e u h =
+    kept-reads 1 book s bytes refl (ap₂ (λ x y. x && y) (sound-head book s e) (eq-eqb book.siou_plus_one 0 u)) e h
 
 -- ---- written, then read
 
@@ -192,7 +175,7 @@ module _ (book : Book) (s out : List ℕ) (n : ℕ) (e : written book s out ≡ 
       let size : length (kept_bytes book s) ≡ n = cc in
       ap (take n) (out-is book s out w.0 w.1) ∙ take_at (kept_bytes book s) _ n size
 
-  -- The n bytes that were written are of form 3,
+  -- The n bytes that were written are of form 2,
   pub write-form : OfForm newest_form (take n (out_after book s out))
   unfolding numbers_in groups_of_all
   write-form = record { rest = _; is = wrote_kept }
@@ -221,12 +204,6 @@ pub record Raised (s t : List ℕ) : Type 0 where
   pub was : s ≡ 1 ∷ aiou ∷ others
   pub is : t ≡ newest_form ∷ aiou ∷ 0 ∷ others
 
--- Bytes of form 2, and what is then written: another form number.
-pub record Renumbered (s t : List ℕ) : Type 0 where
-  pub others : List ℕ
-  pub was : s ≡ 2 ∷ others
-  pub is : t ≡ newest_form ∷ others
-
 module _ (s bytes : List ℕ) (book : Book) (b : Bytes s) (e : answer_of (read_kept s bytes) ≡ answering.Holds book) where
   abbrev left : List ℕ
   left = left_by (read_kept s bytes) bytes
@@ -249,15 +226,6 @@ module _ (s bytes : List ℕ) (book : Book) (b : Bytes s) (e : answer_of (read_k
         is = ap₂ (λ x y. x ++ (y ++ (groups_of book.siou_plus_one ++ t))) (groups-last newest_form (omega arith)) aiou ∙ ap (λ y. newest_form ∷ book.aiou_plus_one ∷ (y ++ t)) siou;
       }
 
-  renumbered : OfForm 2 s → Renumbered s (kept_bytes book left)
-  unfolding numbers_in groups_of_all
-  renumbered o =
-      record {
-        others = groups_of_all (book.aiou_plus_one ∷ book.siou_plus_one ∷ book.count ∷ areas_in book.count left);
-        was = reads_kept s bytes book b e 2 o ∙ ap (λ x. x ++ groups_of_all (book.aiou_plus_one ∷ book.siou_plus_one ∷ book.count ∷ areas_in book.count left)) (groups-last 2 (omega arith));
-        is = ap (λ x. x ++ groups_of_all (book.aiou_plus_one ∷ book.siou_plus_one ∷ book.count ∷ areas_in book.count left)) (groups-last newest_form (omega arith));
-      }
-
   module _ (out : List ℕ) (h : kept_room ≤ length out) where
     room-left : lacks_room left out ≡ false
     room-left = has_room left out (sound-room book left (reads-sound s bytes book e)) h
@@ -269,7 +237,7 @@ module _ (s bytes : List ℕ) (book : Book) (b : Bytes s) (e : answer_of (read_k
     rewritten-bytes = out-is book left out room-left (reads-sound s bytes book e)
 
     module _ (o : OfForm newest_form s) where
-      -- Bytes of form 3: what was read is written in as many bytes,
+      -- Bytes of form 2: what was read is written in as many bytes,
       pub read-write : written book (left_by (read_kept s bytes) bytes) out ≡ writing.Bytes (length s)
       read-write = rewritten ∙ ap (λ t. writing.Bytes (length t)) (same_bytes o)
 
@@ -285,23 +253,11 @@ module _ (s bytes : List ℕ) (book : Book) (b : Bytes s) (e : answer_of (read_k
       pub form-1-write : written book (left_by (read_kept s bytes) bytes) out ≡ writing.Bytes (suc (length s))
       form-1-write = rewritten ∙ ap writing.Bytes one_more
 
-      -- and they are the bytes that were read, raised to form 3.
+      -- and they are the bytes that were read, raised to form 2.
       pub form-1-write-bytes : Raised s (take (suc (length s)) (out_after book (left_by (read_kept s bytes) bytes) out))
       form-1-write-bytes = subst (λ t. Raised s t) (sym (wrote_kept book left out (suc (length s)) form-1-write)) (raised o)
 
-    module _ (o : OfForm 2 s) where
-      as_many : length (kept_bytes book left) ≡ length s
-      as_many = let w : Renumbered s (kept_bytes book left) = renumbered o in ap length w.is ∙ ap length (sym w.was)
-
-      -- Bytes of form 2: what was read is written in as many bytes,
-      pub form-2-write : written book (left_by (read_kept s bytes) bytes) out ≡ writing.Bytes (length s)
-      form-2-write = rewritten ∙ ap writing.Bytes as_many
-
-      -- and they are the bytes that were read, but for the form number.
-      pub form-2-write-bytes : Renumbered s (take (length s) (out_after book (left_by (read_kept s bytes) bytes) out))
-      form-2-write-bytes = subst (λ t. Renumbered s t) (sym (wrote_kept book left out (length s) form-2-write)) (renumbered o)
-
-    -- Bytes of any form: what is then written, in n bytes, reads back as the same book, whatever bytes it is read into,
+    -- Bytes of either form: what is then written, in n bytes, reads back as the same book, whatever bytes it is read into,
     module _ (n : ℕ) (w : written book (left_by (read_kept s bytes) bytes) out ≡ writing.Bytes n) (lent : List ℕ) (c : Bytes bytes) (k : book_bytes ≤ length lent) where
       pub read_again : answer_of (read_kept (take n (out_after book (left_by (read_kept s bytes) bytes) out)) lent) ≡ answering.Holds book
       read_again = write_read book left out lent (left-bytes s bytes book e c) n w k

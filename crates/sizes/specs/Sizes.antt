@@ -21,10 +21,9 @@ most_noise = 65535
 abbrev pub tags : ℕ
 tags = 43200
 
--- "The book holds one AIOU and up to 32 areas, ascending by ID, six bytes each: .."; document 02,
--- request 7: "Raise the book from 32 to 256 areas, 1,536 bytes for each book .."
+-- "The book holds one AIOU and up to 32 areas, ascending by ID, six bytes each: .. 192 bytes."
 abbrev pub most_areas : ℕ
-most_areas = 256
+most_areas = 32
 
 abbrev pub area_bytes : ℕ
 area_bytes = 6
@@ -32,10 +31,10 @@ area_bytes = 6
 abbrev pub book_bytes : ℕ
 book_bytes = area_bytes * most_areas
 
--- ".. and 1,798 of room for a kept one": at most a byte each for form number and AIOU + 1, two each
--- for SIOU + 1 and the count, and seven for the 47 bits of an area
+-- "Log and kept book", and document 02, request 5: form number, AIOU + 1 and count, a byte each, two
+-- for SIOU + 1, and seven for the 47 bits of an area: "(229 bytes of room)"
 abbrev pub kept_room : ℕ
-kept_room = 6 + 7 * most_areas
+kept_room = 5 + 7 * most_areas
 
 -- "Log room: 4,096 bytes per frame, always enough."
 abbrev pub log_room : ℕ

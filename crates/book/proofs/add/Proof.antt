@@ -1,6 +1,6 @@
 -- `add`: an area whose ID is there stays as it is; another takes its place.
-use Rattle.book.proofs.Searching.{reached-by}
-use Rattle.book.proofs.Taking.{add_same, add_kept, add-more, add-new, add-room, add-fits, add-put}
+use Rattle.book.proofs.Searching.{reached-by, reached-passed}
+use Rattle.book.proofs.Taking.{add_same, add_kept, add-more, add-room, add-fits, add-put}
 use borrow.Author.Rules.{rules}
 use Rattle.book.proofs.add.Statement.{statement}
 use Rattle.book.proofs.add.Tie as tie
@@ -18,7 +18,7 @@ enum-told-2 : tie.Need-enum-told-2
 enum-told-2 c = search rules
 
 insert-requires : tie.Need-insert-requires
-insert-requires c κs = ((search rules, search (add-room, rules), search (add-fits, rules), search rules), (search rules, search (add-new, rules)))
+insert-requires c κs = ((search rules, search (add-room, rules), search (add-fits, rules), search rules), search (reached-passed, rules))
 
 add-result : tie.Need-overflow-add-result
 add-result c = search rules

@@ -2,7 +2,7 @@
 use Prim.Native.Nat.{◌-◌, ◌≤◌}
 use Rattle.book.specs.Search.{Passed}
 use Rattle.book.proofs.Searching.{seek-anew, reached-as}
-use Rattle.book.proofs.Taking.{Filling, fill_start, fill-length, fill-long, fill-fits, fill-image, fill-ascending, fill-room, fill_end, fill-turn, fill-place}
+use Rattle.book.proofs.Taking.{Filling, fill_start, fill-length, fill-long, fill-fits, fill-image, fill-room, fill_end, fill-turn, fill-place}
 use borrow.Author.Rules.{rules}
 use Rattle.book.proofs.insert_all.Statement.{statement}
 use Rattle.book.proofs.insert_all.Tie as tie
@@ -26,7 +26,7 @@ id-requires : tie.Need-id-requires invariant-loop decreases-loop
 id-requires c κs = search rules
 
 seek-requires : tie.Need-seek-requires invariant-loop decreases-loop
-seek-requires c κs = (search (fill-fits, rules), search (fill-ascending, rules), search rules)
+seek-requires c κs = search (fill-fits, rules)
 
 add-requires : tie.Need-add-requires invariant-loop decreases-loop
 add-requires c κs = ((search (fill-image, rules), search rules, search (fill-long, rules), search rules), (search (reached-as, rules), search (fill-room, rules)))
