@@ -1,5 +1,7 @@
 // The refusals of document 01, "Answer numbers", and where a message is at fault (document 02, request 2). OK, number 0, is no refusal: each
 // call has an answer of its own for it.
+#![tactic(auto)]
+
 ghost use Rattle.std.specs.Prelude.{◌≡◌};
 ghost use Rattle.answer.specs.Number.{number_of};
 ghost use Rattle.answer.specs.Matched.{Matched};

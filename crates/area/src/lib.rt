@@ -1,4 +1,6 @@
 // An area: the 47 bits of a GAD block as a number, and its six bytes in a book (document 01, "Book and run").
+#![tactic(auto)]
+
 ghost use Rattle.std.specs.Prelude.{◌≡◌, ◌+◌, ◌*◌, ◌/◌, ◌%◌, ◌^◌, ◌<◌, ◌≤◌, length, get_or};
 ghost use Rattle.area.specs.Area.{sf031, nodes, area_off, is_area, number_at, put_at};
 

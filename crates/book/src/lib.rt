@@ -1,4 +1,6 @@
 // The area book: one AIOU, one SIOU and up to 32 areas, ascending by ID, in lent bytes (document 01, "Book and run"; document 02, request 5).
+#![tactic(auto)]
+
 ghost use Rattle.std.specs.Prelude.{◌≡◌, true, cond, ◌++◌, ◌+◌, ◌*◌, ◌^◌, ◌<◌, ◌≤◌, length, get_or, drop};
 ghost use Rattle.sizes.specs.Sizes.{most_areas, book_bytes};
 ghost use Rattle.bits.specs.Part.{PartOf};

@@ -1,4 +1,6 @@
 // BPAC, 3-0: tables 6.25 to 6.28. `more` areas come after the one at hand.
+#![tactic(auto)]
+
 ghost use Rattle.std.specs.Prelude.{◌≡◌, ◌%◌};
 ghost use Rattle.answer.specs.Matched.{Matched};
 ghost use Rattle.bpac.specs.Machine.{bpac_field, bpac_step, areas_from, blocks_from, group_field, groups_from, counted, last_node};

@@ -1,4 +1,6 @@
 // The two checks of a frame: TF006 over its first bytes, TF018 over the whole of it.
+#![tactic(auto)]
+
 ghost use Rattle.std.specs.Prelude.{◌≡◌, [], ◌∷◌, ◌+◌, ◌-◌, ◌*◌, ◌/◌, ◌%◌, ◌^◌, ◌≤◌, ◌<◌, length, drop};
 ghost use Rattle.bits.specs.Bits.{field};
 ghost use Rattle.checks.specs.Crc.{crc, frame_crc, message_crc};

@@ -1,4 +1,6 @@
 // Document 01, "Codes": the constellations, the sizes of masks, the satellites of a mask, and the fields that go by them.
+#![tactic(auto)]
+
 mod masks;
 pub mod satellites;
 pub mod tables;

@@ -1,4 +1,6 @@
 // The calls of `entries` for C and for other languages that can call C (include/homralgyu.h says what each does).
+#![tactic(auto)]
+
 ghost use Rattle.std.specs.Prelude.{◌≡◌, [], ◌∷◌, ◌≤◌, length};
 ghost use Rattle.entries.specs.Read.{read_entry};
 ghost use Rattle.entries.specs.Answers.{read_answer, troposphere_answer, satellite_answer, slant_answer};

@@ -1,4 +1,6 @@
 // The calls of `views` for C and for other languages that can call C (include/homralgyu.h says what each does).
+#![tactic(auto)]
+
 pub mod areas;
 pub mod floats;
 pub mod satellites;

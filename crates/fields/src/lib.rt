@@ -1,5 +1,7 @@
 // The data fields of the payloads (document 000, section 6.4; document 01, "Codes"; document 02, request 6), a line a field. Layouts, rows, values, the log
 // and the words of the run log take a field's facts from here.
+#![tactic(auto)]
+
 ghost use Rattle.std.specs.Prelude.{◌≡◌};
 ghost use Rattle.fields.specs.Fields.{line_of, field_of, sf};
 ghost use Rattle.fields.specs.Columns.{numbers_of};

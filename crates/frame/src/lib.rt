@@ -1,4 +1,6 @@
 // A SPARTN frame: checked, its payload handed back as a part of the bytes, and a plain frame written (document 01, "The frame").
+#![tactic(auto)]
+
 ghost use Rattle.std.specs.Prelude.{◌≡◌, ◌&&◌, ◌++◌, ltb, ◌+◌, ◌-◌, ◌*◌, ◌/◌, ◌%◌, ◌^◌, ◌<◌, ◌≤◌, length, take, drop};
 ghost use Rattle.bits.specs.Bits.{bits_of, field};
 ghost use Rattle.bits.specs.Part.{PartOf};

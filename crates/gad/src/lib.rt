@@ -1,4 +1,6 @@
 // GAD, 2-0: tables 6.23 and 6.24. A state carries the codes of the block that were read.
+#![tactic(auto)]
+
 ghost use Rattle.std.specs.Prelude.{◌≡◌};
 ghost use Rattle.answer.specs.Matched.{Matched};
 ghost use Rattle.gad.specs.Machine.{gad_field, gad_step, blocks_from};

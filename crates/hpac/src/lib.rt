@@ -1,4 +1,6 @@
 // HPAC, 1-0 to 1-4: tables 6.13 to 6.22. A state carries the area's head and where its mask walk stands.
+#![tactic(auto)]
+
 ghost use Rattle.std.specs.Prelude.{◌≡◌};
 ghost use Rattle.answer.specs.Matched.{Matched};
 ghost use Rattle.hpac.specs.Machine.{hpac_field, hpac_step, areas_from, area_end, troposphere_from, t_slopes_from, t_product_from, t_grid_from, t_residuals_from, ionosphere_from, slants_from, slant_end, slopes_from, product_from, grid_from, residuals_from};

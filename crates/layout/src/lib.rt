@@ -1,4 +1,6 @@
 // A field of a message and its verdict on a code, as the layouts and the machines of every format have them.
+#![tactic(auto)]
+
 ghost use Rattle.std.specs.Prelude.{◌≡◌};
 ghost use Rattle.layout.specs.Layout.{judge};
 ghost use Rattle.layout.specs.Parts.{up_to};

@@ -1,4 +1,6 @@
 // The twelve payloads of document 01 as one machine: which field is next, and where a code leads.
+#![tactic(auto)]
+
 ghost use Rattle.std.specs.Prelude.{◌≡◌};
 ghost use Rattle.answer.specs.Matched.{Matched};
 ghost use Rattle.message.specs.Messages.{constellation_for};

@@ -1,4 +1,6 @@
 // OCB, 0-0 to 0-4: tables 6.3 to 6.12. A satellite's flags, SF014, stay with the state until its last block.
+#![tactic(auto)]
+
 ghost use Rattle.std.specs.Prelude.{◌≡◌, ◌/◌, ◌%◌};
 ghost use Rattle.answer.specs.Matched.{Matched};
 ghost use Rattle.ocb.specs.Machine.{ocb_field, ocb_step, satellites_from, satellite_end, orbit_from, yaw_from, clock_from, bias_from, phases_from, codes_from};

@@ -1,4 +1,6 @@
 // Stream and desk together: a portion of bytes in, one event out, and the run log's entries with it (document 01, "The stream", "Book and run").
+#![tactic(auto)]
+
 ghost use Rattle.std.specs.Prelude.{◌≡◌, true, false, take};
 ghost use Rattle.frame.specs.Check.{checked, payload_in};
 ghost use Rattle.frame.specs.declared.Checked.TheVariants.{Accepted};

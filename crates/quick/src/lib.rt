@@ -1,4 +1,6 @@
 // Payloads judged fast: one that passes here reads. One that does not may read all the same: the machine judges it, and finds the refusal and its place.
+#![tactic(auto)]
+
 ghost use Rattle.std.specs.Prelude.{◌≡◌};
 ghost use Rattle.message.specs.Messages.{constellation_for};
 ghost use Rattle.quick.specs.Quick.{quick_of, by_ocb, by_hpac, by_gad, by_bpac};

@@ -1,5 +1,7 @@
 // Rows: a machine hands out the fields of a stretch at once, where no code but the last decides what follows, so that a writer goes over them
 // without asking the machine at each.
+#![tactic(auto)]
+
 ghost use Rattle.std.specs.Prelude.{◌≡◌, ◌^◌, ◌<◌, set};
 ghost use Rattle.rows.specs.Rows.{one_row, no_row};
 ghost use Rattle.rows.specs.Puts.{onward};

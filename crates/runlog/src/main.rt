@@ -1,5 +1,7 @@
 // `runlog SOLUTION PROCESSOR CONSTELLATION [raw]`: a desk for this solution, processor and constellation prepares the stream on standard input, and its run log is
 // written to standard output: a line for each entry, or with `raw` the entries' own bytes.
+#![tactic(auto)]
+
 mod clock;
 mod command;
 mod hearing;

@@ -1,4 +1,6 @@
 // Payloads read into a sheet and written from one (document 01, "Payloads").
+#![tactic(auto)]
+
 ghost use Rattle.std.specs.Prelude.{◌≡◌, true, false, ◌+◌, ◌*◌, ◌^◌, ◌≤◌, ◌<◌, length};
 ghost use Rattle.sizes.specs.Sizes.{longest_payload, sheet_room};
 ghost use Rattle.bits.specs.Bits.{to_bits};

@@ -2,6 +2,8 @@
 // specs/Sizes.antt, under the same names.
 
 // "Longest frame: 4 + 8 + 1,023 + 64 + 4 = 1,103 bytes": the tray, and the room of the frame's writer.
+#![tactic(auto)]
+
 pub const LONGEST_FRAME: usize = 4 + 8 + LONGEST_PAYLOAD + 64 + 4;
 
 // "payload of 0 or over 1,023 bytes" is LENGTH; also the room that writing a payload wants.

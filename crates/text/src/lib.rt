@@ -1,4 +1,6 @@
 // Text for standard output, gathered in a lent buffer: what has no room behind the text that waits there makes that go out first.
+#![tactic(auto)]
+
 ghost use Rattle.std.specs.Prelude.{◌≡◌, false, ◌≤◌, ◌<◌, length};
 ghost use Rattle.text.specs.Text.{end_after, out_after, place_for, waiting_after, said_after, decimal};
 

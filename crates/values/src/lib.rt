@@ -1,4 +1,6 @@
 // What a field's code means: metres, degrees, TECU and whole numbers (document 01, "Codes").
+#![tactic(auto)]
+
 ghost use Rattle.std.specs.Prelude.{◌≡◌, ◌+◌, pos, ◌-ℤ◌};
 ghost use Rattle.values.specs.Values.{half_degrees, quotient, value_of, residual_of, yaw_of, count_of, orbit_with, orbit_from, orbit_of, number_of_value, number_of_residual, number_of_yaw, number_of_count, number_of_orbit};
 ghost use Rattle.values.specs.Columns.{number_in, meant_in, invalid_in};

@@ -1,4 +1,6 @@
 // Runs published check values, frame headers and a whole frame over the real functions and prints each beside what it should be.
+#![tactic(auto)]
+
 use frame::{Checked, Frame, Seal, Sealing};
 use text::{say, say_number};
 
