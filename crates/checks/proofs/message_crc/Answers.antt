@@ -1,0 +1,16 @@
+-- The check of each type is its own; a type over 3 is taken as 3.
+use Rattle.checks.proofs.Turns.{other-type}
+use borrow.Author.Rules.{rules}
+use Rattle.checks.proofs.message_crc.Goals as goal
+
+pub returns-in-0 : goal.returns-in-0
+returns-in-0 c = cc
+
+pub returns-in-1 : goal.returns-in-1
+returns-in-1 c = cc
+
+pub returns-in-2 : goal.returns-in-2
+returns-in-2 c = cc
+
+pub returns-in_default : goal.returns-in_default
+returns-in_default c = search (other-type, rules)
