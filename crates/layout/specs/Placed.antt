@@ -133,6 +133,7 @@ module _ {S A : Type 0} {field_of : S → Field} {step_of : S → ℕ → S} whe
 
 module _ {S A : Type 0} {field_of : S → Field} {step_of : S → ℕ → S} where
   fine-there : {s : S} {l : Layout A} → Walks field_of step_of s l → {cs said : List ℕ} {f : Field} {next : ℕ → Layout A} → Before l cs said (field f next) → Fine f
+  fine-there (ends {s = s} {v = v} _) {cs = cs} {said = said} {f = f} {next = next} x5 = elim x5 [ ]
   fine-there (goes e fine walks) none = fine
   fine-there (goes e fine walks) (one c j fits more) = fine-there (walks c fits) more
 
