@@ -18,7 +18,7 @@ pub fn put(out: &mut [u8], at: usize, text: &[u8]) -> usize
         return at;
     }
     let end = at + text.len();
-    bytes::copy(text, &mut out[at..end]);
+    out[at..end].copy_from_slice(text);
     end
 }
 
