@@ -169,7 +169,6 @@ module _ (s t : List ℕ) (bs : (i : ℕ) → Fits w8 (get_or s i 0)) (bt : (i :
       laid at (k + 1) crc (8 * at) w refl ew (omega arith) (omega arith) e
       ∙ ap₂ (λ (x y : ℕ). take at s ++ (bytes_of (x + 1) (bits_of (8 * (x + 1)) y) ++ drop (at + (k + 1)) s)) ek ec
 
--- the payload is copied into the part from at on
 -- ---- the whole frame
 
 -- what is answered, and the bytes afterwards
