@@ -64,9 +64,3 @@ module _ (book bytes : List ℕ) (id : ℕ) where
     pub book-found : book_room ≤ length book → part ≡ book_found book bytes id
     unfolding book_found
     book-found h = enough-is _ _ _ _ _ h (p ∙ ap (λ (x : Book). found x bytes (record { 0 = id })) e)
-
--- ---- a part is copied
-
-pub copied : (part area now : List ℕ) → now ≡ take (length part) part ++ drop (length part) area → now ≡ laid part area
-unfolding laid
-copied part area now p = p ∙ ap (λ x. x ++ drop (length part) area) (take_all (length part) part (omega arith))

@@ -17,7 +17,9 @@ fn put_area(part: &[u8], area: &mut [u8]) -> usize
     ensures value { result ≡ length part.now }
     ensures area_after { area.new ≡ laid part.now area.old }
 {
-    bytes::copy(part, area)
+    let size = part.len();
+    area[..size].copy_from_slice(part);
+    size
 }
 
 fn find_in_desk<'a>(desk: &[u64], live: &'a [u8], run: &'a [u8], id: u8, area: &mut [u8]) -> usize

@@ -169,17 +169,6 @@ module _ (s t : List ℕ) (bs : (i : ℕ) → Fits w8 (get_or s i 0)) (bt : (i :
       laid at (k + 1) crc (8 * at) w refl ew (omega arith) (omega arith) e
       ∙ ap₂ (λ (x y : ℕ). take at s ++ (bytes_of (x + 1) (bits_of (8 * (x + 1)) y) ++ drop (at + (k + 1)) s)) ek ec
 
--- the payload is copied into the part from at on
-pub payload-laid : (s payload part : List ℕ) (at n : ℕ) → at + length payload ≤ length s → n ≡ length payload
-    → part ≡ take (length payload) payload ++ drop (length payload) (take (length s - at) (drop at s))
-    → take at s ++ (part ++ drop (length s - at) (drop at s)) ≡ take at s ++ (payload ++ drop (at + n) s)
-payload-laid s payload part at n h en ep =
-    let size : length (drop at s) ≤ length s - at = omega (arith, length-drop at s) in
-    let rest : drop (length payload) (take (length s - at) (drop at s)) ≡ drop (at + n) s
-    = ap (drop (length payload)) (take_all (length s - at) (drop at s) size) ∙ drop-drop (length payload) at s ∙ ap (λ (z : ℕ). drop (at + z) s) (sym en) in
-    ap₂ (λ (u v : List ℕ). take at s ++ (u ++ v)) (ep ∙ ap₂ (λ (u v : List ℕ). u ++ v) (take-length payload) rest) (drop_of_length-le (drop at s) size)
-    ∙ ap (λ (l : List ℕ). take at s ++ l) (append-nil (payload ++ drop (at + n) s))
-
 -- ---- the whole frame
 
 -- what is answered, and the bytes afterwards

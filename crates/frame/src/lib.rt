@@ -485,8 +485,9 @@ fn put_payload(payload: &[u8], out: &mut [u8], at: usize) -> usize
     ensures value { result ≡ at + length payload.now }
     ensures out_after { out.new ≡ take at out.old ++ (payload.now ++ drop result out.old) }
 {
-    let n = bytes::copy(payload, &mut out[at..]);
-    at + n
+    let end = at + payload.len();
+    out[at..end].copy_from_slice(payload);
+    end
 }
 
 // TF018 of all between the preamble and itself takes the bytes from at on: where the frame ends.

@@ -1,6 +1,11 @@
 // The machine's running count of seconds, which no one sets.
 ghost use Rattle.std.specs.Prelude.{◌≡◌};
+ghost use Rattle.io.specs.Counts.{IsPrefixLen};
 ghost use Rattle.runlog.specs.Clock.{second_in};
+
+use std::fs;
+use std::fs::File;
+use std::io::Read;
 
 // The whole number that a text begins with, the first 18 digits of a longer one, zeros in front not counted.
 fn second_in(text: &[u8]) -> u64
@@ -25,16 +30,23 @@ fn second_in(text: &[u8]) -> u64
     n
 }
 
+// Reads once, and says how many bytes came.
+fn read_some(file: &mut File, text: &mut [u8]) -> usize
+    ensures { IsPrefixLen result text.new }
+{
+    match file.read(text) {
+        Ok(count) => count,
+        Err(_) => 0,
+    }
+}
+
 // The second now: what the system says that it has been up, in whole seconds, or 0 where it does not say it; behind an accepted frame the desk counts 0 as that
 // frame's second, before the first one 0 is kept. Which second it is nothing promises. (`clock_gettime` lends a struct, which the borrow checker does not cover.)
-pub fn second_now() -> u64 {
-    let file = os::open_read(b"/proc/uptime");
-    if file < 0 {
-        return 0;
-    }
+pub fn second_now(rt: &HostRuntime) -> u64 {
     let mut text = [0u8; 32];
-    let got = libc::read(file, &mut text);
-    libc::close(file);
-    let n = io::count(got, &text);
+    let n = match fs::open(rt, "/proc/uptime") {
+        Ok(mut file) => read_some(&mut file, &mut text),
+        Err(_) => 0,
+    };
     second_in(&text[..n])
 }

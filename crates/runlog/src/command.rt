@@ -1,8 +1,9 @@
 // The command line: SOLUTION PROCESSOR CONSTELLATION [raw].
 ghost use Rattle.std.specs.Prelude.{◌≡◌};
+ghost use Rattle.io.specs.Counts.{IsPrefixLen};
 ghost use Rattle.runlog.specs.Command.{byte_of, is_raw, form_of, logged_in, wanted_by};
 
-use libc::STDERR_FILENO;
+use std::env::{Env, FillError};
 
 // What the command line asks for, in numbers that a desk may still refuse.
 #[derive(Drop)]
@@ -125,19 +126,41 @@ fn asked(count: usize, first: &[u8], second: &[u8], third: &[u8], fourth: &[u8])
     }
 }
 
-// Of a word that is longer than its buffer, `os::arg` hands out nothing. Which words it hands out is not promised, so there is nothing to say of them here; what is wanted
+// A word of the command line, counted from the program's own name on: how many bytes it has, or 0 where it is missing or longer than its buffer.
+fn word(rt: &HostRuntime, place: usize, word: &mut [u8]) -> usize
+    ensures { IsPrefixLen result word.new }
+{
+    match rt.arg(place, word) {
+        Ok(count) => count,
+        Err(_) => 0,
+    }
+}
+
+// How many words the command line has, the program's own name among them.
+fn count_words(rt: &HostRuntime) -> usize {
+    let mut start = [0u8; 16];
+    for place in 0..usize::MAX {
+        match rt.arg(place, &mut start) {
+            Err(FillError::NotPresent) => return place,
+            _ => {}
+        }
+    }
+    usize::MAX
+}
+
+// Of a word that is longer than its buffer nothing is handed out. Which words it hands out is not promised, so there is nothing to say of them here; what is wanted
 // of words is `asked`'s.
-pub fn read_command() -> Wanted {
+pub fn read_command(rt: &HostRuntime) -> Wanted {
     let mut first = [0u8; 16];
     let mut second = [0u8; 16];
     let mut third = [0u8; 16];
     let mut fourth = [0u8; 16];
-    let a = os::arg(1, &mut first);
-    let b = os::arg(2, &mut second);
-    let c = os::arg(3, &mut third);
-    let d = os::arg(4, &mut fourth);
+    let a = word(rt, 1, &mut first);
+    let b = word(rt, 2, &mut second);
+    let c = word(rt, 3, &mut third);
+    let d = word(rt, 4, &mut fourth);
     asked(
-        os::arg_count(),
+        count_words(rt),
         &first[..a],
         &second[..b],
         &third[..c],
@@ -146,9 +169,8 @@ pub fn read_command() -> Wanted {
 }
 
 // What is wanted, in one line.
-pub fn say_usage() {
-    io::write_all(
-        STDERR_FILENO,
-        b"usage: runlog SOLUTION PROCESSOR CONSTELLATION [raw], with a solution of 0 to 127, a processor of 0 to 15 and a constellation of 0 to 4 (GPS, GLONASS, Galileo, BeiDou, QZSS)\n",
+pub fn say_usage(rt: &HostRuntime) {
+    let _ = rt.eprint(
+        "usage: runlog SOLUTION PROCESSOR CONSTELLATION [raw], with a solution of 0 to 127, a processor of 0 to 15 and a constellation of 0 to 4 (GPS, GLONASS, Galileo, BeiDou, QZSS)\n",
     );
 }

@@ -33,6 +33,7 @@ enum Done {
 
 // A proved loop has to end, and nothing says that the input does. So the loop counts its turns down, from a number that no run uses up.
 fn prepare_all(
+    rt: &HostRuntime,
     bytes: &mut [u8],
     live: &mut [u8],
     run: &mut [u8],
@@ -49,18 +50,18 @@ fn prepare_all(
     let mut turns = u64::MAX;
     loop {
         if turns == 0 {
-            return tell_end(bytes, live, run, log, turn, turns, raw, out);
+            return tell_end(rt, bytes, live, run, log, turn, turns, raw, out);
         }
         if !turn.more {
-            return tell_end(bytes, live, run, log, turn, turns, raw, out);
+            return tell_end(rt, bytes, live, run, log, turn, turns, raw, out);
         }
-        turn = hear_some(bytes, live, run, log, turn, input, raw, out);
+        turn = hear_some(rt, bytes, live, run, log, turn, input, raw, out);
         turns -= 1;
     }
 }
 
 // Lends a new desk its buffers.
-fn run_desk(desk: Desk, raw: bool) -> Stop
+fn run_desk(rt: &HostRuntime, desk: Desk, raw: bool) -> Stop
     requires { IsNew desk }
     ensures { Ran desk raw result }
 {
@@ -71,7 +72,7 @@ fn run_desk(desk: Desk, raw: bool) -> Stop
     let mut input = io::large_buffer();
     let mut out = io::buffer();
     prepare_all(
-        &mut bytes, &mut live, &mut run, &mut log, desk, &mut input, raw, &mut out,
+        rt, &mut bytes, &mut live, &mut run, &mut log, desk, &mut input, raw, &mut out,
     )
 }
 
@@ -103,18 +104,18 @@ fn desk_for(wanted: Wanted) -> Job
 }
 
 // Does what is wanted.
-fn run_wanted(wanted: Wanted) -> Done
+fn run_wanted(rt: &HostRuntime, wanted: Wanted) -> Done
     ensures { Does (job_of wanted) result }
 {
     match desk_for(wanted) {
-        Job::Run { desk, raw } => Done::Ran(run_desk(desk, raw)),
+        Job::Run { desk, raw } => Done::Ran(run_desk(rt, desk, raw)),
         Job::Usage => {
-            command::say_usage();
+            command::say_usage(rt);
             Done::Usage
         }
     }
 }
 
-fn main() {
-    run_wanted(command::read_command());
+fn main(rt: HostRuntime) {
+    run_wanted(&rt, command::read_command(&rt));
 }

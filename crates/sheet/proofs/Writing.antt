@@ -348,16 +348,13 @@ module _ {kind subtype : ℕ} {sheet aside : List ℕ} (judged : WriteAnswer) (a
 
     pub whole-written : {out : List ℕ} (aside₂ out' : List ℕ) → longest_payload ≤ length out → longest_payload ≤ length aside → length aside' ≡ length aside
         → length aside₂ ≡ length aside' → to_bits aside₂ ≡ leaves aside' bits (8 * bytes - bits) 0
-        → out' ≡ take (length (take bytes aside₂)) (take bytes aside₂) ++ drop (length (take bytes aside₂)) out
+        → out' ≡ take bytes aside₂ ++ drop bytes out
         → WriteWhole kind subtype sheet out (writer.Written bits bytes) out'
     whole-written {out} aside₂ out' room k same same₂ put c =
         let s : bytes ≤ longest_payload = whole-short in
-        let n : length (take bytes aside₂) ≡ bytes = length-take-le bytes aside₂ (omega arith) in
-        let d : out' ≡ take bytes aside₂ ++ drop bytes out
-        = c ∙ ap₂ (λ x y. x ++ y) (take-length (take bytes aside₂)) (ap (λ (x : ℕ). drop x out) n) in
         record {
           answers = sym e ∙ p.judged.answers;
-          leaves = ap to_bits d ∙ copied-leaves (then_length (written_of kind subtype sheet)) aside aside₂ out bits bytes (sym e ∙ p.judged.answers) s room (omega arith)
+          leaves = ap to_bits c ∙ copied-leaves (then_length (written_of kind subtype sheet)) aside aside₂ out bits bytes (sym e ∙ p.judged.answers) s room (omega arith)
               (stored-leaves aside (written_of kind subtype sheet) aside' aside₂ bits bytes (sym e ∙ p.judged.answers) k same p.keeps put);
         }
 

@@ -348,7 +348,7 @@ fn write_by(kind: u8, subtype: u8, sheet: &[u64], out: &mut [u8], aside: &mut [u
         WriteAnswer::Written { bits, bytes } => {
             let fill = (8 * bytes - bits) as u32;
             bits::put(aside, bits, fill, 0);
-            bytes::copy(&aside[..bytes], out);
+            out[..bytes].copy_from_slice(&aside[..bytes]);
             WriteAnswer::Written { bits, bytes }
         }
     }

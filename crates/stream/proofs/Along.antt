@@ -10,8 +10,8 @@ use lib.Seq.{take-add, drop-append-le, drop-drop, drop-cons, length-take-le, sli
 use lib.Dec.{ltb}
 use borrow.Author.Tests.{ltb-false, le-ltb}
 use Rattle.sizes.specs.Sizes.{longest_frame, most_noise}
-use Rattle.bytes.specs.Bytes as Bytes
-use Rattle.bytes.specs.Bytes.{index_of}
+use Rattle.stream.specs.Bytes as Bytes
+use Rattle.stream.specs.Bytes.{index_of}
 use Rattle.frame.specs.declared.Checked.TheVariants.{Short}
 use Rattle.frame.specs.Check.{checked}
 use Rattle.frame.specs.Laws.{short-wants}

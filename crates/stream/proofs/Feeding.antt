@@ -11,7 +11,7 @@ use lib.Seq.{length-take-le}
 use lib.Dec.{eqb}
 use borrow.Author.Tests.{lt-ltb, le-ltb, eqb-false}
 use Rattle.sizes.specs.Sizes.{most_noise}
-use Rattle.bytes.specs.Bytes.{index_of, index_after}
+use Rattle.stream.specs.Bytes.{index_of, index_after}
 use Rattle.answer.specs.declared.Refusal.{Refusal}
 use Rattle.answer.specs.declared.Refusal.TheVariants.{Preamble}
 use Rattle.frame.specs.declared.Frame.{Frame}

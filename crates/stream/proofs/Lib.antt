@@ -5,6 +5,7 @@ pub mod Places
 pub mod Feeding
 pub mod Turns
 pub mod Seeking
+pub mod Finding
 pub mod Along
 pub mod Returns
 pub mod Skipping

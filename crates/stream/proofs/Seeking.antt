@@ -9,8 +9,8 @@ use lib.Seq.{take-take, drop-drop, length-slice}
 use lib.Bits.{bit_or}
 use lib.Dec.{eqb}
 use borrow.Author.Tests.{eq-eqb, ne_eqb, not-false}
-use Rattle.bytes.specs.Bytes as Bytes
-use Rattle.bytes.specs.Bytes.{index_of, index_after}
+use Rattle.stream.specs.Bytes as Bytes
+use Rattle.stream.specs.Bytes.{index_of, index_after}
 use Rattle.stream.specs.Tray.{zeros}
 use Rattle.stream.specs.Marks.{marked, marks}
 use Rattle.stream.proofs.Moves.{Joining, join_more, join-done}

@@ -14,3 +14,4 @@ pub mod Steps
 pub mod Driving
 pub mod Walk
 pub mod Marks
+pub mod Bytes

@@ -4,7 +4,7 @@
 ghost use Rattle.std.specs.Prelude.{◌≡◌, [], ◌++◌, ℕ, ◌+◌, ◌-◌, ◌≤◌, ◌<◌, min, length, take, drop, replicate};
 ghost use Rattle.sizes.specs.Sizes.{longest_frame, most_noise};
 ghost use Rattle.stream.specs.Tray.{zeros, is_frame, sound, fresh_tray, number_of_said, refused, answer_of, call_answer, call_bytes, finish_answer, finish_bytes};
-ghost use Rattle.bytes.specs.Bytes.{index_of, slice};
+ghost use Rattle.stream.specs.Bytes.{index_of, slice};
 ghost use Rattle.stream.specs.Driver.{Ready};
 ghost use Rattle.stream.specs.Marks.{marked, marks};
 ghost use Rattle.stream.specs.Walk.{shifted, Standing, fed_from, closed_from, Answered, CloseTurn, Wanting, Ends, Onward, Seen, Along, Told, reached, Empty, noised, settled, shown_answer, dropped_place};
@@ -210,7 +210,7 @@ fn take_more(bytes: &mut [u8], place: Place, input: &[u8], wanted: usize) -> Pla
     let count = least(wanted - (held - start), input.len() - used);
     let end = held + count;
     let upto = used + count;
-    bytes::copy(&input[used..upto], &mut bytes[held..end]);
+    copy(&input[used..upto], &mut bytes[held..end]);
     Place {
         start: start,
         held: end,
@@ -247,6 +247,33 @@ fn show(place: Place, frame: Frame) -> Answer
     say(place, Said::Frame(frame), frame.length, 0)
 }
 
+// The bytes of one come to the start of the other, which has room for them: how many they are.
+fn copy(from: &[u8], to: &mut [u8]) -> usize
+    requires { length from.now ≤ length to.old }
+    ensures value { result ≡ length from.now }
+    ensures to_after { to.new ≡ take (length from.now) from.now ++ drop (length from.now) to.old }
+{
+    let count = from.len();
+    to[..count].copy_from_slice(from);
+    count
+}
+
+// Where a byte is for the first time, from one place on and up to another; the other where it is not there.
+fn find(bytes: &[u8], from: usize, to: usize, byte: u8) -> usize
+    requires { (from ≤ to) × (to ≤ length bytes.now) }
+    ensures value { result ≡ from + index_of byte (slice from to bytes.now) }
+    ensures upper_bound { result ≤ to }
+{
+    let mut at = from;
+    while at < to {
+        if bytes[at] == byte {
+            return at;
+        }
+        at += 1;
+    }
+    to
+}
+
 // 1 for a preamble, 0 for any other byte.
 fn mark(byte: u8) -> u8
     ensures { result ≡ marked byte }
@@ -277,11 +304,11 @@ fn find_preamble(input: &[u8], from: usize, to: usize) -> usize
     while WINDOW <= to - at {
         let next = at + WINDOW;
         if !is_clear(&input[at..next]) {
-            return bytes::scan::find(input, at, to, PREAMBLE);
+            return find(input, at, to, PREAMBLE);
         }
         at = next;
     }
-    bytes::scan::find(input, at, to, PREAMBLE)
+    find(input, at, to, PREAMBLE)
 }
 
 // Where no byte is live, bytes that are no preamble are noise without a check, up to a count below 65,535.
@@ -399,12 +426,12 @@ fn feed_input(bytes: &mut [u8], place: Place, input: &[u8]) -> Answer
         let held = place.held;
         match frame::check(&input[start..held]) {
             Checked::Accepted(frame) => {
-                bytes::copy(&input[start..held], bytes);
+                copy(&input[start..held], bytes);
                 return show(place, frame);
             }
             Checked::Short(wanted) => {
                 if held == input.len() {
-                    bytes::copy(&input[start..held], bytes);
+                    copy(&input[start..held], bytes);
                     return say(place, Said::Hungry, 0, place.noise);
                 }
                 place = reach(place, input, wanted);
@@ -413,7 +440,7 @@ fn feed_input(bytes: &mut [u8], place: Place, input: &[u8]) -> Answer
                 place = noisy(place);
                 if place.noise == sizes::MOST_NOISE {
                     let start = place.start;
-                    bytes::copy(&input[start..held], bytes);
+                    copy(&input[start..held], bytes);
                     return say(place, Said::Noise(sizes::MOST_NOISE), 0, 0);
                 }
                 place = skip(place, input);

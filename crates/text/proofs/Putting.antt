@@ -1,12 +1,12 @@
 -- The returns of `put`, of `say` and of a number, over plain variables.
-use mathlib.Core.Path.{◌≡◌, refl, sym, ap, ap₂, ◌∙◌}
+use mathlib.Core.Path.{◌≡◌, refl, ap, ap₂, ◌∙◌}
 use mathlib.Core.Bool.{Bool, true, false}
-use mathlib.Core.List.{List, [], ◌++◌, append-nil}
+use mathlib.Core.List.{List, ◌++◌}
 use Prim.Native.Nat.{ℕ, ◌+◌, ◌-◌, ◌≤◌, ◌<◌}
 use native.Mathlib.Omega.{arith}
 use lib.Dec.{leb}
-use lib.ListN.{length, take, drop, length-drop}
-use lib.Seq.{take_all, drop-drop, drop-length, length-take-le}
+use lib.ListN.{length, take, drop}
+use lib.Seq.{drop-drop}
 use borrow.Author.Tests.{le-leb, lt-leb, leb-true}
 use Rattle.io.specs.Digits.{last_digits, IsDigitCount}
 use Rattle.text.specs.Text.{fits, end_after, out_after, place_for, waiting_after, said_after, decimal}
@@ -45,18 +45,13 @@ module _ (out : List ℕ) (at : ℕ) (text : List ℕ) where
   unfolding end_after
   end-put p h = rw (a-fit (omega arith))
 
-  pub out-put : at ≤ length out → length text ≤ length out - at → (part : List ℕ)
-      → part ≡ take (length text) text ++ drop (length text) (take (at + length text - at) (drop at out))
+  pub out-put : at ≤ length out → length text ≤ length out - at → (part : List ℕ) → part ≡ text
       → take at out ++ (part ++ drop (at + length text - at) (drop at out)) ≡ out_after out at text
   unfolding out_after
   out-put p h part e =
       let n : at + length text - at ≡ length text = omega arith in
-      let l : length (take (length text) (drop at out)) ≡ length text = length-take-le (length text) (drop at out) (rw length-drop (omega arith)) in
-      let z : drop (length text) (take (length text) (drop at out)) ≡ [] = ap (λ (x : ℕ). drop x (take (length text) (drop at out))) (sym l) ∙ drop-length (take (length text) (drop at out)) in
-      let a : part ≡ text
-      = e ∙ ap₂ (λ x y. x ++ y) (take_all (length text) text (omega arith)) (ap (λ (x : ℕ). drop (length text) (take x (drop at out))) n ∙ z) ∙ append-nil text in
       let b : drop (at + length text - at) (drop at out) ≡ drop (at + length text) out = ap (λ (x : ℕ). drop x (drop at out)) n ∙ drop-drop (length text) at out in
-      rw (a-fit (omega arith)) (ap₂ (λ x y. take at out ++ (x ++ y)) a b)
+      rw (a-fit (omega arith)) (ap₂ (λ x y. take at out ++ (x ++ y)) e b)
 
   -- ---- where a text that is said has its place
 

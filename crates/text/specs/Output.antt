@@ -9,7 +9,7 @@ use mathlib.Core.List.{List, [], ◌∷◌, ◌++◌, append_assoc, append-nil, 
 use native.Mathlib.Omega.{arith}
 use Rattle.std.proofs.Math.ListN.{length, take}
 use borrow.Author.Tests.{leb-true, le-leb}
-use Rattle.text.specs.Text.{fits, end_after, out_after, place_for, waiting_after, said_after, Waiting, waiting, say_all, goes_out, gone_out, whole_output, Short}
+use Rattle.text.specs.Text.{fits, out_after, place_for, waiting_after, said_after, Waiting, waiting, say_all, goes_out, gone_out, whole_output, Short}
 use Rattle.text.specs.Parts.{end_is, out-length, front-is}
 
 -- ---- one text

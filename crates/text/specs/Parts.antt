@@ -1,9 +1,9 @@
 -- Laws of `put`: with room for it, a text that is put part by part is put whole. Proved.
-use Rattle.std.specs.Prelude.{◌≡◌, refl, ℕ, ◌+◌, ◌-◌, ◌≤◌, ◌<◌, take, drop}
+use Rattle.std.specs.Prelude.{◌≡◌, ℕ, ◌+◌, ◌≤◌, take, drop}
 use Rattle.std.proofs.Common.{sym, ap, ap₂, ◌∙◌, arith, length-append, length-drop, take-append-drop, take_at, drop_at, drop-drop, length-take-le, le-leb}
 use mathlib.Core.List.{List, [], ◌∷◌, ◌++◌, append_assoc, flatten}
 use Rattle.std.proofs.Math.ListN.{length}
-use Rattle.text.specs.Text.{fits, end_after, out_after, Waiting, waiting, put_all}
+use Rattle.text.specs.Text.{fits, end_after, out_after, waiting, put_all}
 
 module _ (out : List ℕ) (at : ℕ) (text : List ℕ) (room : at + length text ≤ length out) where
   -- where a text with room ends, and the buffer then

@@ -4,8 +4,6 @@
 ghost use Rattle.std.specs.Prelude.{◌≡◌, false, ◌≤◌, ◌<◌, length};
 ghost use Rattle.text.specs.Text.{end_after, out_after, place_for, waiting_after, said_after, decimal};
 
-use libc::STDOUT_FILENO;
-
 // Puts a text behind the first `at` bytes, if it has room there, and says where it ends; else nothing is written, and that is `at`.
 pub fn put(out: &mut [u8], at: usize, text: &[u8]) -> usize
     ensures value { result ≡ end_after out.old at text.now }
@@ -18,22 +16,22 @@ pub fn put(out: &mut [u8], at: usize, text: &[u8]) -> usize
         return at;
     }
     let end = at + text.len();
-    bytes::copy(text, &mut out[at..end]);
+    out[at..end].copy_from_slice(text);
     end
 }
 
 // Puts a text behind the `at` bytes that wait, which go out first if there is no room for it, and says how many wait then.
-pub fn say(out: &mut [u8], at: usize, text: &[u8]) -> usize
+pub fn say(rt: &HostRuntime, out: &mut [u8], at: usize, text: &[u8]) -> usize
     ensures value { result ≡ waiting_after out.old at text.now }
     ensures out_after { out.new ≡ said_after out.old at text.now }
     ensures upper_bound { result ≤ length out.new }
 {
-    let place = place_for(out, at, text);
+    let place = place_for(rt, out, at, text);
     put(out, place, text)
 }
 
 // Where a text has its place: behind the bytes that wait, or at the start, once they have gone out.
-fn place_for(out: &[u8], at: usize, text: &[u8]) -> usize
+fn place_for(rt: &HostRuntime, out: &[u8], at: usize, text: &[u8]) -> usize
     ensures value { result ≡ place_for out.now at text.now }
     ensures upper_bound { result ≤ length out.now }
 {
@@ -42,20 +40,20 @@ fn place_for(out: &[u8], at: usize, text: &[u8]) -> usize
     }
     let room = out.len() - at;
     if room < text.len() {
-        flush(out, at);
+        flush(rt, out, at);
         return 0;
     }
     at
 }
 
 // Writes the `at` bytes that wait, and says whether all of them went out.
-pub fn flush(out: &[u8], at: usize) -> bool
+pub fn flush(rt: &HostRuntime, out: &[u8], at: usize) -> bool
     ensures { length out.now < at → result ≡ false }
 {
     if out.len() < at {
         return false;
     }
-    io::write_all(STDOUT_FILENO, &out[..at])
+    rt.write_all(&out[..at]).is_ok()
 }
 
 // A number in decimal digits, put as `put` does.
@@ -70,12 +68,12 @@ pub fn put_number(out: &mut [u8], at: usize, n: u64) -> usize
 }
 
 // A number in decimal digits, said as `say` does.
-pub fn say_number(out: &mut [u8], at: usize, n: u64) -> usize
+pub fn say_number(rt: &HostRuntime, out: &mut [u8], at: usize, n: u64) -> usize
     ensures value { result ≡ waiting_after out.old at (decimal n) }
     ensures out_after { out.new ≡ said_after out.old at (decimal n) }
     ensures upper_bound { result ≤ length out.new }
 {
     let mut digits = [0u8; 20];
     let count = io::decimal(n, &mut digits);
-    say(out, at, &digits[..count])
+    say(rt, out, at, &digits[..count])
 }
