@@ -7,7 +7,7 @@ use Rattle.fields.proofs.packed.line.Goals as goal
 
 pub line_from_32-requires : goal.line_from_32-requires
 unfolding packed_line sf line_of find table
-line_from_32-requires c = past-others 0 32 (omega arith) c.in_default.rest
+line_from_32-requires c = past-others 0 32 (omega arith) c.in_default.in_default-own.rest
 
 pub returns-in-0 : goal.returns-in-0
 unfolding packed_line sf line_of find table

@@ -7,7 +7,7 @@ use Rattle.fields.proofs.packed.line_from_32.Goals as goal
 
 pub line_from_64-requires : goal.line_from_64-requires
 unfolding packed_line sf line_of find table
-line_from_64-requires c = past-others 32 32 (omega arith) c.in_default.rest
+line_from_64-requires c = past-others 32 32 (omega arith) c.in_default.in_default-own.rest
 
 pub returns-in-32 : goal.returns-in-32
 unfolding packed_line sf line_of find table

@@ -7,7 +7,7 @@ use Rattle.fields.proofs.packed.line_from_64.Goals as goal
 
 pub line_from_96-requires : goal.line_from_96-requires
 unfolding packed_line sf line_of find table
-line_from_96-requires c = past-others 64 32 (omega arith) c.in_default.rest
+line_from_96-requires c = past-others 64 32 (omega arith) c.in_default.in_default-own.rest
 
 pub returns-in-64 : goal.returns-in-64
 unfolding packed_line sf line_of find table

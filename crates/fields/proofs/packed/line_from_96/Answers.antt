@@ -55,4 +55,4 @@ returns-in-107 c = search (packed-at 107, rules)
 
 pub returns-in_default : goal.returns-in_default
 unfolding packed_line sf line_of find table
-returns-in_default c = packed_none _ (past-others 96 12 (omega arith) c.in_default.rest)
+returns-in_default c = packed_none _ (past-others 96 12 (omega arith) c.in_default.in_default-own.rest)
