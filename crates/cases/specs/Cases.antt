@@ -30,7 +30,7 @@ use Rattle.frame.specs.Check.{frame_of, bad_message_crc, bad_frame_crc, checked,
 use Rattle.frame.specs.Write.{bytes_of, start, description, body, check_over, plain}
 use Rattle.groups.specs.Groups.{groups, groups_of, groups_of_all}
 use Rattle.layout.specs.Layout.{judge, read_l, write_l}
-use Rattle.log.specs.Log.{reason_for, entries_of, log_of}
+use Rattle.entrylog.specs.Log.{reason_for, entries_of, log_of}
 use Rattle.sheet.specs.declared.WriteAnswer.{WriteAnswer}
 use Rattle.sheet.specs.declared.WriteAnswer.TheVariants.{Written}
 use Rattle.sheet.specs.Sheet.{judging, judging_sheet, judged_sheet}

@@ -43,9 +43,9 @@ use Rattle.book.specs.Payload.{gad-only}
 use Rattle.book.specs.declared.Book.{Book}
 use Rattle.book.specs.declared.Found.{Found}
 use Rattle.book.specs.declared.Found.TheVariants.{Area, Nothing}
-use Rattle.log.specs.Log.{opened, log_of}
-use Rattle.log.specs.Bound.{always-enough}
-use Rattle.log.specs.Pass.{Reads}
+use Rattle.entrylog.specs.Log.{opened, log_of}
+use Rattle.entrylog.specs.Bound.{always-enough}
+use Rattle.entrylog.specs.Pass.{Reads}
 use Rattle.desk.specs.Desk.{desk_sound}
 use Rattle.desk.specs.Answers.{answers, answers_at}
 use Rattle.desk.specs.Take.{Handed, Verdict, refused, defines, continues, opens, by_run, bad_tag, tag_of, by_book, by_message, by_payload, our_type, ours, is_sealed, by_header, by_frame, handling, lacks_room, verdict, copied, logged_by, log_by, said_by, leaving, leaving_by, frame_taken, number_of_said}

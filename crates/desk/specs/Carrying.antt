@@ -5,7 +5,7 @@ use Rattle.bits.specs.Bits.{number}
 use Rattle.layout.specs.declared.Verdict.{Verdict}
 use Rattle.layout.specs.declared.Verdict.TheVariants.{Taken, Fault}
 use Rattle.layout.specs.Layout.{Layout, done, judge, Outcome, accepted, refused, enough, judged, before, read_l}
-use Rattle.log.specs.Alike.{Alike, ends, past}
+use Rattle.entrylog.specs.Alike.{Alike, ends, past}
 
 -- ---- f of what stands at each end
 

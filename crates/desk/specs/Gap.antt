@@ -18,7 +18,7 @@ use Rattle.gad.specs.Gad.{Gad}
 use Rattle.message.specs.Messages.{Message, gad_message}
 use Rattle.sheet.specs.Sheet.{judging}
 use Rattle.groups.specs.Groups.{groups_of_all}
-use Rattle.log.specs.Log.{opened, reason_for, reason_of, log_of}
+use Rattle.entrylog.specs.Log.{opened, reason_for, reason_of, log_of}
 use Rattle.book.specs.Book.{no_book, areas_in}
 use Rattle.book.specs.Take.{Outcome, reading, areas_of, take_all, before, outcome, answer_of, left_by}
 use Rattle.book.specs.TakeLaws.{other-aiou}

@@ -4,7 +4,7 @@ use Rattle.std.specs.Prelude.{◌≡◌, Bool, true, false, List, [], ◌∷◌,
 use Rattle.area.specs.declared.AreaId.{AreaId}
 use Rattle.book.specs.Book.{found}
 use Rattle.book.specs.declared.Book.{Book}
-use Rattle.log.specs.Log.{opened, log_of}
+use Rattle.entrylog.specs.Log.{opened, log_of}
 use Rattle.desk.specs.Desk.{desk_sound}
 use Rattle.desk.specs.Take.{Verdict, refused, defines, continues, opens, hands, verdict, leaving, hands_book, book_verdict, desk_by, live_by, run_bytes_by, entries_by}
 use Rattle.desk.specs.declared.Desk.{Desk}

@@ -24,7 +24,7 @@ use Rattle.book.specs.declared.Book.{Book}
 use Rattle.book.specs.declared.Taken as took
 use Rattle.book.specs.declared.Taken.TheVariants as gad
 use Rattle.groups.specs.Groups.{groups_of_all}
-use Rattle.log.specs.Log.{opened, log_of}
+use Rattle.entrylog.specs.Log.{opened, log_of}
 use Rattle.desk.specs.Desk.{desk_with, desk_sound}
 use Rattle.desk.specs.declared.Desk.{Desk}
 use Rattle.desk.specs.declared.Last.{Last}

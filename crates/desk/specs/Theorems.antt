@@ -11,7 +11,7 @@ use Rattle.sizes.specs.Sizes.{tags, book_bytes, log_room}
 use Rattle.book.specs.Book.{no_book, siou_sound, head_sound, areas_sound, sound, is_held, place_of, found}
 use Rattle.book.specs.Laws.{sound-room}
 use Rattle.book.specs.declared.Book.{Book}
-use Rattle.log.specs.Log.{opened, bits_for, reason_for, reason_of, troposphere_in, satellites_in, entry_of, entries_of as log_entries, log_of}
+use Rattle.entrylog.specs.Log.{opened, bits_for, reason_for, reason_of, troposphere_in, satellites_in, entry_of, entries_of as log_entries, log_of}
 use Rattle.entries.specs.Entry as entry
 use Rattle.entries.specs.Entry.{joined, numbers_of}
 use Rattle.answer.specs.declared.Fault as answer

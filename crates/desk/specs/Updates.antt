@@ -31,7 +31,7 @@ use Rattle.book.specs.Book.{no_book, sound}
 use Rattle.book.specs.Take as gads
 use Rattle.book.specs.Payload.{gad-only}
 use Rattle.book.specs.declared.Book.{Book}
-use Rattle.log.specs.Updates.{PlacedIf, NonePlaced, none-placed, placed-if}
+use Rattle.entrylog.specs.Updates.{PlacedIf, NonePlaced, none-placed, placed-if}
 use Rattle.desk.specs.Desk.{desk_sound}
 use Rattle.desk.specs.Take.{Verdict, refused, defines, continues, opens, by_run, bad_tag, tag_of, by_book, by_message, by_payload, our_type, ours, is_sealed, by_header, by_frame, is_gap, handling, lacks_room, verdict, copied, leaving, book_by, hands, hands_book, no_book_room, book_verdict}
 use Rattle.desk.specs.Carrying.{carried}

@@ -8,7 +8,7 @@ use Rattle.stream.specs.Driver.{Caller, Clear}
 use Rattle.entries.specs.Entry.{joined, bytes_of}
 use Rattle.entries.specs.Ends.{ReadsAs, AllEntries}
 use Rattle.entries.specs.Theorems.{log-reads}
-use Rattle.log.specs.Lists.{joined-append, all_append}
+use Rattle.entrylog.specs.Lists.{joined-append, all_append}
 use Rattle.desk.specs.Take as desk
 use Rattle.desk.specs.History.{Held, Snapshot, Course, KeptOn}
 use Rattle.desk.specs.Entries.{entries_under, BooksInBytes}

@@ -11,7 +11,7 @@ use Rattle.stream.specs.Driver.{Caller, Clear}
 use Rattle.book.specs.declared.Book.{Book}
 use Rattle.desk.specs.History.{Held, Snapshot, handled_at, held_by, opening_by, is_opening, KeptOn}
 use Rattle.entries.specs.Entry.{joined, bytes_of}
-use Rattle.log.specs.Updates.{NonePlaced}
+use Rattle.entrylog.specs.Updates.{NonePlaced}
 use Rattle.desk.specs.Take.{Verdict, refused, defines, continues, opens}
 use Rattle.desk.specs.Entries.{entries_under}
 use Rattle.desk.specs.Updates.{Agrees, agrees, unknown-none, Origin, starting, siou_of, origin_by, siou-step}

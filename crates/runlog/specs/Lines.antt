@@ -12,7 +12,7 @@ use Rattle.entries.specs.Entry.{Entry, joined, bytes_of}
 use Rattle.entries.specs.Ends.{ReadsAs, AllEntries}
 use Rattle.entries.specs.Theorems.{log-reads}
 use Rattle.groups.specs.Groups.{groups_of_all}
-use Rattle.log.specs.Lists.{joined-append, all_append}
+use Rattle.entrylog.specs.Lists.{joined-append, all_append}
 use Rattle.words.specs.Lines.{each, texts_of}
 use Rattle.words.specs.Log.{texts_of_log}
 use Rattle.words.specs.Lengths.{lines-short}
