@@ -7,7 +7,7 @@ ghost use Rattle.answer.specs.Number.{number_of};
 ghost use Rattle.answer.specs.Matched.{Matched};
 ghost use Rattle.answer.specs.Place.{sf_in, at_in};
 
-#[derive(Drop)]
+#[derive(Clone, Copy)]
 pub enum Refusal {
     Short,
     Preamble,
@@ -31,14 +31,14 @@ pub enum Refusal {
 
 // Where an entry of a message begins, or would begin: the field's number in its document, and the bit of the payload or the entry of the sheet, both
 // counted from 0.
-#[derive(Drop)]
+#[derive(Clone, Copy)]
 pub enum Place {
     Nowhere,
     At { sf: u64, at: usize },
 }
 
 // Why a message is refused, and where: SHORT, FIELD and MASK_EMPTY of a payload or of a sheet have a place, all other refusals none.
-#[derive(Drop)]
+#[derive(Clone, Copy)]
 pub struct Fault {
     pub refusal: Refusal,
     pub place: Place,

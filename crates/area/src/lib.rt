@@ -5,7 +5,7 @@ ghost use Rattle.std.specs.Prelude.{◌≡◌, ◌+◌, ◌*◌, ◌/◌, ◌%�
 ghost use Rattle.area.specs.Area.{sf031, nodes, area_off, is_area, number_at, put_at};
 
 // SF031, the ID of an area of HPAC and GAD. BPAC's areas are counted apart: `bpac::BpacAreaId`.
-#[derive(Drop)]
+#[derive(Clone, Copy)]
 pub struct AreaId(pub u8);
 
 fn wide(x: u8) -> u64

@@ -19,7 +19,7 @@ use sheet::ReadAnswer;
 
 // What is known of a book besides its bytes: AIOU + 1, or 0 where it has no AIOU; SIOU + 1, or 0 where that is unknown; and how many areas
 // it has.
-#[derive(Drop)]
+#[derive(Clone, Copy)]
 pub struct Book {
     pub aiou_plus_one: u8,
     pub siou_plus_one: u16,
@@ -27,21 +27,21 @@ pub struct Book {
 }
 
 // The area with an ID, if there is one.
-#[derive(Drop)]
+#[derive(Clone, Copy)]
 pub enum Found {
     Area(u64),
     Nothing,
 }
 
 // How many areas the book would hold, or why a block is refused.
-#[derive(Drop)]
+#[derive(Clone, Copy)]
 enum Judged {
     Held(usize),
     Refused(Fault),
 }
 
 // The book that a GAD leaves, or why it is not taken; a fault of the payload with its place, as the reader gives it.
-#[derive(Drop)]
+#[derive(Clone, Copy)]
 pub enum Taken {
     Holds(Book),
     Refused(Fault),

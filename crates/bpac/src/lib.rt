@@ -10,10 +10,10 @@ use codes::tables::last_group_field;
 use layout::{Field, up_to};
 
 // SF072, the ID of an area of BPAC: counted apart from SF031.
-#[derive(Drop)]
+#[derive(Clone, Copy)]
 pub struct BpacAreaId(pub u8);
 
-#[derive(Drop)]
+#[derive(Clone, Copy)]
 pub enum State {
     Siou,
     Reserved,

@@ -40,7 +40,7 @@ pub fn frame_crc(a: u8, b: u8, c: u8) -> u8
 }
 
 // A number of 128 bits.
-#[derive(Drop)]
+#[derive(Clone, Copy)]
 struct Pair {
     high: u64,
     low: u64,

@@ -6,7 +6,7 @@ pub mod satellites;
 pub mod tables;
 
 // Subtypes 0 to 4 of OCB and HPAC.
-#[derive(Drop)]
+#[derive(Clone, Copy)]
 pub enum Constellation {
     Gps,
     Glonass,

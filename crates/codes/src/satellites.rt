@@ -9,7 +9,7 @@ use crate::Constellation;
 use crate::tables::{first_satellite, mask_size};
 
 // The satellite numbers of a mask in mask order, and zeros after them.
-#[derive(Drop)]
+#[derive(Clone, Copy)]
 pub struct Satellites {
     pub count: u64,
     pub numbers: [u64; 64],
@@ -62,7 +62,7 @@ pub fn satellite_number(constellation: Constellation, size: u64, mask: u64, more
 }
 
 // A step of a walk over the set bits of a mask: the position of the first one, and the mask without it.
-#[derive(Drop)]
+#[derive(Clone, Copy)]
 pub struct Step {
     pub position: u64,
     pub left: u64,

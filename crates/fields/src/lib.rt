@@ -14,7 +14,7 @@ use layout::{Field, up_to};
 
 // A field's line as numbers: its bits, the codes 0 to `most` and `invalid` that it takes; how a code
 // counts steps, the middle code, the steps of a unit, what the value is (0: it has none).
-#[derive(Drop)]
+#[derive(Clone, Copy)]
 pub struct Numbers {
     pub width: u16,
     pub most: u16,

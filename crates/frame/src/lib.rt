@@ -13,7 +13,7 @@ ghost use Rattle.frame.specs.Stages.{described, whole};
 use answer::Refusal;
 
 // TF012 to TF015, which a sealed frame has.
-#[derive(Drop)]
+#[derive(Clone, Copy)]
 pub struct Sealing {
     pub id: u8,
     pub sequence: u8,
@@ -22,14 +22,14 @@ pub struct Sealing {
 }
 
 // TF004: 0 is plain, 1 is sealed.
-#[derive(Drop)]
+#[derive(Clone, Copy)]
 pub enum Seal {
     Plain,
     Sealed(Sealing),
 }
 
 // The header of an accepted frame, where its payload starts and how many bytes the whole frame has.
-#[derive(Drop)]
+#[derive(Clone, Copy)]
 pub struct Frame {
     pub message_type: u8,
     pub payload_length: usize,
@@ -45,7 +45,7 @@ pub struct Frame {
 }
 
 // What lies first in some bytes. Short is SHORT, and stays so while fewer bytes are there than it says.
-#[derive(Drop)]
+#[derive(Clone, Copy)]
 pub enum Checked {
     Accepted(Frame),
     Short(usize),
@@ -356,7 +356,7 @@ pub fn number(checked: Checked) -> u8
 }
 
 // What the plain-frame writer is told of a frame: TF002, TF005, TF007 to TF011.
-#[derive(Drop)]
+#[derive(Clone, Copy)]
 pub struct Parts {
     pub message_type: u8,
     pub check_type: u8,
@@ -368,7 +368,7 @@ pub struct Parts {
 }
 
 // A frame of so many bytes was written, or nothing was.
-#[derive(Drop)]
+#[derive(Clone, Copy)]
 pub enum Written {
     Frame(usize),
     Refused(Refusal),

@@ -11,14 +11,14 @@ use fields::sf;
 use layout::{Field, up_to};
 
 // What is known where a block begins: both issues of update, and the blocks after it.
-#[derive(Drop)]
+#[derive(Clone, Copy)]
 pub struct Head {
     pub siou: u64,
     pub aiou: u64,
     pub more: u64,
 }
 
-#[derive(Drop)]
+#[derive(Clone, Copy)]
 pub enum State {
     Siou,
     Aiou(u64),

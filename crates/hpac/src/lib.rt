@@ -18,7 +18,7 @@ use layout::{Field, up_to};
 use sized::{residual_field, sized_field};
 
 // What is known where an area begins: both issues of update, and the areas after it.
-#[derive(Drop)]
+#[derive(Clone, Copy)]
 pub struct Head {
     pub constellation: Constellation,
     pub siou: u64,
@@ -27,7 +27,7 @@ pub struct Head {
 }
 
 // What is known of an area once its table 6.15 is read: SF031, SF039 and both SF040.
-#[derive(Drop)]
+#[derive(Clone, Copy)]
 pub struct Area {
     pub constellation: Constellation,
     pub siou: u64,
@@ -40,7 +40,7 @@ pub struct Area {
 }
 
 // Where the walk over a mask's satellites stands: SF054, the mask, and the satellites after the one at hand.
-#[derive(Drop)]
+#[derive(Clone, Copy)]
 pub struct Walk {
     pub equation: u64,
     pub size: u64,
@@ -48,7 +48,7 @@ pub struct Walk {
     pub more: u64,
 }
 
-#[derive(Drop)]
+#[derive(Clone, Copy)]
 pub enum State {
     Siou(Constellation),
     Aiou(Constellation, u64),

@@ -11,7 +11,7 @@ use answer::Refusal;
 // least to most without the one code `except`. A code below `least` is refused as `under` says, one
 // above `most` as `over` says, and `except` is FIELD. `extra` comes first: a field that leaves out
 // no code names it as `except` too.
-#[derive(Drop)]
+#[derive(Clone, Copy)]
 pub struct Field {
     pub sf: u64,
     pub width: u32,
@@ -24,7 +24,7 @@ pub struct Field {
 }
 
 // What a field says of a code.
-#[derive(Drop)]
+#[derive(Clone, Copy)]
 pub enum Verdict {
     Taken,
     Fault(Refusal),

@@ -12,7 +12,7 @@ use codes::Constellation;
 use layout::Field;
 
 // Where in a payload a reader or writer stands.
-#[derive(Drop)]
+#[derive(Clone, Copy)]
 pub enum State {
     Ocb(ocb::State),
     Hpac(hpac::State),
@@ -21,14 +21,14 @@ pub enum State {
 }
 
 // Where a payload of a type and subtype starts.
-#[derive(Drop)]
+#[derive(Clone, Copy)]
 pub enum Start {
     Known(State),
     Unknown,
 }
 
 // The constellation of a subtype of OCB and HPAC.
-#[derive(Drop)]
+#[derive(Clone, Copy)]
 pub enum Subtype {
     Known(Constellation),
     Unknown,

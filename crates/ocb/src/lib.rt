@@ -18,14 +18,14 @@ use tables::{
 };
 
 // What is known where a satellite begins: SF008, and the satellites after it.
-#[derive(Drop)]
+#[derive(Clone, Copy)]
 pub struct Head {
     pub constellation: Constellation,
     pub yaw: u64,
     pub more: u64,
 }
 
-#[derive(Drop)]
+#[derive(Clone, Copy)]
 pub enum State {
     Siou(Constellation),
     EndOfSet(Constellation),

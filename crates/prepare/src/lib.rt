@@ -18,7 +18,7 @@ use stream::Tray;
 
 // What a call says: a frame, which lies first in the tray, taken by the desk or refused with the reason and its place; a count of noise; all input is used; all is told; or a
 // refusal of the call.
-#[derive(Drop)]
+#[derive(Clone, Copy)]
 pub enum Said {
     Accepted(Frame),
     FrameRefused { header: Frame, why: Fault },
@@ -29,7 +29,7 @@ pub enum Said {
 }
 
 // What is said, how many bytes of the input were used and of the log written, and the tray and the desk as they are now.
-#[derive(Drop)]
+#[derive(Clone, Copy)]
 pub struct Answer {
     pub said: Said,
     pub used: usize,
@@ -72,7 +72,7 @@ fn lacks_room(bytes: &[u8], live: &[u8], run: &[u8], log: &[u8]) -> bool
 }
 
 // Whether a call may be: ROOM of every lent buffer, then STATE of the desk.
-#[derive(Drop)]
+#[derive(Clone, Copy)]
 enum Tested {
     Passed,
     Failed(Refusal),

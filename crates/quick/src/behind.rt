@@ -6,7 +6,7 @@ ghost use Rattle.quick.specs.Behind.{reads_to};
 use crate::Quick;
 
 // Behind a part that passes: its end, and how many entries there are to it; an end of 0 says that it does not pass.
-#[derive(Drop)]
+#[derive(Clone, Copy)]
 pub struct Behind {
     pub end: usize,
     pub entries: usize,

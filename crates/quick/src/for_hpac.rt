@@ -10,7 +10,7 @@ use codes::tables::mask_size;
 use hpac::spans::{i_residual_width, t_residual_width};
 
 // Behind a part that passes: its end, and how many entries the part has; an end of 0 says that it does not pass.
-#[derive(Drop)]
+#[derive(Clone, Copy)]
 struct Behind {
     end: usize,
     entries: u64,

@@ -101,7 +101,7 @@ fn clock_behind(payload: &[u8], pos: usize, at: usize) -> Behind
 }
 
 // A bias mask's end, and how many of its bits are set.
-#[derive(Drop)]
+#[derive(Clone, Copy)]
 struct Mask {
     end: usize,
     set: usize,

@@ -15,7 +15,7 @@ pub mod widths;
 use message::Subtype;
 
 // The bits and the entries of a payload that reads, or nothing about it.
-#[derive(Drop)]
+#[derive(Clone, Copy)]
 pub enum Quick {
     Reads { bits: usize, entries: usize },
     Unknown,

@@ -8,7 +8,7 @@ ghost use Rattle.rows.specs.Puts.{onward};
 
 // The group, as often again as `more` says, and the tail. Each is a word of up to eight cells, the first one lowest; a cell is a
 // field's number. A group of 0 is no row.
-#[derive(Drop)]
+#[derive(Clone, Copy)]
 pub struct Row {
     pub group: u64,
     pub more: u64,

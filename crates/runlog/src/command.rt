@@ -6,7 +6,7 @@ ghost use Rattle.runlog.specs.Command.{byte_of, is_raw, form_of, logged_in, want
 use std::env::{Env, FillError};
 
 // What the command line asks for, in numbers that a desk may still refuse.
-#[derive(Drop)]
+#[derive(Clone, Copy)]
 pub enum Wanted {
     Log {
         solution: u8,
@@ -18,14 +18,14 @@ pub enum Wanted {
 }
 
 // A number of the command line.
-#[derive(Drop)]
+#[derive(Clone, Copy)]
 enum Byte {
     Is(u8),
     Not,
 }
 
 // The form of the log.
-#[derive(Drop)]
+#[derive(Clone, Copy)]
 enum Form {
     Words,
     Raw,

@@ -18,14 +18,14 @@ use desk::{Desk, NewDesk};
 use hearing::{Stop, first_turn, hear_some, tell_end};
 
 // What there is to do: a desk runs, its log in words or raw, or the usage is said.
-#[derive(Drop)]
+#[derive(Clone, Copy)]
 enum Job {
     Run { desk: Desk, raw: bool },
     Usage,
 }
 
 // What was done: a desk ran until there was no further read, or the usage was said.
-#[derive(Drop)]
+#[derive(Clone, Copy)]
 enum Done {
     Ran(Stop),
     Usage,

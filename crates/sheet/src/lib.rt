@@ -24,21 +24,21 @@ use row::{Ran, write_row};
 
 // What `read` answers: the count of bits read and of entries written, or the refusal; SHORT, FIELD and MASK_EMPTY with the field's number and the bit where its
 // entry begins.
-#[derive(Drop)]
+#[derive(Clone, Copy)]
 pub enum ReadAnswer {
     Read { bits: usize, entries: usize },
     Refused(Fault),
 }
 
 // What `write` answers: the count of bits and of bytes written, or the refusal; SHORT, FIELD and MASK_EMPTY with the field's number and its entry of the sheet.
-#[derive(Drop)]
+#[derive(Clone, Copy)]
 pub enum WriteAnswer {
     Written { bits: usize, bytes: usize },
     Refused(Fault),
 }
 
 // What a pass over a message came to: its entries and its bits, or its first fault.
-#[derive(Drop)]
+#[derive(Clone, Copy)]
 enum Pass {
     Whole { entries: usize, bits: usize },
     Fault(Fault),

@@ -15,7 +15,7 @@ use rows::{Row, counted};
 const ONE_BIT: u64 = 0x1_000001_01;
 
 // What a row came to: the place after it and its last code, or its first fault.
-#[derive(Drop)]
+#[derive(Clone, Copy)]
 pub enum Ran {
     To { pos: usize, at: usize, last: u64 },
     Stopped(Fault),

@@ -14,7 +14,7 @@ use codes::tables::mask_size;
 use hpac::spans::{i_residual_width, t_residual_width};
 
 // Where in the payload and on the sheet.
-#[derive(Drop)]
+#[derive(Clone, Copy)]
 pub struct Here {
     pub pos: usize,
     pub at: usize,

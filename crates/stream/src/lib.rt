@@ -22,7 +22,7 @@ const WINDOW: usize = 64;
 const BLOCK: usize = 32;
 
 // The tray beside its lent bytes: how many are held, the length of the frame last shown, the noise not yet told.
-#[derive(Drop)]
+#[derive(Clone, Copy)]
 pub struct Tray {
     pub held: usize,
     pub shown: usize,
@@ -30,7 +30,7 @@ pub struct Tray {
 }
 
 // What a call says: a frame, which lies first in the tray; a count of noise; all input is used; all is told; or a refusal.
-#[derive(Drop)]
+#[derive(Clone, Copy)]
 pub enum Said {
     Frame(Frame),
     Noise(u32),
@@ -40,7 +40,7 @@ pub enum Said {
 }
 
 // What is said, how many bytes of the input were used, and the tray as it is now.
-#[derive(Drop)]
+#[derive(Clone, Copy)]
 pub struct Answer {
     pub said: Said,
     pub used: usize,
@@ -49,7 +49,7 @@ pub struct Answer {
 
 // Where a call stands: the live bytes are those of the tray from start to held, or those of the input; so much noise is untold, so many bytes
 // of the input are used.
-#[derive(Drop)]
+#[derive(Clone, Copy)]
 struct Place {
     start: usize,
     held: usize,
@@ -495,7 +495,7 @@ fn feed(bytes: &mut [u8], place: Place, input: &[u8]) -> Answer
 }
 
 // Where a turn of finish comes to: on from a place, or to an answer.
-#[derive(Drop)]
+#[derive(Clone, Copy)]
 enum Turn {
     On(Place),
     Ended(Answer),

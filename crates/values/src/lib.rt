@@ -9,7 +9,7 @@ use answer::Refusal;
 use fields::Numbers;
 
 // "A residual is either invalid or a float in its unit": SF052, 053, 064 to 067, 082 and 083.
-#[derive(Drop)]
+#[derive(Clone, Copy)]
 pub enum Residual {
     Invalid,
     Metres(f64),
@@ -17,7 +17,7 @@ pub enum Residual {
 }
 
 // A satellite's yaw, SF021.
-#[derive(Drop)]
+#[derive(Clone, Copy)]
 pub enum Yaw {
     Absent,
     Invalid,
@@ -25,7 +25,7 @@ pub enum Yaw {
 }
 
 // What a field's code means. A coefficient per degree is a plain number.
-#[derive(Drop)]
+#[derive(Clone, Copy)]
 pub enum Value {
     Metres(f64),
     Degrees(f64),
@@ -38,7 +38,7 @@ pub enum Value {
 }
 
 // The three orbit corrections, in metres.
-#[derive(Drop)]
+#[derive(Clone, Copy)]
 pub struct Orbit {
     pub radial: f64,
     pub along_track: f64,
@@ -46,25 +46,25 @@ pub struct Orbit {
 }
 
 // What a call below answers: the value, or the refusal.
-#[derive(Drop)]
+#[derive(Clone, Copy)]
 pub enum OrbitAnswer {
     Is(Orbit),
     Refused(Refusal),
 }
 
-#[derive(Drop)]
+#[derive(Clone, Copy)]
 pub enum ResidualAnswer {
     Is(Residual),
     Refused(Refusal),
 }
 
-#[derive(Drop)]
+#[derive(Clone, Copy)]
 pub enum YawAnswer {
     Is(Yaw),
     Refused(Refusal),
 }
 
-#[derive(Drop)]
+#[derive(Clone, Copy)]
 pub enum CountAnswer {
     Is(u64),
     Refused(Refusal),

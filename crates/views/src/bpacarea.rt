@@ -11,7 +11,7 @@ use bpac::BpacAreaId;
 
 // An area of BPAC: its reference corner and its spacings in degrees, its counts of nodes, its average VTEC in TECU. Its block starts at the entry `start` of the
 // sheet: eight entries, the groups of its node mask, then its VTEC blocks, three entries each; their residuals are codes (`values::residual_of`).
-#[derive(Drop)]
+#[derive(Clone, Copy)]
 pub struct BpacArea {
     pub start: usize,
     pub latitude: f64,
@@ -24,7 +24,7 @@ pub struct BpacArea {
 }
 
 // What `bpac_area` answers: the area, that no block has the ID, or a refusal: the writer's of the sheet with its place, or FIELD for an ID over 3.
-#[derive(Drop)]
+#[derive(Clone, Copy)]
 pub enum BpacAnswer {
     Is(BpacArea),
     Absent,

@@ -10,7 +10,7 @@ use answer::Fault;
 use area::AreaId;
 
 // An area of GAD: its reference corner and its spacings in degrees, its counts of nodes.
-#[derive(Drop)]
+#[derive(Clone, Copy)]
 pub struct GadArea {
     pub latitude: f64,
     pub longitude: f64,
@@ -21,7 +21,7 @@ pub struct GadArea {
 }
 
 // What `gad_area` answers: the area, that no block has the ID, or the writer's refusal of the sheet with its place.
-#[derive(Drop)]
+#[derive(Clone, Copy)]
 pub enum GadAnswer {
     Is(GadArea),
     Absent,

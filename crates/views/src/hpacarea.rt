@@ -10,7 +10,7 @@ use answer::Fault;
 use area::AreaId;
 
 // An area of HPAC: its grid points, SF039, and its two SF040. Its block starts at the entry `start` of the sheet.
-#[derive(Drop)]
+#[derive(Clone, Copy)]
 pub struct HpacArea {
     pub start: usize,
     pub points: u64,
@@ -19,7 +19,7 @@ pub struct HpacArea {
 }
 
 // What `hpac_area` answers: the area, that no block has the ID, or the writer's refusal of the sheet with its place.
-#[derive(Drop)]
+#[derive(Clone, Copy)]
 pub enum HpacAnswer {
     Is(HpacArea),
     Absent,

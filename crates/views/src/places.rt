@@ -10,20 +10,20 @@ use message::{Start, State, start_of};
 use sheet::{WriteAnswer, judge_sheet};
 
 // An entry of a sheet, and where the machine stands there.
-#[derive(Drop)]
+#[derive(Clone, Copy)]
 pub struct Place {
     pub state: State,
     pub at: usize,
 }
 
-#[derive(Drop)]
+#[derive(Clone, Copy)]
 pub enum Found {
     Nothing,
     At(Place),
 }
 
 // The first entry of a sheet that the writer accepts, or its refusal.
-#[derive(Drop)]
+#[derive(Clone, Copy)]
 pub enum Opened {
     Refused(Fault),
     At(Place),

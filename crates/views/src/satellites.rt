@@ -13,14 +13,14 @@ use sheet::{WriteAnswer, judge_sheet};
 use values::{Orbit, Yaw};
 
 // The orbit block: the issue of data of the ephemeris, and the corrections in metres.
-#[derive(Drop)]
+#[derive(Clone, Copy)]
 pub enum OrbitBlock {
     Absent,
     Present(u64, Orbit),
 }
 
 // The clock block: SF022, the correction in metres, SF024.
-#[derive(Drop)]
+#[derive(Clone, Copy)]
 pub enum ClockBlock {
     Absent,
     Present(u64, f64, u64),
@@ -28,7 +28,7 @@ pub enum ClockBlock {
 
 // The bias block stays on the sheet. Phase biases, three entries each, start at `phases_at`, behind the size and the bits of their mask; code biases, one entry
 // each, at `codes_at`, likewise.
-#[derive(Drop)]
+#[derive(Clone, Copy)]
 pub struct Biases {
     pub phases_at: usize,
     pub phases: u64,
@@ -36,14 +36,14 @@ pub struct Biases {
     pub codes: u64,
 }
 
-#[derive(Drop)]
+#[derive(Clone, Copy)]
 pub enum BiasBlock {
     Absent,
     Present(Biases),
 }
 
 // The blocks of a satellite in use, with SF015.
-#[derive(Drop)]
+#[derive(Clone, Copy)]
 pub struct Blocks {
     pub continuity: u64,
     pub orbit: OrbitBlock,
@@ -52,7 +52,7 @@ pub struct Blocks {
     pub bias: BiasBlock,
 }
 
-#[derive(Drop)]
+#[derive(Clone, Copy)]
 pub enum Satellite {
     OutOfUse,
     InUse(Blocks),
@@ -60,7 +60,7 @@ pub enum Satellite {
 
 // What `satellite_at` answers: the satellite's number and the satellite, or a refusal: the writer's of the sheet with its place, or FIELD for a place past the
 // last satellite.
-#[derive(Drop)]
+#[derive(Clone, Copy)]
 pub enum SatelliteAnswer {
     Is(u64, Satellite),
     Refused(Fault),
