@@ -1,0 +1,5 @@
+-- The callee's contract, with what the inner calls ensure put in.
+use Rattle.bpac.proofs.columns_read.Goals as goal
+
+pub returns : goal.returns
+returns c = cc

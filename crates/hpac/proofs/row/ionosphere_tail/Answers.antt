@@ -1,0 +1,10 @@
+-- Each side of the test gives what the definition picks.
+use Rattle.layout.specs.Tests.{if-least, if-below}
+use borrow.Author.Rules.{rules}
+use Rattle.hpac.proofs.row.ionosphere_tail.Goals as goal
+
+pub returns-then-area-ge1 : goal.returns-then-area-ge1
+returns-then-area-ge1 c = search (if-least, if-below, rules)
+
+pub returns : goal.returns
+returns c = search (if-least, if-below, rules)

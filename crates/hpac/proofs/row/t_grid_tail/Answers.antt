@@ -1,0 +1,10 @@
+-- Each side of the test gives what the definition picks.
+use Rattle.layout.specs.Tests.{if-least, if-below}
+use borrow.Author.Rules.{rules}
+use Rattle.hpac.proofs.row.t_grid_tail.Goals as goal
+
+pub returns-then-area-ge2 : goal.returns-then-area-ge2
+returns-then-area-ge2 c = search (if-least, if-below, rules)
+
+pub returns : goal.returns
+returns c = search (if-least, if-below, rules)

@@ -1,0 +1,5 @@
+-- The callee's contract, with the field's number put in.
+use Rattle.ocb.proofs.tables.phase_size_field.Goals as goal
+
+pub returns : goal.returns
+returns c = cc
