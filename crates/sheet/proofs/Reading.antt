@@ -248,6 +248,8 @@ started-by kind subtype (Known s) (present l) start (known w) e q =
     let same : s ≡ start = cc in
     record { layout = l; here = e; walks = subst (λ y. Walks field_of step_of y l) same w }
 started-by kind subtype Unknown absent start unknown e q = let z : ◌≡◌ {A = ℕ} 0 1 = cc in absurd (omega arith)
+started-by kind subtype (Known s) absent start x7 e q = elim x7 [ ]
+started-by kind subtype Unknown (present l) start x8 e q = elim x8 [ ]
 
 pub started : (kind subtype : ℕ) (x : Start) (start : State) → x ≡ start_of kind subtype → x ≡ Known start → Started kind subtype start
 started kind subtype x start e q = started-by kind subtype (start_of kind subtype) (layout_for kind subtype) start (starts kind subtype) refl (sym e ∙ q)
@@ -255,6 +257,8 @@ started kind subtype x start e q = started-by kind subtype (start_of kind subtyp
 none-by : (x : Start) (p : Part (Layout Message)) → Starts x p → x ≡ Unknown → p ≡ absent
 none-by (Known s) (present l) (known w) q = let z : ◌≡◌ {A = ℕ} 0 1 = cc in absurd (omega arith)
 none-by Unknown absent unknown q = refl
+none-by (Known s) absent x5 q = elim x5 [ ]
+none-by Unknown (present l) x6 q = elim x6 [ ]
 
 pub not-started : (kind subtype : ℕ) (x : Start) → x ≡ start_of kind subtype → x ≡ Unknown → layout_for kind subtype ≡ absent
 not-started kind subtype x e q = none-by (start_of kind subtype) (layout_for kind subtype) (starts kind subtype) (sym e ∙ q)

@@ -192,6 +192,8 @@ judged-fault : (o : Written) (pass : Pass) (none none' : List ℕ) (why : answer
     → writer.Refused why ≡ write_answer_by (then_length o)
 judged-fault (unwritten w) (Fault v) none none' why fault e = let q : w ≡ why = cc in ap (λ x. writer.Refused x) (sym q)
 judged-fault (written bs) (Whole n m) none none' why (whole c h) e = let z : ◌≡◌ {A = ℕ} 0 1 = cc in absurd (omega arith)
+judged-fault (written bs) (Fault v) none none' why x4 e = elim x4 [ ]
+judged-fault (unwritten w) (Whole n m) none none' why x4 e = elim x4 [ ]
 
 judged-length : (o : Written) (pass : Pass) (none none' : List ℕ) (entries count : ℕ) → PutBy none' none o pass → pass ≡ Whole entries count
     → bad_length (bytes_for count) ≡ true → writer.Refused (nowhere refusal.Length) ≡ write_answer_by (then_length o)
@@ -199,6 +201,8 @@ judged-length (unwritten w) (Fault v) none none' entries count fault e b = let z
 judged-length (written bs) (Whole n m) none none' entries count (whole c h) e b =
     let q : m ≡ count = cc in
     rw (length-by count (length bs) (subst (λ x. Counted x (length bs)) q c) b)
+judged-length (written bs) (Fault v) none none' entries count x6 e b = elim x6 [ ]
+judged-length (unwritten w) (Whole n m) none none' entries count x5 e b = elim x5 [ ]
 
 judged-whole : (o : Written) (pass : Pass) (none none' : List ℕ) (entries count : ℕ) → PutBy none' none o pass → pass ≡ Whole entries count
     → bad_length (bytes_for count) ≡ false → writer.Written count (bytes_for count) ≡ write_answer_by (then_length o)
@@ -208,10 +212,14 @@ judged-whole (written bs) (Whole n m) none none' entries count (whole c h) e b =
     let x : (count ≡ length bs) × (length bs ≤ 8 * longest_payload) = exact-by count (length bs) (subst (λ y. Counted y (length bs)) q c) b in
     let k : bad_length (bytes_for (length bs)) ≡ false = ap (λ (y : ℕ). bad_length (bytes_for y)) (sym x.0) ∙ b in
     rw k (ap (λ (y : ℕ). writer.Written y (bytes_for y)) x.0)
+judged-whole (written bs) (Fault v) none none' entries count x6 e b = elim x6 [ ]
+judged-whole (unwritten w) (Whole n m) none none' entries count x5 e b = elim x5 [ ]
 
 aside-by : (o : Written) (pass : Pass) (aside aside' : List ℕ) → PutBy aside aside' o pass → AsideBits aside aside' o
 aside-by (written bs) (Whole n m) aside aside' (whole c h) = text h
 aside-by (unwritten w) (Fault v) aside aside' fault = nothing
+aside-by (written bs) (Fault v) aside aside' x'' = elim x'' [ ]
+aside-by (unwritten w) (Whole n m) aside aside' x3 = elim x3 [ ]
 
 -- from the start of a type and subtype
 module _ (kind subtype : ℕ) (sheet out : List ℕ) (x : Start) (e : x ≡ start_of kind subtype) where

@@ -12,7 +12,7 @@ use Rattle.layout.specs.declared.Field.{Field}
 use Rattle.layout.specs.declared.Verdict.{Verdict}
 use Rattle.layout.specs.declared.Verdict.TheVariants.{Taken, Fault}
 use Rattle.bits.specs.Bits.{to_bits, number}
-use Rattle.layout.specs.Layout.{Layout, field, pick, judge, enough, judged, before, Outcome, accepted, refused, read_l, Written, written, unwritten, write_l}
+use Rattle.layout.specs.Layout.{done, Layout, field, pick, judge, enough, judged, before, Outcome, accepted, refused, read_l, Written, written, unwritten, write_l}
 use Rattle.layout.specs.Parts.{Part, absent, present}
 use Rattle.message.specs.Messages.{Message, ocb_layout, hpac_layout, constellation_of, by_constellation, layout_for}
 use Rattle.answer.specs.Stop.{stop}
@@ -81,6 +81,7 @@ has-bit (present (field f next)) (begins h) l bits cs n {m} e r =
     = first_read f.width (number (take f.width bits)) f.sf (leb f.width (length bits)) (judge f (number (take f.width bits)))
     (read_l (next (number (take f.width bits))) (drop f.width bits)) r' in
     omega arith
+has-bit (present (done value)) x4 l bits cs n {m = m} e r = elim x4 [ ]
 
 -- ---- the tests, each by its outcome
 

@@ -1,0 +1,11 @@
+-- At each turn what is left to be found out is what was to be found out (`Withouts`).
+use Rattle.quick.specs.Behind.{Withouts}
+use Prim.Native.Nat.{◌+◌, ◌*◌}
+use mathlib.Core.Path.{◌≡◌}
+use Rattle.quick.proofs.for_ocb.codes_fit.Given as goal
+
+abbrev pub invariant-loop-left : goal.invariant-loop-left
+invariant-loop-left l = (Withouts l.payload 11 11 2047 l.n l.start l.left l.pos) × (l.pos + 11 * l.left ≡ l.start + 11 * l.n)
+
+abbrev pub decreases-loop-left : goal.decreases-loop-left
+decreases-loop-left l = l.left

@@ -1,0 +1,13 @@
+-- The tests are those of `judging`, in its order.
+use Rattle.sheet.proofs.Reading.{judge-length, is_known, is-good, judge-unknown}
+use borrow.Author.Rules.{rules}
+use Rattle.sheet.proofs.judge.Goals as goal
+
+pub returns-then-bad_length : goal.returns-then-bad_length
+returns-then-bad_length c = search (judge-length, rules)
+
+pub judge_known-requires : goal.judge_known-requires
+judge_known-requires c = search (is_known, is-good, rules)
+
+pub returns-in-Unknown : goal.returns-in-Unknown
+returns-in-Unknown c = search (judge-unknown, rules)

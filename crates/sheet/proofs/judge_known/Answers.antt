@@ -1,0 +1,13 @@
+-- What the quick test says to read is read by the layout; else the machine's judgement is the layout's.
+use Rattle.sheet.proofs.Reading.{good_length, judge-quick, judge-machine}
+use borrow.Author.Rules.{rules}
+use Rattle.sheet.proofs.judge_known.Goals as goal
+
+pub judge_from-requires : goal.judge_from-requires
+judge_from-requires c = search (good_length, rules)
+
+pub returns-in-Unknown : goal.returns-in-Unknown
+returns-in-Unknown c = search (judge-quick, judge-machine, rules)
+
+pub returns-in-Reads : goal.returns-in-Reads
+returns-in-Reads c = search (judge-quick, judge-machine, rules)

@@ -1,0 +1,7 @@
+-- Each code in its entry, one after the other.
+use Rattle.sheet.proofs.StoringGad.{head-put}
+use borrow.Author.Rules.{rules}
+use Rattle.sheet.proofs.store_gad.put_head.Goals as goal
+
+pub returns : goal.returns
+returns c = search (head-put, rules)
