@@ -1,18 +1,14 @@
 -- Finish, in plain values: the laws of `close`, a turn of its loop, and its end. The turn and the invariant are those of every loop (Returns.antt, Loop.antt).
 use mathlib.Core.Path.{◌≡◌, refl, sym, ap, ◌∙◌, subst}
-use mathlib.Core.Logic.{⊎_elim}
 use mathlib.Core.List.{List, [], ◌∷◌}
 use Prim.Native.Nat.{ℕ, zero, suc, ◌+◌, ◌-◌, ◌≤◌, ◌<◌}
 use native.Mathlib.Omega.{arith}
 use lib.ListN.{length, take, drop, drop_of_length-le}
 use lib.Seq.{length-take-le}
-use types.Run.{OneOf}
-use denote.Enum.Declared.{tag_of}
 use Rattle.sizes.specs.Sizes.{most_noise}
 use Rattle.frame.specs.declared.Frame.{Frame}
 use Rattle.frame.specs.declared.Checked.{Checked}
 use Rattle.frame.specs.declared.Checked.TheVariants.{Accepted, Short, Refused}
-use Rattle.frame.specs.contracts.Checked.{the_type}
 use Rattle.frame.specs.Check.{checked}
 use Rattle.stream.specs.declared.Said.{Said}
 use Rattle.stream.specs.declared.Answer.{Answer}
@@ -34,9 +30,9 @@ use Rattle.stream.proofs.Loop.{Far, far-answered}
 abbrev finishing : List ℕ → ℕ → Outcome
 finishing live count = close_end (close live count)
 
--- what the code knows past `if let Checked::Accepted(frame)`: the variant is the second or the third
+-- what the code knows past `if let Checked::Accepted(frame)`
 abbrev pub Other : Checked → Type 0
-Other v = OneOf (1 ∷ 2 ∷ []) (tag_of the_type v)
+Other v = (f : Frame) → v ≡ Accepted f → ⊥
 
 -- ---- the laws of `close`
 
@@ -49,7 +45,7 @@ close-accept (x ∷ xs) f (suc k) e = rw (e, close)
 close_other : (s : List ℕ) (v : Checked) (k : ℕ) → checked s ≡ v → Other v → 0 < length s → close s k ≡ next (one_more_of k) (drop 1 s) (λ j. close (drop 1 s) j)
 unfolding close
 close_other [] v k e o l = absurd (omega arith)
-close_other (x ∷ xs) (Accepted f) k e o l = absurd (⊎_elim (λ z. omega arith) (λ z. omega arith) o)
+close_other (x ∷ xs) (Accepted f) k e o l = absurd (o f refl)
 close_other (x ∷ xs) (Short n) k e o l = rw (e, close)
 close_other (x ∷ xs) (Refused r) k e o l = rw (e, close)
 

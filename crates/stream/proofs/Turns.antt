@@ -11,7 +11,6 @@ use mir.Syntax.{w64}
 use Rattle.sizes.specs.Sizes.{longest_frame, most_noise}
 use Rattle.frame.specs.Laws.{short-wants}
 use Rattle.stream.specs.declared.Place.{Place}
-use Rattle.stream.specs.Scan.{noise}
 use Rattle.stream.specs.Tray.{feed, laid}
 use Rattle.stream.specs.Sound.{take-laid, drop-laid, length-laid, laid_same, laid-again}
 use Rattle.stream.specs.Walk.{shifted, Standing, plus, fed_from, Onward, live_at, Wanting, Ends, noised}

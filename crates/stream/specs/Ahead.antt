@@ -1,5 +1,5 @@
 -- What can be told of bytes before finish: `scan` that stops where the check is SHORT, with the bytes and the noise that are left. Serves proofs; proved.
-use Rattle.std.specs.Prelude.{◌≡◌, refl, List, [], ◌∷◌, ◌++◌, ℕ, zero, suc, pred, length, take, drop}
+use Rattle.std.specs.Prelude.{◌≡◌, refl, List, [], ◌∷◌, ◌++◌, ℕ, zero, suc, pred, take, drop}
 use Rattle.std.proofs.Common.{ap, arith}
 use Rattle.answer.specs.declared.Refusal.{Refusal}
 use Rattle.frame.specs.declared.Frame.{Frame}

@@ -12,7 +12,6 @@ use Rattle.frame.specs.declared.Checked.{Checked}
 use Rattle.frame.specs.declared.Checked.TheVariants.{Accepted, Short, Refused}
 use Rattle.frame.specs.Check.{checked}
 use Rattle.stream.specs.declared.Tray.{Tray}
-use Rattle.stream.specs.Scan.{noise}
 use Rattle.stream.specs.Tray.{zeros, is_frame, sound, Contents, contents, tray_of, laid}
 use Rattle.stream.specs.Driver.{Clear}
 

@@ -1,0 +1,9 @@
+-- A byte that is told to be noise is passed over, and what the call comes to stays the same (Skipping.antt).
+use Rattle.stream.specs.Walk.{Along, to_go}
+use Rattle.stream.proofs.skip.Given as goal
+
+abbrev pub invariant-loop-place : goal.invariant-loop-place
+invariant-loop-place l = Along l.initial.place l.input l.place
+
+abbrev pub decreases-loop-place : goal.decreases-loop-place
+decreases-loop-place l = to_go l.place l.input
