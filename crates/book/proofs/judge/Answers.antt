@@ -1,0 +1,22 @@
+use Rattle.book.proofs.Searching.{seek-anew, seek-past}
+use Rattle.book.proofs.Taking.{judge-start, judge-end, judge-refused, judge-turn, blocks-below, no_blocks}
+use borrow.Author.Rules.{rules}
+use Rattle.book.proofs.judge.Goals as goal
+
+pub loop-i-init : goal.loop-i-init
+loop-i-init c = search (judge-start, seek-anew, no_blocks, rules)
+
+pub known-requires-clause-count_in_bounds : goal.known-requires-clause-count_in_bounds
+known-requires-clause-count_in_bounds c = (search rules, search rules, search rules)
+
+pub known-requires-clause-n_le_most_blocks : goal.known-requires-clause-n_le_most_blocks
+known-requires-clause-n_le_most_blocks c = (search rules, search rules, search rules)
+
+pub loop-i-preserved : goal.loop-i-preserved
+loop-i-preserved c = (search (judge-turn, rules), search (seek-past, rules), search (blocks-below, rules), search rules)
+
+pub returns-in-Refused : goal.returns-in-Refused
+returns-in-Refused c = search (judge-refused, rules)
+
+pub returns : goal.returns
+returns c = search (judge-end, rules)
