@@ -21,8 +21,8 @@
  *
  * A call writes inside the slices that it may write to and nowhere else. A slice under its stated size is ROOM, unless the call says
  * otherwise; a longer one is fine, its surplus is neither read nor written. A refusal (an answer other than 0) changes nothing. On
- * success, elements behind what is written stay as lent. No call keeps a pointer, takes memory or reads anything but its arguments (the
- * language has no heap and keeps no pointer, and no crate below these calls the C library).
+ * success, elements behind what is written stay as lent. No call keeps a pointer, takes memory or reads anything but its arguments (no crate
+ * below these takes memory or calls the C library).
  *
  * That each call does what is said of it below is proved, for all arguments (specs/ of crates/export, crates/exportviews, crates/exportdesk,
  * crates/exportprepare and crates/exportentries).

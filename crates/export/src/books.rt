@@ -96,8 +96,7 @@ fn tell_taken(answer: Taken, book: &mut [u64]) -> u64
 }
 
 // A GAD payload taken into a book.
-#[unsafe(no_mangle)]
-pub extern "C" fn homralgyu_book_take(book: &mut [u64], bytes: &mut [u8], payload: &[u8]) -> u64
+pub fn homralgyu_book_take(book: &mut [u64], bytes: &mut [u8], payload: &[u8]) -> u64
     ensures value { result ≡ answered book_room book.old (told_taken (take_of book.old bytes.old payload.now)) }
     ensures book_after { book.new ≡ lent_after book_room book.old (told_taken (take_of book.old bytes.old payload.now)) }
     ensures bytes_after { bytes.new ≡ room_for book_room book.old bytes.old (take_leaves book.old bytes.old payload.now) }
@@ -131,8 +130,7 @@ fn read(kept: &[u8], bytes: &mut [u8]) -> ReadKept
 }
 
 // A kept book read.
-#[unsafe(no_mangle)]
-pub extern "C" fn homralgyu_kept_read(kept: &[u8], book: &mut [u64], bytes: &mut [u8]) -> u8
+pub fn homralgyu_kept_read(kept: &[u8], book: &mut [u64], bytes: &mut [u8]) -> u8
     ensures value { result ≡ answered book_room book.old (told_read (read_of kept.now bytes.old)) }
     ensures book_after { book.new ≡ lent_after book_room book.old (told_read (read_of kept.now bytes.old)) }
     ensures bytes_after { bytes.new ≡ room_for book_room book.old bytes.old (read_leaves kept.now bytes.old) }
@@ -168,13 +166,7 @@ fn write(book: &[u64], bytes: &[u8], out: &mut [u8]) -> Written
 }
 
 // A book written as a kept book.
-#[unsafe(no_mangle)]
-pub extern "C" fn homralgyu_kept_write(
-    book: &[u64],
-    bytes: &[u8],
-    out: &mut [u8],
-    written: &mut [u64],
-) -> u8
+pub fn homralgyu_kept_write(book: &[u64], bytes: &[u8], out: &mut [u8], written: &mut [u64]) -> u8
     ensures value { result ≡ room_for book_room book.now 9 (answered 1 written.old (told_kept (kept_of book.now bytes.now out.old))) }
     ensures out_after { out.new ≡ room_for book_room book.now out.old (room_for 1 written.old out.old (kept_leaves book.now bytes.now out.old)) }
     ensures written_after { written.new ≡ room_for book_room book.now written.old (lent_after 1 written.old (told_kept (kept_of book.now bytes.now out.old))) }

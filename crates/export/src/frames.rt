@@ -77,8 +77,7 @@ fn tell_checked(answer: Checked, header: &mut [u64]) -> u8
 }
 
 // The check of what lies first in the bytes.
-#[unsafe(no_mangle)]
-pub extern "C" fn homralgyu_frame_check(bytes: &[u8], header: &mut [u64]) -> u8
+pub fn homralgyu_frame_check(bytes: &[u8], header: &mut [u64]) -> u8
     ensures value { result ≡ answered header_room header.old (told_checked (checked bytes.now)) }
     ensures header_after { header.new ≡ lent_after header_room header.old (told_checked (checked bytes.now)) }
 {
@@ -104,8 +103,7 @@ fn tell_written(answer: Written, size: &mut [u64]) -> u8
 }
 
 // A plain frame written from TF002, TF005, TF007 to TF011 and its payload.
-#[unsafe(no_mangle)]
-pub extern "C" fn homralgyu_frame_write(
+pub fn homralgyu_frame_write(
     message_type: u8,
     check_type: u8,
     subtype: u8,

@@ -116,8 +116,7 @@ fn tell_value(answer: Value, what: &mut [u64], value: &mut [f64]) -> u8
 }
 
 // What a field's code means.
-#[unsafe(no_mangle)]
-pub extern "C" fn homralgyu_value(sf: u16, code: u64, what: &mut [u64], value: &mut [f64]) -> u8
+pub fn homralgyu_value(sf: u16, code: u64, what: &mut [u64], value: &mut [f64]) -> u8
     ensures value { result ≡ room_for unit_room what.old room (room_for value_room value.old room (told_value (value_of sf code)).number) }
     ensures what_after { what.new ≡ room_for unit_room what.old what.old (room_for value_room value.old what.old (laid (told_value (value_of sf code)).numbers what.old)) }
     ensures value_after { value.new ≡ room_for unit_room what.old value.old (room_for value_room value.old value.old (floats_of_value (value_of sf code) value.old)) }
@@ -155,13 +154,7 @@ fn tell_orbit(answer: OrbitAnswer, orbit: &mut [f64]) -> u8
 }
 
 // The three orbit corrections in metres.
-#[unsafe(no_mangle)]
-pub extern "C" fn homralgyu_orbit(
-    radial: u64,
-    along_track: u64,
-    cross_track: u64,
-    orbit: &mut [f64],
-) -> u8
+pub fn homralgyu_orbit(radial: u64, along_track: u64, cross_track: u64, orbit: &mut [f64]) -> u8
     ensures value { result ≡ room_for orbit_room orbit.old room (told_orbit (orbit_of radial along_track cross_track)) }
     ensures orbit_after { orbit.new ≡ room_for orbit_room orbit.old orbit.old (floats_of_orbit (orbit_of radial along_track cross_track) orbit.old) }
 {

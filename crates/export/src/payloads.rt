@@ -44,13 +44,7 @@ fn tell_written(answer: WriteAnswer, counts: &mut [u64]) -> u64
 }
 
 // A payload judged with no sheet to store it in.
-#[unsafe(no_mangle)]
-pub extern "C" fn homralgyu_payload_judge(
-    kind: u8,
-    subtype: u8,
-    payload: &[u8],
-    counts: &mut [u64],
-) -> u64
+pub fn homralgyu_payload_judge(kind: u8, subtype: u8, payload: &[u8], counts: &mut [u64]) -> u64
     ensures value { result ≡ answered counts_room counts.old (told_read (judged kind subtype payload.now)) }
     ensures counts_after { counts.new ≡ lent_after counts_room counts.old (told_read (judged kind subtype payload.now)) }
 {
@@ -61,8 +55,7 @@ pub extern "C" fn homralgyu_payload_judge(
 }
 
 // A payload read into a sheet.
-#[unsafe(no_mangle)]
-pub extern "C" fn homralgyu_payload_read(
+pub fn homralgyu_payload_read(
     kind: u8,
     subtype: u8,
     payload: &[u8],
@@ -80,13 +73,7 @@ pub extern "C" fn homralgyu_payload_read(
 }
 
 // A sheet judged with no bytes to write it in.
-#[unsafe(no_mangle)]
-pub extern "C" fn homralgyu_sheet_judge(
-    kind: u8,
-    subtype: u8,
-    sheet: &[u64],
-    counts: &mut [u64],
-) -> u64
+pub fn homralgyu_sheet_judge(kind: u8, subtype: u8, sheet: &[u64], counts: &mut [u64]) -> u64
     ensures value { result ≡ answered counts_room counts.old (told_written (judged_sheet kind subtype sheet.now)) }
     ensures counts_after { counts.new ≡ lent_after counts_room counts.old (told_written (judged_sheet kind subtype sheet.now)) }
 {
@@ -97,8 +84,7 @@ pub extern "C" fn homralgyu_sheet_judge(
 }
 
 // A sheet written as a payload.
-#[unsafe(no_mangle)]
-pub extern "C" fn homralgyu_sheet_write(
+pub fn homralgyu_sheet_write(
     kind: u8,
     subtype: u8,
     sheet: &[u64],

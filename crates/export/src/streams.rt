@@ -115,8 +115,7 @@ fn finish(bytes: &mut [u8], tray: &[u64]) -> Answer
 }
 
 // A portion of the stream; one event a call.
-#[unsafe(no_mangle)]
-pub extern "C" fn homralgyu_stream_call(
+pub fn homralgyu_stream_call(
     bytes: &mut [u8],
     tray: &mut [u64],
     input: &[u8],
@@ -143,8 +142,7 @@ pub extern "C" fn homralgyu_stream_call(
 }
 
 // The stream's end; called until done.
-#[unsafe(no_mangle)]
-pub extern "C" fn homralgyu_stream_finish(
+pub fn homralgyu_stream_finish(
     bytes: &mut [u8],
     tray: &mut [u64],
     told: &mut [u64],

@@ -30,13 +30,7 @@ fn tell_new(answer: NewDesk, desk: &mut [u64]) -> u8
 }
 
 // A desk without a book and without a run.
-#[unsafe(no_mangle)]
-pub extern "C" fn homralgyu_desk_new(
-    solution: u8,
-    processor: u8,
-    constellation: u8,
-    desk: &mut [u64],
-) -> u8
+pub fn homralgyu_desk_new(solution: u8, processor: u8, constellation: u8, desk: &mut [u64]) -> u8
     ensures value { result ≡ answered desk_room desk.old (told_new (new_desk solution processor constellation)) }
     ensures desk_after { desk.new ≡ lent_after desk_room desk.old (told_new (new_desk solution processor constellation)) }
 {
@@ -47,8 +41,7 @@ pub extern "C" fn homralgyu_desk_new(
 }
 
 // Whether a desk and its two books are sound.
-#[unsafe(no_mangle)]
-pub extern "C" fn homralgyu_desk_is_sound(desk: &[u64], live: &[u8], run: &[u8]) -> u8
+pub fn homralgyu_desk_is_sound(desk: &[u64], live: &[u8], run: &[u8]) -> u8
     ensures { result ≡ sound_of desk.now live.now run.now }
 {
     if desk.len() < DESK {
@@ -134,8 +127,7 @@ fn take(
 }
 
 // A frame taken, with the second it came in.
-#[unsafe(no_mangle)]
-pub extern "C" fn homralgyu_desk_take(
+pub fn homralgyu_desk_take(
     frame: &[u8],
     second: u64,
     desk: &mut [u64],
@@ -174,8 +166,7 @@ fn take_book(desk: &[u64], live: &mut [u8], run: &[u8], book: &[u64], bytes: &[u
 }
 
 // A book that was read from its kept form taken as the live book.
-#[unsafe(no_mangle)]
-pub extern "C" fn homralgyu_desk_take_book(
+pub fn homralgyu_desk_take_book(
     desk: &mut [u64],
     live: &mut [u8],
     run: &[u8],

@@ -56,8 +56,7 @@ fn put_found(size: usize, found: &mut [u64])
 }
 
 // The six bytes of the area with this ID, out of the run's book if a run is open, else out of the live book.
-#[unsafe(no_mangle)]
-pub extern "C" fn homralgyu_desk_find<'a>(
+pub fn homralgyu_desk_find<'a>(
     desk: &[u64],
     live: &'a [u8],
     run: &'a [u8],
@@ -81,8 +80,7 @@ pub extern "C" fn homralgyu_desk_find<'a>(
 }
 
 // The same in one book.
-#[unsafe(no_mangle)]
-pub extern "C" fn homralgyu_book_find(
+pub fn homralgyu_book_find(
     book: &[u64],
     bytes: &[u8],
     id: u8,

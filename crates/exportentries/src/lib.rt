@@ -119,8 +119,7 @@ fn tell_entry(answer: EntryRead, entry: &mut [u64]) -> u8
 }
 
 // The entry that the bytes begin with.
-#[unsafe(no_mangle)]
-pub extern "C" fn homralgyu_entry_read(bytes: &[u8], entry: &mut [u64]) -> u8
+pub fn homralgyu_entry_read(bytes: &[u8], entry: &mut [u64]) -> u8
     ensures value { result ≡ answered entry_room entry.old (told_entry (read_answer (read_entry bytes.now))) }
     ensures after { entry.new ≡ lent_after entry_room entry.old (told_entry (read_answer (read_entry bytes.now))) }
 {
@@ -181,8 +180,7 @@ fn tell_residual(answer: ResidualRead, what: &mut [u64], value: &mut [f64]) -> u
 }
 
 // The troposphere residual at a node.
-#[unsafe(no_mangle)]
-pub extern "C" fn homralgyu_entry_troposphere(
+pub fn homralgyu_entry_troposphere(
     bytes: &[u8],
     node: u64,
     what: &mut [u64],
@@ -216,8 +214,7 @@ fn tell_satellite(answer: SatelliteRead, satellite: &mut [u64]) -> u8
 }
 
 // Satellite k, from 0 on.
-#[unsafe(no_mangle)]
-pub extern "C" fn homralgyu_entry_satellite(bytes: &[u8], k: u64, satellite: &mut [u64]) -> u8
+pub fn homralgyu_entry_satellite(bytes: &[u8], k: u64, satellite: &mut [u64]) -> u8
     ensures value { result ≡ answered satellite_room satellite.old (told_satellite (satellite_answer (read_entry bytes.now) k)) }
     ensures satellite_after { satellite.new ≡ lent_after satellite_room satellite.old (told_satellite (satellite_answer (read_entry bytes.now) k)) }
 {
@@ -228,8 +225,7 @@ pub extern "C" fn homralgyu_entry_satellite(bytes: &[u8], k: u64, satellite: &mu
 }
 
 // The residual of satellite k at a node.
-#[unsafe(no_mangle)]
-pub extern "C" fn homralgyu_entry_residual(
+pub fn homralgyu_entry_residual(
     bytes: &[u8],
     k: u64,
     node: u64,

@@ -167,8 +167,7 @@ fn finish(
 }
 
 // A portion of the stream; one event a call. A frame that is told goes to the desk with this second.
-#[unsafe(no_mangle)]
-pub extern "C" fn homralgyu_prepare_call(
+pub fn homralgyu_prepare_call(
     bytes: &mut [u8],
     tray: &mut [u64],
     desk: &mut [u64],
@@ -191,8 +190,7 @@ pub extern "C" fn homralgyu_prepare_call(
 }
 
 // The stream's end; called until done. A frame that is told goes to the desk with this second.
-#[unsafe(no_mangle)]
-pub extern "C" fn homralgyu_prepare_finish(
+pub fn homralgyu_prepare_finish(
     bytes: &mut [u8],
     tray: &mut [u64],
     desk: &mut [u64],

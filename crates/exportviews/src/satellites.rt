@@ -222,8 +222,7 @@ fn tell_satellite(answer: SatelliteAnswer, view: &mut [u64], floats: &mut [f64])
 }
 
 // The satellite at a place of the mask's order in an OCB sheet of a subtype.
-#[unsafe(no_mangle)]
-pub extern "C" fn homralgyu_satellite_at(
+pub fn homralgyu_satellite_at(
     subtype: u8,
     sheet: &[u64],
     place: u64,

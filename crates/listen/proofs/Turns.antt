@@ -21,7 +21,7 @@ use Rattle.stream.specs.Scan.{Event, frame, noise, scan_from}
 use Rattle.stream.specs.Tray.{fresh_tray, said_of, called, finished, call_answer, call_bytes, finish_answer, finish_bytes}
 use Rattle.stream.specs.Machine.{on_list, scan-reading}
 use Rattle.stream.specs.Steps.{call-fed, call-says, end-ended, end-says}
-use Rattle.stream.specs.Driver.{Ready, Tells, waits, Feeds, Closes}
+use Rattle.stream.specs.Driver.{Ready, Tells, Feeds, Closes}
 use Rattle.stream.specs.Driving.{left, call-event, finish-event}
 use Rattle.stream.specs.Theorems.{call-sound, finish-sound, call-used}
 use Rattle.listen.specs.declared.Turn.{Turn}

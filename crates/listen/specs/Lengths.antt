@@ -1,5 +1,5 @@
 -- Serves proofs, and is proved: a line has at most 80 bytes.
-use Rattle.std.specs.Prelude.{◌≡◌, refl, ℕ, ◌≤◌, ◌<◌, ◌^◌, length, drop}
+use Rattle.std.specs.Prelude.{◌≡◌, ℕ, ◌≤◌, ◌<◌, ◌^◌, length, drop}
 use Rattle.std.proofs.Common.{sym, ap, ◌∙◌, arith, length-append}
 use mathlib.Core.List.{List, [], ◌∷◌, ◌++◌, append_assoc, flatten}
 use Rattle.bits.specs.Laws.{field_lt}
@@ -7,9 +7,7 @@ use Rattle.frame.specs.declared.Frame.{Frame}
 use Rattle.frame.specs.declared.Checked.TheVariants.{Accepted}
 use Rattle.frame.specs.Check.{checked, frame_of}
 use Rattle.frame.specs.Laws.{accepted, accepted-length}
-use Rattle.sizes.specs.Sizes.{longest_frame, most_noise}
 use Rattle.stream.specs.Scan.{Event, frame, noise, scan}
-use Rattle.stream.specs.Tray.{said_of}
 use Rattle.stream.specs.Account.{size_of_all}
 use Rattle.stream.specs.Theorems.{frame-lies, noise-lies}
 use Rattle.text.specs.Text.{decimal, Short}

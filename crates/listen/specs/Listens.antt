@@ -1,10 +1,10 @@
 -- Definitions to believe: what the program tells. Lines are said as `text::say` says them: they wait in the output's buffer, and go out when it is full and before the next read.
-use Rattle.std.specs.Prelude.{◌≡◌, Bool, false, ◌&&◌, ◌⊎◌, List, [], ◌∷◌, ◌++◌, ℕ, zero, suc, ◌+◌, ◌-◌, ◌^◌, ltb, length}
+use Rattle.std.specs.Prelude.{◌≡◌, false, ◌&&◌, ◌⊎◌, List, [], ◌∷◌, ◌++◌, ℕ, zero, suc, ◌+◌, ◌-◌, ◌^◌, ltb, length}
 use Rattle.text.specs.Text.{waiting, say_all}
 use Rattle.stream.specs.declared.Tray.{Tray}
 use Rattle.stream.specs.Scan.{Event}
 use Rattle.stream.specs.Tray.{fresh_tray}
-use Rattle.stream.specs.Driver.{Ready, waits, Feeds, Closes}
+use Rattle.stream.specs.Driver.{waits, Feeds, Closes}
 use Rattle.listen.specs.declared.Turn.{Turn}
 use Rattle.listen.specs.declared.Stop.{Stop}
 use Rattle.listen.specs.Lines.{lines_of, end_line}

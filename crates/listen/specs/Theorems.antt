@@ -21,10 +21,14 @@ unfoldable pub events_of : {b b₁ o o₁ : List ℕ} {t t₁ : Tray} {ps : List
 events_of Reads.no_more = []
 events_of (Reads.a-portion at told rest) = told.events ++ events_of rest
 
+nothing-then : {b b₁ b₂ : List ℕ} {t t₁ t₂ : Tray} {ps : List (List ℕ)} {es fs : List Event} → Feeds waits b t [] es b₁ t₁ → Feeds waits b₁ t₁ ps fs b₂ t₂
+    → Feeds waits b t ps (es ++ fs) b₂ t₂
+nothing-then Feeds.no_more g = g
+
 portion-then : {b b₁ b₂ : List ℕ} {t t₁ t₂ : Tray} {p : List ℕ} {ps : List (List ℕ)} {es fs : List Event} → Feeds waits b t (p ∷ []) es b₁ t₁ → Feeds waits b₁ t₁ ps fs b₂ t₂
     → Feeds waits b t (p ∷ ps) (es ++ fs) b₂ t₂
 portion-then (Feeds.an-event k f) g = Feeds.an-event k (portion-then f g)
-portion-then (Feeds.all-used k Feeds.no_more) g = Feeds.all-used k g
+portion-then (Feeds.all-used k f) g = Feeds.all-used k (nothing-then f g)
 portion-then (Feeds.passed_over z f) g = absurd z
 
 portions-feed : {b b₁ o o₁ : List ℕ} {t t₁ : Tray} {ps : List (List ℕ)} (r : Reads b t o ps b₁ t₁ o₁) → Feeds waits b t ps (events_of r) b₁ t₁

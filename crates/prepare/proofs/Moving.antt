@@ -194,6 +194,11 @@ tested-sound bytes d live run log x p e = passed-sound bytes d live run log (sym
 pub tested-room : (bytes : List ℕ) (d : Desk) (live run log : List ℕ) (x : Tested) → x ≡ test.Passed → x ≡ tested_of bytes (books_in d live run) log → desk.lacks_room live run log ≡ false
 tested-room bytes d live run log x p e = passed-room bytes d live run log (sym e ∙ p)
 
+-- what is tested has failed, or it has passed
+pub only-passed : (x : Tested) → ((why : Refusal) → x ≡ test.Failed why → ⊥) → x ≡ test.Passed
+only-passed test.Passed n = refl
+only-passed (test.Failed why) n = absurd (n why refl)
+
 -- ---- the answer and every lent byte, of a step that ROOM and STATE guard
 
 module _ (bytes : List ℕ) (tray : Tray) (d : Desk) (live run log : List ℕ) (second : ℕ) (o : stream.Outcome) where

@@ -1,0 +1,14 @@
+-- A case for each answer.
+use Rattle.exportdesk.specs.Desks.{told_new}
+use Rattle.export.proofs.Laws.{number_in, numbers-in, laid_none}
+use Rattle.exportdesk.specs.Stored.{desk-there}
+use borrow.Author.Rules.{rules}
+use Rattle.exportdesk.proofs.desks.tell_new.Goals as goal
+
+pub returns-in-Made : goal.returns-in-Made
+unfolding told_new
+returns-in-Made c = search (number_in told_new, numbers-in told_new, desk-there, rules)
+
+pub returns-in-Refused : goal.returns-in-Refused
+unfolding told_new
+returns-in-Refused c = search (number_in told_new, numbers-in told_new, laid_none, rules)

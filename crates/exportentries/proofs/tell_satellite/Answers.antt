@@ -1,0 +1,13 @@
+-- A case for each answer.
+use Rattle.exportentries.specs.Entries.{told_satellite}
+use Rattle.export.proofs.Laws.{number_in, numbers-in, laid_none}
+use borrow.Author.Rules.{rules}
+use Rattle.exportentries.proofs.tell_satellite.Goals as goal
+
+pub returns-in-Is : goal.returns-in-Is
+unfolding told_satellite
+returns-in-Is c = search (number_in told_satellite, numbers-in told_satellite, rules)
+
+pub returns-in-Refused : goal.returns-in-Refused
+unfolding told_satellite
+returns-in-Refused c = search (number_in told_satellite, numbers-in told_satellite, laid_none, rules)
