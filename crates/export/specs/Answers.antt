@@ -1,6 +1,6 @@
 -- Theorems (document 02, request 2): a refusal's answer says document 01's number and is never 0; field's number and place too, each by bits of its own, wherever they have room, as they do
 -- for every payload and for every sheet under 2^32 entries. Proved.
-use Rattle.std.specs.Prelude.{◌≡◌, refl, Bool, true, false, cond, List, ℕ, ◌+◌, ◌-◌, ◌*◌, ◌/◌, ◌%◌, ◌^◌, ◌≤◌, ◌<◌, ltb, length}
+use Rattle.std.specs.Prelude.{◌≡◌, refl, Bool, true, false, cond, List, ℕ, ◌+◌, ◌*◌, ◌/◌, ◌%◌, ◌^◌, ◌≤◌, ◌<◌, ltb, length}
 use Rattle.std.proofs.Common.{ap, ap₂, ◌∙◌, arith, ltb-false}
 use Rattle.answer.specs.Number.{number_of}
 use Rattle.answer.specs.Place.{sf_in, at_in}

@@ -1,7 +1,6 @@
 -- Definitions to believe: a tray as three numbers, and the answers of `stream` in numbers.
 use Rattle.std.specs.Prelude.{List, [], ◌∷◌, ℕ, get_or}
 use Rattle.sizes.specs.Sizes.{most_noise}
-use Rattle.frame.specs.declared.Frame.{Frame}
 use Rattle.stream.specs.declared.Tray.{Tray}
 use Rattle.stream.specs.declared.Said.{Said}
 use Rattle.stream.specs.declared.Answer.{Answer}

@@ -1,17 +1,15 @@
 -- Laws: the bytes that are found, at most six, worded as the code makes them.
 use mathlib.Core.Path.{◌≡◌, ap, ◌∙◌}
 use mathlib.Core.Bool.{Bool, true, false, cond}
-use mathlib.Core.List.{List, [], ◌∷◌, ◌++◌}
+use mathlib.Core.List.{List, [], ◌∷◌}
 use Prim.Native.Nat.{ℕ, zero, suc, ◌*◌, ◌≤◌, ◌<◌}
 use native.Mathlib.Omega.{arith}
 use lib.ListN.{length, take, drop}
-use lib.Seq.{take_all}
 use Rattle.area.specs.declared.AreaId.{AreaId}
 use Rattle.book.specs.Book.{is_held, place_of, found}
 use Rattle.book.specs.declared.Book.{Book}
 use Rattle.desk.specs.Lookup.{Spot, in_live, in_run, nowhere, spot_of, bytes_at}
 use Rattle.desk.specs.declared.Desk.{Desk}
-use Rattle.export.specs.Numbers.{laid}
 use Rattle.export.specs.Books.{book_room, book_in}
 use Rattle.export.proofs.Laws.{short-is, enough-is}
 use Rattle.exportdesk.specs.States.{desk_room, desk_in}

@@ -10,7 +10,6 @@ use Rattle.desk.specs.Desk.{desk_sound}
 use Rattle.desk.specs.Take.{hands, results, frame_taken, hands_book, results_book, book_taken}
 use Rattle.desk.specs.declared.Desk.{Desk}
 use Rattle.desk.specs.declared.Said.{Said}
-use Rattle.desk.specs.declared.Said.TheVariants as said
 use Rattle.desk.specs.declared.Taken.{Taken}
 use Rattle.export.specs.Numbers.{laid}
 use Rattle.export.specs.Books.{book_in}
