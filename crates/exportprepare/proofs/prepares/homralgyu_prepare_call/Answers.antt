@@ -16,9 +16,7 @@ pub call-answer-requires : goal.call-answer-requires
 call-answer-requires c = search (states-there, rules)
 
 pub tell-requires : goal.tell-requires
-tell-requires c =
-    let left : tie.Else1 = search in
-    all_there _ _ _ _ _ left.before.lacks-room.ensures left.if1.left
+tell-requires c = all_there _ _ _ _ _ c.lacks_room.ensures c.if-lacks_room.false
 
 pub returns-clause-value : goal.returns-clause-value
 unfolding call_number call_leaves call_result
