@@ -1,9 +1,9 @@
 -- Computed and proved: a worked message.
-use Rattle.std.specs.Prelude.{◌≡◌, refl, List, [], ◌∷◌}
+use Rattle.std.specs.Prelude.{◌≡◌, refl, [], ◌∷◌}
 use Rattle.std.specs.Int.Count.{ones, ones_in}
 use Rattle.bits.specs.Bits.{bits_of, to_bits, number}
 use Rattle.fields.specs.Fields.{table, find, line_of, sf}
-use Rattle.layout.specs.Layout.{done, judge, Outcome, accepted, read_l}
+use Rattle.layout.specs.Layout.{done, judge, accepted, read_l}
 use Rattle.bpac.specs.Bpac.{bpac}
 
 -- an area of 9 by 8 nodes: a node mask of 64 and 8 bits, and two VTEC blocks

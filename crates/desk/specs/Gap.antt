@@ -1,7 +1,7 @@
 -- Theorems of document 02, request 1, "Old grid after a radio gap": what a gap changes, and that without one all is as document 01 lays down. Proved; assumes nothing.
 use Rattle.std.specs.Prelude.{◌≡◌, Bool, true, false, cond, not, List, [], ◌∷◌, ◌++◌, ℕ, ◌+◌, ◌-◌, ◌≤◌, leb, ltb}
 use Rattle.std.proofs.Math.Path.{refl, ap, ap₂, sym}
-use Rattle.std.proofs.Common.{◌∙◌, subst, true≢false, arith, ltb-false, le-ltb, ne_eqb, le-leb}
+use Rattle.std.proofs.Common.{◌∙◌, subst, arith, ltb-false, le-ltb, le-leb}
 use Rattle.std.proofs.Math.ListN.{length}
 use Rattle.std.proofs.lemmas.Bool.{lt-leb}
 use Rattle.sizes.specs.Sizes.{book_bytes}
@@ -27,7 +27,7 @@ use Rattle.desk.specs.Desk.{desk_with, desk_sound}
 use Rattle.desk.specs.Take.{Handed, hands, Verdict, refused, defines, continues, opens, by_book, by_payload, ours, is_sealed, by_header, by_frame, outage, counted, is_gap, handling, lacks_room, verdict, taken_by, live_by, run_bytes_by, logged_by, log_by, said_by, desk_by, dated, accepting, leaving, leaving_by, Result, results, result_by, settled_by, frame_taken, settled_as, settled, with_second, BookHanded, book_taken}
 use Rattle.desk.specs.Fits.{empty-sound, handling-sound, has_room}
 use Rattle.desk.specs.Continues.{past, on-frame}
-use Rattle.desk.specs.History.{Held, Given, frame_with, kept_book, verdict_on, handled, after, Course, onward, along}
+use Rattle.desk.specs.History.{Held, Given, frame_with, kept_book, verdict_on, after, Course, onward, along}
 use Rattle.desk.specs.declared.Desk.{Desk}
 use Rattle.desk.specs.declared.Last.{Last}
 use Rattle.desk.specs.declared.Last.TheVariants.{Never, At}

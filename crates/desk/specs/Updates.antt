@@ -15,7 +15,7 @@ use Rattle.answer.specs.declared.Refusal.TheVariants as refusal
 use Rattle.area.specs.Laws.{both_right}
 use Rattle.bits.specs.Bits.{to_bits}
 use Rattle.codes.specs.Tables.{row_of}
-use Rattle.entries.specs.Entry.{Entry, joined, bytes_of}
+use Rattle.entries.specs.Entry.{joined, bytes_of}
 use Rattle.frame.specs.Check.{checked, payload_in}
 use Rattle.frame.specs.declared.Frame.{Frame}
 use Rattle.frame.specs.declared.Checked.{Checked}
@@ -33,7 +33,7 @@ use Rattle.book.specs.Payload.{gad-only}
 use Rattle.book.specs.declared.Book.{Book}
 use Rattle.entrylog.specs.Updates.{PlacedIf, NonePlaced, none-placed, placed-if}
 use Rattle.desk.specs.Desk.{desk_sound}
-use Rattle.desk.specs.Take.{Verdict, refused, defines, continues, opens, by_run, bad_tag, tag_of, by_book, by_message, by_payload, our_type, ours, is_sealed, by_header, by_frame, is_gap, handling, lacks_room, verdict, copied, leaving, book_by, hands, hands_book, no_book_room, book_verdict}
+use Rattle.desk.specs.Take.{Verdict, refused, defines, continues, opens, by_run, bad_tag, tag_of, by_book, by_message, by_payload, our_type, ours, is_sealed, by_header, by_frame, is_gap, handling, lacks_room, verdict, copied, leaving, book_by, no_book_room, book_verdict}
 use Rattle.desk.specs.Carrying.{carried}
 use Rattle.desk.specs.Payloads.{our-type, our-subtype, our-row, judging-hpac}
 use Rattle.desk.specs.History.{Held, Given, frame_with, kept_book, verdict_on, handled, after, Snapshot, opening_by, Course, onward, along, is_opening, KeptOn}

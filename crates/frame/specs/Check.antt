@@ -1,5 +1,5 @@
 -- Definitions to believe: document 01, "The frame", second and third paragraph. When a frame is accepted, and what is handed back.
-use Rattle.std.specs.Prelude.{List, [], Bool, true, false, cond, not, ◌&&◌, ℕ, ◌+◌, ◌-◌, ◌*◌, leb, ltb, eqb, length, get_or, take, drop}
+use Rattle.std.specs.Prelude.{List, [], Bool, cond, not, ◌&&◌, ℕ, ◌+◌, ◌-◌, ◌*◌, leb, ltb, eqb, length, get_or, take, drop}
 use Rattle.answer.specs.Stop.{stop}
 use Rattle.answer.specs.Number.{number_of}
 use Rattle.answer.specs.declared.Refusal.TheVariants.{Preamble, FrameCrc, Length, MessageCrc}

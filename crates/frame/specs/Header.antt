@@ -1,5 +1,5 @@
 -- The start and the description of a plain frame as one code each, as the writer puts them. These serve proofs and are proved.
-use Rattle.std.specs.Prelude.{◌≡◌, refl, List, ◌++◌, Bool, true, false, ◌&&◌, ℕ, ◌+◌, ◌-◌, ◌*◌, ◌^◌, ◌<◌}
+use Rattle.std.specs.Prelude.{◌≡◌, refl, List, ◌++◌, Bool, true, false, ◌&&◌, ℕ, ◌+◌, ◌*◌, ◌^◌, ◌<◌}
 use Rattle.std.proofs.Common.{sym, ap, ap₂, ◌∙◌, append_assoc, true≢false, arith, ltb-true, lt-ltb}
 use Rattle.bits.specs.Bits.{bits_of}
 use Rattle.frame.specs.Fields.{tag_bits}

@@ -1,5 +1,5 @@
 -- Laws of bits as bytes, and of the bytes that a put leaves. They serve proofs and are proved.
-use Rattle.std.specs.Prelude.{◌≡◌, refl, List, [], ◌∷◌, ◌++◌, ℕ, zero, suc, ◌+◌, ◌-◌, ◌*◌, ◌/◌, ◌%◌, ◌^◌, ◌≤◌, ◌<◌, length, take, drop}
+use Rattle.std.specs.Prelude.{◌≡◌, refl, List, [], ◌∷◌, ◌++◌, ℕ, zero, suc, ◌+◌, ◌*◌, ◌/◌, ◌%◌, ◌^◌, ◌≤◌, ◌<◌, length, take, drop}
 use Rattle.std.proofs.Common.{sym, ap, ap₂, ◌∙◌, append_assoc, lt_of_lt_of_le, arith, length-take, length-drop, take-append-drop, length-take-le, take_at, drop_at, drop-drop, pow_mono}
 use Rattle.std.proofs.Math.Pow.{high}
 use Rattle.bits.specs.Bits.{bits_of, to_bits, number, Bits, none, more, Bytes, put_to}

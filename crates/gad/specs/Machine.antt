@@ -1,13 +1,11 @@
 -- Mirror: the machine of lib.rt. It serves proofs, and it is proved that it walks the layout.
 use Rattle.std.specs.Prelude.{◌≡◌, ℕ, zero, suc, ◌-◌}
 use Rattle.std.proofs.Math.Path.{refl}
-use Rattle.std.proofs.Common.{ap, sym, ◌∙◌}
 use Rattle.layout.specs.declared.Field.{Field}
 use Rattle.layout.specs.Parts.{up_to}
 use Rattle.layout.specs.Walks.{goes, fine, Leads, leads-times}
 use Rattle.layout.specs.Tests.{one_less}
 use Rattle.fields.specs.Fields.{table, find, line_of, sf}
-use Rattle.gad.specs.declared.Head.{Head}
 use Rattle.gad.specs.declared.State.{State}
 use Rattle.gad.specs.declared.State.TheVariants.{Siou, Aiou, Reserved, Count, Id, Latitude, Longitude, Rows, Columns, LatitudeSpacing, LongitudeSpacing, Done}
 use Rattle.gad.specs.Gad.{block, gad}

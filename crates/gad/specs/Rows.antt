@@ -1,11 +1,9 @@
 -- Mirror: the rows of row.rt, and that the machine goes along them: all blocks of a GAD are one row.
-use Rattle.std.specs.Prelude.{◌≡◌, refl, List, [], ◌∷◌, ℕ, zero, suc}
-use Rattle.std.proofs.Common.{ap, sym, ◌∙◌}
+use Rattle.std.specs.Prelude.{◌≡◌, refl, [], ◌∷◌, ℕ, zero, suc}
 use Rattle.rows.specs.declared.Row.{Row}
 use Rattle.rows.specs.Rows.{field_in, word_of, cells, cells_in, again, cells_of, no_row}
 use Rattle.fields.specs.Fields.{table, find, line_of, sf}
 use Rattle.rows.specs.Along.{is, Along, stays, passes}
-use Rattle.gad.specs.declared.Head.{Head}
 use Rattle.gad.specs.declared.State.{State}
 use Rattle.gad.specs.declared.State.TheVariants.{Siou, Aiou, Reserved, Count, Id, Latitude, Longitude, Rows, Columns, LatitudeSpacing, LongitudeSpacing, Done}
 use Rattle.gad.specs.Machine.{gad_field, gad_step}

@@ -1,5 +1,5 @@
 -- Definitions to believe: high precision atmosphere messages, 1-0 to 1-4 (document 000, tables 6.13 to 6.22).
-use Rattle.std.specs.Prelude.{List, ℕ, zero, suc, eqb, leb}
+use Rattle.std.specs.Prelude.{List, ℕ, suc, eqb, leb}
 use Rattle.layout.specs.declared.Field.{Field}
 use Rattle.layout.specs.Layout.{Layout, field, pick}
 use Rattle.layout.specs.Parts.{Part, optional, times, each}

@@ -17,7 +17,7 @@ use Rattle.hpac.specs.declared.State.TheVariants.{Siou, Aiou, Reserved, Count, I
 use Rattle.codes.specs.Tables.{mask_sf, mask_size}
 use Rattle.codes.specs.Sizes.{fine-mask-size, fine-mask}
 use Rattle.codes.specs.Fields.{mask_field, satellites_of}
-use Rattle.hpac.specs.Hpac.{slopes, polynomial, grid, troposphere_constant, troposphere_linear, troposphere_product, troposphere_residual, troposphere, ionosphere_constant, ionosphere_linear, ionosphere_product, ionosphere_residual, slant, ionosphere, area, hpac}
+use Rattle.hpac.specs.Hpac.{polynomial, troposphere_constant, troposphere_linear, troposphere_product, troposphere_residual, troposphere, ionosphere_constant, ionosphere_linear, ionosphere_product, ionosphere_residual, slant, ionosphere, area, hpac}
 
 -- ---- the field at hand
 

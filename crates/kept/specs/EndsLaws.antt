@@ -1,5 +1,5 @@
 -- Laws: the numbers of a kept book say form, book and areas; numbers that begin those of a sound book; bytes that read, and that are LEFTOVER. Proved; assumes nothing.
-use Rattle.std.specs.Prelude.{◌≡◌, Bool, ◌||◌, ℕ, zero, suc, ◌+◌, ◌*◌, ◌≤◌, leb, eqb, length, drop, replicate}
+use Rattle.std.specs.Prelude.{◌≡◌, Bool, ◌||◌, ℕ, zero, suc, ◌*◌, ◌≤◌, leb, eqb, length, drop, replicate}
 use Rattle.std.proofs.Math.Path.{refl}
 use Rattle.std.proofs.Common.{ap, ap₂, sym, ◌∙◌, arith, le-leb, ne_eqb}
 use Rattle.std.proofs.Math.Bool.{true, false, cond}

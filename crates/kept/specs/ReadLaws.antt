@@ -1,5 +1,5 @@
 -- Laws: what it is that a kept book was read. Proved; assumes nothing.
-use Rattle.std.specs.Prelude.{◌≡◌, ◌&&◌, List, ◌++◌, ℕ, ◌+◌, ◌*◌, ◌≤◌, length, drop}
+use Rattle.std.specs.Prelude.{◌≡◌, ◌&&◌, List, ◌++◌, ℕ, ◌*◌, ◌≤◌, length, drop}
 use Rattle.std.proofs.Math.Path.{ap, ap₂}
 use Rattle.std.proofs.Common.{sym, ◌∙◌, arith, length-append, length-drop}
 use Rattle.std.proofs.Math.Bool.{true}

@@ -1,6 +1,6 @@
 -- The two round trips of the kept book, over the form's number: what a form says of a book reads back as that book (`written-reads`), and bytes that read are what the form whose number
 -- they begin with says of the book (`read-writes`). Proved; assumes nothing.
-use Rattle.std.specs.Prelude.{◌≡◌, Bool, true, false, not, ◌||◌, List, [], ◌∷◌, ◌++◌, ℕ, zero, suc, ◌+◌, ◌^◌, ◌≤◌, ◌<◌, leb, ltb, length, drop}
+use Rattle.std.specs.Prelude.{◌≡◌, Bool, true, false, not, ◌||◌, List, [], ◌∷◌, ◌++◌, ℕ, zero, suc, ◌^◌, ◌≤◌, ◌<◌, leb, ltb, length, drop}
 use Rattle.std.proofs.Math.Path.{refl, ap}
 use Rattle.std.proofs.Common.{ap₂, sym, ◌∙◌, subst, append_assoc, append-nil, arith, leb-true, le-ltb, lt-ltb, ltb-true, ltb-false, eqb-true}
 use Rattle.std.proofs.Math.Bool.{cond}

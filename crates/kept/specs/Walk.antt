@@ -1,7 +1,7 @@
 -- Serves proofs, and is proved: what the functions that read answer, by places in the bytes. Assumes nothing.
 use Rattle.std.proofs.Math.Path.{◌≡◌, ap, ap₂}
 use Rattle.std.proofs.Common.{sym, ◌∙◌, arith, drop-drop}
-use Rattle.std.specs.Prelude.{List, [], ◌∷◌, ◌++◌, ℕ, ◌+◌, ◌-◌, ◌*◌, ◌≤◌, length, Bool, true, false}
+use Rattle.std.specs.Prelude.{List, [], ◌∷◌, ◌++◌, ℕ, ◌+◌, ◌*◌, ◌≤◌, length, Bool, true, false}
 use Rattle.std.proofs.Math.ListN.{drop}
 use Rattle.answer.specs.Stop.{stop}
 use Rattle.answer.specs.declared.Refusal.{Refusal}

@@ -1,6 +1,6 @@
 -- Definitions to believe: a message layout as a tree of fields; reading bits and writing codes by it, most significant bit first.
 -- Nothing here knows a format: a field carries its number in its document, its width and the codes it takes.
-use Rattle.std.specs.Prelude.{Bool, true, false, List, [], ◌∷◌, ◌++◌, ℕ, ◌+◌, ◌-◌, ◌^◌, eqb, ltb, leb, length, take, drop}
+use Rattle.std.specs.Prelude.{Bool, true, false, List, [], ◌∷◌, ◌++◌, ℕ, ◌+◌, ◌^◌, eqb, ltb, leb, length, take, drop}
 use Rattle.bits.specs.Bits.{bits_of, number}
 use Rattle.answer.specs.declared.Refusal.TheVariants as refusal
 use Rattle.answer.specs.declared.Fault as answer

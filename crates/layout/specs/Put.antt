@@ -1,11 +1,11 @@
 -- Serves proofs, and is proved: writing by a layout as a loop over a machine does it, with a position, a place in the sheet and the bits handed on.
 -- What it comes to is what `write_l` says.
-use Rattle.std.specs.Prelude.{◌≡◌, refl, Bool, false, List, [], ◌∷◌, ◌++◌, ℕ, zero, suc, ◌+◌, ◌^◌, ◌≤◌, ◌<◌, length, set, get_or}
+use Rattle.std.specs.Prelude.{◌≡◌, refl, Bool, false, List, [], ◌∷◌, ◌++◌, ℕ, suc, ◌+◌, ◌^◌, ◌<◌, length, set, get_or}
 use Rattle.std.proofs.Math.Path.{ap}
-use Rattle.std.proofs.Common.{ap₂, sym, ◌∙◌, add-zero, arith, length-append, drop-cons}
+use Rattle.std.proofs.Common.{sym, ◌∙◌, add-zero, arith, length-append, drop-cons}
 use Rattle.std.proofs.Math.Bool.{true}
 use Rattle.std.proofs.Math.Numerals.{add-one}
-use borrow.Author.Tests.{lt-ltb, ltb-true, ltb-false}
+use borrow.Author.Tests.{lt-ltb}
 use Rattle.std.proofs.Math.Dec.{ltb}
 use Rattle.std.proofs.Math.ListN.{drop}
 use Rattle.std.proofs.lemmas.List.Edits.{sets}

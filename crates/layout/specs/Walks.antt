@@ -1,6 +1,6 @@
 -- Serves proofs, and is proved: what it is for a machine, a state with its field and its next state by a code, to walk a layout; and how it
 -- walks the parts of which layouts are made.
-use Rattle.std.specs.Prelude.{◌≡◌, refl, Bool, true, false, List, [], ◌∷◌, ℕ, zero, suc, ◌+◌, ◌-◌, ◌^◌, ◌≤◌, ◌<◌, T, ltb, leb, length}
+use Rattle.std.specs.Prelude.{◌≡◌, refl, Bool, true, false, List, [], ◌∷◌, ℕ, zero, suc, ◌^◌, ◌≤◌, ◌<◌, T, ltb, leb, length}
 use Rattle.std.proofs.Common.{ap, sym, ◌∙◌, subst, arith, ltb→lt, leb→le, pow_pos}
 use Rattle.answer.specs.Place.{of_code}
 use Rattle.layout.specs.declared.Field.{Field}

@@ -1,5 +1,5 @@
 -- Definitions to believe: the twelve payloads, OCB 0-0 to 0-4, HPAC 1-0 to 1-4, GAD 2-0 and BPAC 3-0.
-use Rattle.std.specs.Prelude.{Bool, true, false, ℕ, eqb}
+use Rattle.std.specs.Prelude.{ℕ, eqb}
 use Rattle.layout.specs.Layout.{Layout, done, pick}
 use Rattle.layout.specs.Parts.{Part, absent, present}
 use Rattle.codes.specs.declared.Constellation.{Constellation}

@@ -1,6 +1,5 @@
 -- Mirror: the rows of row.rt over all twelve payloads, and that the machine goes along them.
-use Rattle.std.specs.Prelude.{◌≡◌, refl, ℕ}
-use Rattle.std.proofs.Common.{ap, sym, ◌∙◌}
+use Rattle.std.specs.Prelude.{◌≡◌, refl}
 use Rattle.rows.specs.declared.Row.{Row}
 use Rattle.rows.specs.Rows.{cells_of, no_row}
 use Rattle.rows.specs.Along.{Along, along-within}

@@ -1,12 +1,12 @@
 -- Computed and proved: worked messages.
-use Rattle.std.specs.Prelude.{◌≡◌, refl, List, [], ◌∷◌}
+use Rattle.std.specs.Prelude.{◌≡◌, refl, [], ◌∷◌}
 use Rattle.std.specs.Int.Count.{ones, ones_in}
 use Rattle.answer.specs.Place.{fault_at}
 use Rattle.answer.specs.declared.Refusal.TheVariants as refusal
 use Rattle.bits.specs.Bits.{bits_of, to_bits, number}
-use Rattle.layout.specs.Layout.{done, judge, Outcome, accepted, refused, read_l}
+use Rattle.layout.specs.Layout.{done, judge, accepted, refused, read_l}
 use Rattle.fields.specs.Fields.{table, find, line_of, sf}
-use Rattle.layout.specs.Parts.{absent, present}
+use Rattle.layout.specs.Parts.{present}
 use Rattle.codes.specs.declared.Constellation.TheVariants.{Gps, Glonass}
 use Rattle.codes.specs.Tables.{mask_sizes, mask_size, bias_mask_sizes, bias_size}
 use Rattle.codes.specs.Fields.{numbered}

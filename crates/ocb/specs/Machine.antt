@@ -1,5 +1,5 @@
 -- Mirror: the machine of lib.rt. It serves proofs, and it is proved that it walks the layouts.
-use Rattle.std.specs.Prelude.{◌≡◌, Bool, List, [], ℕ, zero, suc, ◌-◌, ◌/◌, ◌%◌, eqb, length}
+use Rattle.std.specs.Prelude.{◌≡◌, Bool, ℕ, zero, suc, ◌-◌, ◌/◌, ◌%◌, eqb, length}
 use Rattle.std.proofs.Math.Path.{refl}
 use Rattle.std.proofs.Common.{ap, sym, ◌∙◌}
 use Rattle.std.proofs.Math.Bool.{true, false}
@@ -19,7 +19,7 @@ use Rattle.codes.specs.Tables.{mask_sf, mask_size, bias_size}
 use Rattle.ocb.specs.Tables.{ephemeris_sf, iode_sf, phase_sf, code_sf}
 use Rattle.codes.specs.Sizes.{fine-mask-size, fine-mask, fine-bias}
 use Rattle.codes.specs.Fields.{mask_field, satellites_of}
-use Rattle.ocb.specs.Ocb.{Satellite, out_of_use, in_use, orbit, clock, phase_bias, bias, blocks, satellite, ocb}
+use Rattle.ocb.specs.Ocb.{out_of_use, in_use, orbit, clock, phase_bias, bias, blocks, satellite, ocb}
 
 -- ---- the field at hand
 

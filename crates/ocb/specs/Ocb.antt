@@ -1,7 +1,6 @@
 -- Definitions to believe: orbit, clock and bias messages, 0-0 to 0-4 (document 000, tables 6.3 to 6.12; document 01, "Payloads").
 use Rattle.std.specs.Prelude.{List, ℕ, ◌/◌, ◌%◌, eqb}
 use Rattle.std.specs.Int.Count.{ones}
-use Rattle.layout.specs.declared.Field.{Field}
 use Rattle.layout.specs.Layout.{Layout, field, pick}
 use Rattle.layout.specs.Parts.{free, Part, optional, times, each}
 use Rattle.fields.specs.Fields.{sf}

@@ -7,7 +7,7 @@ use native.Mathlib.Omega.{arith}
 use native.Mathlib.Nat.{zero-add}
 use lib.Dec.{ltb}
 use lib.ListN.{length, take, drop, get_or, length-append}
-use lib.Seq.{sets, sets-eq, drop-drop, take_at, drop-append-add, length-take-le, take-length}
+use lib.Seq.{sets, sets-eq, drop-drop, take_at, drop-append-add, length-take-le}
 use borrow.Author.Tests.{lt-ltb, le-ltb, ltb-true, ltb-false, ne_eqb}
 use Rattle.sizes.specs.Sizes.{longest_payload}
 use Rattle.answer.specs.declared.Refusal.{Refusal}

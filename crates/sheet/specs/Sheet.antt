@@ -1,5 +1,5 @@
 -- Definitions to believe: a payload read into a sheet and a sheet written into bytes, for all inputs (document 01, "Payloads" and "Answer numbers").
-use Rattle.std.specs.Prelude.{Bool, true, false, ◌||◌, List, ◌++◌, ℕ, ◌+◌, ◌-◌, ◌*◌, ◌/◌, eqb, ltb, length, drop}
+use Rattle.std.specs.Prelude.{Bool, ◌||◌, List, ◌++◌, ℕ, ◌+◌, ◌-◌, ◌*◌, ◌/◌, eqb, ltb, length, drop}
 use Rattle.sizes.specs.Sizes.{longest_payload, sheet_room}
 use Rattle.answer.specs.Stop.{stop}
 use Rattle.answer.specs.Number.{number_of}

@@ -4,7 +4,7 @@ use Rattle.std.proofs.Common.{ap, sym, ◌∙◌, append_assoc, arith, length-ap
 use Rattle.sizes.specs.Sizes.{longest_payload, sheet_room}
 use Rattle.bits.specs.Bits.{to_bits}
 use Rattle.bits.specs.Laws.{length-to_bits, length-bits_of, bits-to_bits, to_bits-take}
-use Rattle.layout.specs.Layout.{accepted, read_l, Written, written, write_l}
+use Rattle.layout.specs.Layout.{accepted, read_l, written, write_l}
 use Rattle.layout.specs.Parts.{present}
 use Rattle.layout.specs.RoundTrip.{write_read, read-write, write-injective}
 use Rattle.sheet.specs.Sheet.{bad_length, bytes_for, fill_for, read_answer, sheet_after, write_answer, out_after}

@@ -15,21 +15,15 @@ use borrow.Author.Tests.{lt-ltb, le-ltb}
 use Rattle.answer.specs.declared.Refusal.TheVariants.{Field}
 use Rattle.values.specs.Values.{half_degrees, quotient, value_of, residual_by, residual_of, yaw_by, yaw_of, count_by, count_of, in_metres, orbit_with, orbit_from, orbit_of, number_of_value}
 use Rattle.values.specs.Columns.{steps_in, number_in, meant_in, meant_at, invalid_in}
-use Rattle.values.specs.declared.Residual.TheVariants as Residual
-use Rattle.values.specs.declared.Yaw.TheVariants as Yaw
 use Rattle.values.specs.declared.Value.{Value}
 use Rattle.values.specs.declared.Value.TheVariants.{Metres, Degrees, Tecu, Coefficient, Count, OfResidual, OfYaw, Refused}
 use Rattle.fields.specs.declared.Numbers.{Numbers}
 use Rattle.values.specs.declared.Residual.{Residual}
 use Rattle.values.specs.declared.Yaw.{Yaw}
 use Rattle.values.specs.declared.ResidualAnswer.{ResidualAnswer}
-use Rattle.values.specs.declared.ResidualAnswer.TheVariants as ResidualAnswer
 use Rattle.values.specs.declared.YawAnswer.{YawAnswer}
-use Rattle.values.specs.declared.YawAnswer.TheVariants as YawAnswer
 use Rattle.values.specs.declared.CountAnswer.{CountAnswer}
-use Rattle.values.specs.declared.CountAnswer.TheVariants as CountAnswer
 use Rattle.values.specs.declared.OrbitAnswer.{OrbitAnswer}
-use Rattle.values.specs.declared.OrbitAnswer.TheVariants as OrbitAnswer
 use Rattle.values.specs.contracts.Value.{the_type}
 use types.Run.{OneOf, miss}
 use denote.Enum.Declared.{tag_of}

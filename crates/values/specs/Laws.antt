@@ -1,5 +1,5 @@
 -- What the definitions of Values.antt come to, each law once over the table or over all step counts. They are proved.
-use Rattle.std.specs.Prelude.{◌≡◌, refl, List, [], ◌∷◌, Bool, true, false, cond, ◌&&◌, ℕ, zero, suc, ◌+◌, ◌-◌, ◌*◌, ◌^◌, ◌≤◌, ◌<◌, T, leb, ltb, eqb, ℤ, pos, negsuc, ◌-ℤ◌, Float}
+use Rattle.std.specs.Prelude.{◌≡◌, refl, List, [], ◌∷◌, Bool, true, false, cond, ◌&&◌, ℕ, zero, suc, ◌-◌, ◌*◌, ◌^◌, ◌≤◌, ◌<◌, T, leb, ltb, eqb, ℤ, pos, negsuc, ◌-ℤ◌, Float}
 use Rattle.std.proofs.Common.{sym, ap, ap₂, subst, ◌∙◌, mul-one, mul_assoc, mul_comm, mul-pos, lt_of_lt_of_le, le_of_lt, arith, leb→le, ltb→lt, lit<, lit≤, shl_lt, ne_eqb, le-leb}
 use Rattle.std.proofs.Math.IntN.{+ℤ_invr}
 use Rattle.std.specs.Float.{nan, inf, fin, Format, binary64}

@@ -10,13 +10,9 @@ use Rattle.answer.specs.declared.Refusal.TheVariants.{Field}
 use Rattle.values.specs.declared.Residual.TheVariants as Residual
 use Rattle.values.specs.declared.Yaw.TheVariants as Yaw
 use Rattle.values.specs.declared.ResidualAnswer.{ResidualAnswer}
-use Rattle.values.specs.declared.ResidualAnswer.TheVariants as ResidualAnswer
 use Rattle.values.specs.declared.YawAnswer.{YawAnswer}
-use Rattle.values.specs.declared.YawAnswer.TheVariants as YawAnswer
 use Rattle.values.specs.declared.CountAnswer.{CountAnswer}
-use Rattle.values.specs.declared.CountAnswer.TheVariants as CountAnswer
 use Rattle.values.specs.declared.OrbitAnswer.{OrbitAnswer}
-use Rattle.values.specs.declared.OrbitAnswer.TheVariants as OrbitAnswer
 use Rattle.values.specs.declared.Value.{Value}
 use Rattle.values.specs.declared.Value.TheVariants.{Metres, Degrees, Tecu, Coefficient, Count, OfResidual, OfYaw, Refused}
 

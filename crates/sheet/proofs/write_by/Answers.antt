@@ -1,5 +1,5 @@
 -- A sheet that is not accepted alters nothing; the bits kept aside are copied, with the fill behind them.
-use Rattle.sheet.proofs.Writing.{whole-refused, fill-times, fill-under, fill-few, whole-fits, whole-count, whole_room, whole-written}
+use Rattle.sheet.proofs.Writing.{whole-refused, fill-times, fill-under, fill-few, whole-written}
 use borrow.Author.Rules.{rules}
 use Rattle.std.proofs.Common.{◌++◌, drop, refl, ap}
 use Rattle.sheet.proofs.write_by.Goals as goal
