@@ -115,7 +115,7 @@ called-fit (Called.a-finish {l} k) f = finish-fit l (called-fit k f)
 called-fit (Called.lent-anew {l} second r k) f = fit-anew second r (called-fit k f)
 
 -- the calls that are heard are such calls
-pub feeds-called : {lent l l₁ : Lent} {c : Caller} {seconds : Seconds} {ps : List (List ℕ)} {hs : List Heard} → Feeds c seconds l ps hs l₁ → Called lent l → Called lent l₁
+pub feeds-called : {lent : Lent} {c : Caller} {l l₁ : Lent} {seconds : Seconds} {ps : List (List ℕ)} {hs : List Heard} → Feeds c seconds l ps hs l₁ → Called lent l → Called lent l₁
 feeds-called Feeds.no_more k = k
 feeds-called (Feeds.an-event {p = p} q w i f) k = feeds-called f (Called.a_call k p)
 feeds-called (Feeds.all-used {p = p} q w f) k = feeds-called f (Called.a_call k p)

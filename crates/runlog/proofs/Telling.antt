@@ -2,15 +2,14 @@
 use mathlib.Core.Path.{◌≡◌, refl, sym, ap, ◌∙◌, subst}
 use mathlib.Core.Bool.{Bool, true, false}
 use mathlib.Core.List.{List, [], ◌∷◌, ◌++◌}
-use Prim.Native.Nat.{ℕ, ◌+◌, ◌-◌, ◌≤◌, ◌<◌}
+use Prim.Native.Nat.{ℕ, ◌+◌, ◌≤◌}
 use native.Mathlib.Omega.{arith}
 use lib.ListN.{length, take, drop}
 use lib.Seq.{drop-drop, length-take-le}
-use Rattle.text.specs.Text.{waiting, Waiting, say_all, waiting_after, said_after}
+use Rattle.text.specs.Text.{waiting, say_all, waiting_after, said_after}
 use Rattle.text.specs.Output.{say-then}
 use Rattle.words.specs.Log.{whole_in, whole_of, texts_of_log}
 use Rattle.frame.specs.declared.Frame.{Frame}
-use Rattle.sizes.specs.Sizes.{log_room}
 use Rattle.stream.specs.declared.Tray.{Tray}
 use Rattle.stream.specs.Scan.{Event, frame, noise, scan_from}
 use Rattle.stream.specs.Tray as stream
@@ -27,11 +26,11 @@ use Rattle.prepare.specs.declared.Said.{Said}
 use Rattle.prepare.specs.declared.Said.TheVariants as said
 use Rattle.prepare.specs.Uncut as uncut
 use Rattle.prepare.specs.Uncut.{told_of, told_by, verdict_on, handled_on, entries_of}
-use Rattle.prepare.specs.Prepare.{Handed, Result, books_in, hands, said_of, answer_of, books_of, log_of, results, result_of, call_outcome, by_call, finish_outcome, by_finish}
+use Rattle.prepare.specs.Prepare.{Handed, Result, hands, said_of, answer_of, books_of, log_of, results, result_of, call_outcome, by_call, finish_outcome, by_finish}
 use Rattle.prepare.specs.Driver.{State, Tells, later_by, Feeds, Closes}
 use Rattle.prepare.specs.Steps.{guarded-is}
 use Rattle.runlog.specs.declared.hearing.Heard.{Heard}
-use Rattle.runlog.specs.Events.{is_event, heard_of, Prepared, Hearing, Step, Within, to_tell, last_to_tell, Called, Finished, Spoken, Onward, Nearer, Advanced, Neared}
+use Rattle.runlog.specs.Events.{is_event, heard_of, Prepared, Step, Within, to_tell, last_to_tell, Called, Finished, Spoken, Onward, Nearer, Advanced, Neared}
 use Rattle.runlog.specs.Telling.{state_of, some, texts_for, logs_of, always, Told, Ended}
 use Rattle.runlog.specs.Joined.{later-always, always-time}
 

@@ -20,7 +20,6 @@ use Rattle.desk.specs.declared.NewDesk.{NewDesk}
 use Rattle.desk.specs.declared.NewDesk.TheVariants.{Made, Refused}
 use Rattle.desk.specs.Desk.{new_desk}
 use Rattle.sizes.specs.Sizes.{longest_frame, book_bytes, log_room}
-use Rattle.desk.specs.History.{Held}
 use Rattle.prepare.specs.declared.Answer.{Answer}
 use Rattle.prepare.specs.Uncut.{told_of, entries_of}
 use Rattle.prepare.specs.Prepare.{Handed, books_in, hands, answer_of, books_of, log_of, results, result_of, call_outcome, by_call, finish_outcome, by_finish}

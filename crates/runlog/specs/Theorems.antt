@@ -43,6 +43,11 @@ in-time (uncut.accepted header bytes entries) n second behind i = i
 in-time (uncut.refused header bytes why) n second behind i = i
 in-time (uncut.noise count) n second behind i = tt
 
+nothing-then : (second : ℕ) {behind seconds : Seconds} {s s₁ s₂ : State} {ps : List (List ℕ)} {ts us : List uncut.Told}
+    → Feeds waits seconds s [] ts s₁ → Feeds waits behind s₁ ps us s₂ → Feeds waits (all_then ts second behind) s ps (ts ++ us) s₂
+unfolding all_then
+nothing-then second Feeds.no_more g = g
+
 portion-then : {second : ℕ} {behind seconds : Seconds} {s s₁ s₂ : State} {p : List ℕ} {ps : List (List ℕ)} {ts us : List uncut.Told}
     → Feeds waits seconds s (p ∷ []) ts s₁ → seconds ≡ always second → Feeds waits behind s₁ ps us s₂
     → Feeds waits (all_then ts second behind) s (p ∷ ps) (ts ++ us) s₂
@@ -52,7 +57,7 @@ portion-then {second} {behind} {s₂ = s₂} {ps = ps} {us = us} (Feeds.an-event
     let x = portion-then f (ap (later_by t) e ∙ later-always t second) g in
     Feeds.an-event given room k (in-time t given.second second n (subst (λ z. InTime t given.second z) e i))
     (subst (λ z. Feeds waits z (call_leaves s given p) (drop (call_says s given p).used p ∷ ps) (ts ++ us) s₂) (sym (then-later t second n)) x)
-portion-then (Feeds.all-used given room k Feeds.no_more) e g = Feeds.all-used given room k g
+portion-then {second} (Feeds.all-used given room k f) e g = Feeds.all-used given room k (nothing-then second f g)
 portion-then (Feeds.passed_over z f) e g = absurd z
 
 portions-feed : {raw : Bool} {s s₁ : State} {o o₁ : List ℕ} {ps : List (List ℕ)} (r : Reads raw s o ps s₁ o₁) (behind : Seconds)

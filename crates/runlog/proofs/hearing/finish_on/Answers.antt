@@ -1,0 +1,7 @@
+-- A finish with tray and desk prepared leaves them so; an event is one of those that were left to tell (Turns.antt).
+use Rattle.runlog.proofs.Turns.{is-finished}
+use borrow.Author.Rules.{rules}
+use Rattle.runlog.proofs.hearing.finish_on.Goals as goal
+
+pub returns : goal.returns
+returns c = search (is-finished, rules)

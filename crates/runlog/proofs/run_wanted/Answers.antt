@@ -1,0 +1,14 @@
+-- The desk is one that was made, and it runs.
+use Rattle.runlog.proofs.Turns.{is-new}
+use Rattle.runlog.proofs.Reading.{does-run, does-usage}
+use borrow.Author.Rules.{rules}
+use Rattle.runlog.proofs.run_wanted.Goals as goal
+
+pub run_desk-requires : goal.run_desk-requires
+run_desk-requires c = search (is-new, rules)
+
+pub returns-in-Run : goal.returns-in-Run
+returns-in-Run c = search (does-run, rules)
+
+pub returns-in-Usage : goal.returns-in-Usage
+returns-in-Usage c = search (does-usage, rules)
