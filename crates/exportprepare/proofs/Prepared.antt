@@ -9,7 +9,6 @@ use borrow.Author.Tests.{lt-ltb, le-ltb, ltb-false}
 use Rattle.stream.specs.declared.Tray.{Tray}
 use Rattle.desk.specs.declared.Desk.{Desk}
 use Rattle.prepare.specs.declared.Said.{Said}
-use Rattle.prepare.specs.declared.Said.TheVariants as said
 use Rattle.prepare.specs.declared.Answer.{Answer}
 use Rattle.prepare.specs.Prepare.{hands, results, Result, by_call, by_finish}
 use Rattle.answer.specs.Place.{sf_in, at_in}
