@@ -1,4 +1,4 @@
-// Runs document 01's measured cases over the real calls and prints for each whether it holds. specs/Cases.antt proves them of the definitions.
+// Runs document 01's measured cases over the real calls and prints for each whether it holds. proofs/Measured.antt proves them of the definitions.
 #![tactic(auto)]
 
 use desk::{Desk, NewDesk, Run, Said, Taken};
