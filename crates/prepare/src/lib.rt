@@ -156,6 +156,7 @@ fn payload_first<'a>(bytes: &'a [u8], header: Frame) -> &'a [u8]
 }
 
 // A frame event goes to the desk with the call's second. It was checked in the tray, so it is not checked again.
+#[inline(always)]
 fn give(
     heard: stream::Answer,
     header: Frame,
@@ -188,7 +189,9 @@ fn passed_on(said: stream::Said) -> Said
     }
 }
 
-// What the stream says moves the desk on. All that is no frame is answered in one place: an answer a case would lie on the stack for each.
+// What the stream says moves the desk on. All that is no frame is answered in one place: an answer a case would lie on the stack for each. It and `give` are put
+// in where they are called, since a function lays on the stack anew what it is handed.
+#[inline(always)]
 fn step(
     heard: stream::Answer,
     bytes: &[u8],
