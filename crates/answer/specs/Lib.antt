@@ -4,3 +4,4 @@ pub mod Stop
 pub mod Matched
 pub mod Further
 pub mod Determined
+pub mod Pairs

@@ -32,16 +32,16 @@ pub enum Refusal {
 // Where an entry of a message begins, or would begin: the field's number in its document, and the bit of the payload or the entry of the sheet, both
 // counted from 0.
 #[derive(Clone, Copy)]
-pub enum Place {
-    Nowhere,
-    At { sf: u64, at: usize },
+pub struct Place {
+    pub sf: u64,
+    pub at: usize,
 }
 
 // Why a message is refused, and where: SHORT, FIELD and MASK_EMPTY of a payload or of a sheet have a place, all other refusals none.
 #[derive(Clone, Copy)]
 pub struct Fault {
     pub refusal: Refusal,
-    pub place: Place,
+    pub place: Option<Place>,
 }
 
 fn number_by_refusal(refusal: Refusal) -> u8
@@ -77,21 +77,21 @@ pub fn number(refusal: Refusal) -> u8
 }
 
 // The number of the field at fault; 0 where there is no place.
-pub fn sf_in(place: Place) -> u64
+pub fn sf_in(place: Option<Place>) -> u64
     ensures { result ≡ sf_in place }
 {
     match place {
-        Place::Nowhere => 0,
-        Place::At { sf, at: _ } => sf,
+        None => 0,
+        Some(Place { sf, at: _ }) => sf,
     }
 }
 
 // The bit or the entry where its entry begins; 0 where there is no place.
-pub fn at_in(place: Place) -> usize
+pub fn at_in(place: Option<Place>) -> usize
     ensures { result ≡ at_in place }
 {
     match place {
-        Place::Nowhere => 0,
-        Place::At { sf: _, at } => at,
+        None => 0,
+        Some(Place { sf: _, at }) => at,
     }
 }

@@ -1,4 +1,5 @@
 -- One lemma for each turn and each answer of the functions that judge a GAD's blocks, in plain variables, premises worded as the code makes them. Assumes nothing.
+use Rattle.std.specs.Prelude.{Ok, Err, Some, None}
 use mathlib.Core.Path.{◌≡◌, ap, ap₂, sym, ◌∙◌, subst}
 use mathlib.Core.Bool.{Bool, true, false, cond}
 use mathlib.Core.List.{List}
@@ -21,10 +22,8 @@ use Rattle.book.specs.Payload.{block_count, most_blocks, block_start, block_at, 
 use Rattle.book.specs.TakeLaws.{or_else}
 use Rattle.book.specs.Search.{Below, below_up, lookup-below}
 use Rattle.book.specs.Judge.{judge_found, judge_block}
-use Rattle.book.specs.declared.Found.{Found}
-use Rattle.book.specs.declared.Found.TheVariants.{Area, Nothing}
-use Rattle.book.specs.declared.Judged.{Judged}
-use Rattle.book.specs.declared.Judged.TheVariants.{Held, Refused}
+use Rattle.book.specs.Results.{Found}
+use Rattle.book.specs.Results.{Judged}
 use Rattle.book.proofs.Reading.{areas-left}
 
 -- ---- the payload
@@ -93,7 +92,7 @@ module _ (s : List ℕ) (i : ℕ) (there : block_start (i + 1) ≤ 8 * length s)
 
 module _ (s : List ℕ) (id n : ℕ) where
   -- the bytes are too few, or they are there
-  pub look-few : length s / 6 < n → Nothing ≡ looked id n s
+  pub look-few : length s / 6 < n → None ≡ looked id n s
   look-few h = sym (looked-none id n s (omega arith))
 
   pub look-all : n ≤ length s / 6 → (r : Found) → r ≡ lookup id (areas_in n s) → r ≡ looked id n s
@@ -108,54 +107,54 @@ module _ (p : List ℕ) (id n : ℕ) where
   back_start = record { inside = omega arith; same = ap (λ k. lookup id (blocks_from k 0 p)) {x = n - 0} {y = n} (omega arith) }
 
   module _ (i : ℕ) (q : LookingBack i) where
-    pub back_none : n ≤ i → Nothing ≡ lookup id (blocks_from n 0 p)
+    pub back_none : n ≤ i → None ≡ lookup id (blocks_from n 0 p)
     unfolding lookup blocks_from
     back_none h = let e : n - i ≡ 0 = omega arith in ap (λ k. lookup id (blocks_from k i p)) (sym e) ∙ q.same
 
     module _ (h : i < n) (x d : ℕ) (ex : x ≡ block_at p i) (ed : d ≡ sf031 x) where
-      opened-back : cond (eqb d id) (Area x) (lookup id (blocks_from (n - (i + 1)) (i + 1) p)) ≡ lookup id (blocks_from n 0 p)
+      opened-back : cond (eqb d id) (Some x) (lookup id (blocks_from (n - (i + 1)) (i + 1) p)) ≡ lookup id (blocks_from n 0 p)
       unfolding lookup blocks_from
       opened-back =
-          ap (λ d. cond (eqb d id) (Area x) (lookup id (blocks_from (n - (i + 1)) (i + 1) p))) ed
-          ∙ ap₂ (λ x j. cond (eqb (sf031 x) id) (Area x) (lookup id (blocks_from (n - (i + 1)) j p))) ex (add-one i)
+          ap (λ d. cond (eqb d id) (Some x) (lookup id (blocks_from (n - (i + 1)) (i + 1) p))) ed
+          ∙ ap₂ (λ x j. cond (eqb (sf031 x) id) (Some x) (lookup id (blocks_from (n - (i + 1)) j p))) ex (add-one i)
           ∙ ap (λ k. lookup id (blocks_from k i p)) (sym (areas-left n i h))
           ∙ q.same
 
-      pub back_found : d ≡ id → Area x ≡ lookup id (blocks_from n 0 p)
+      pub back_found : d ≡ id → Some x ≡ lookup id (blocks_from n 0 p)
       back_found e = rw (eq-eqb _ _ e) at opened-back
 
       pub back-turn : (d ≡ id → ⊥) → LookingBack (i + 1)
       back-turn k = record { inside = omega arith; same = rw (ne_eqb _ _ k) at opened-back }
 
 module _ (f g : Found) (v : Found) (e : v ≡ f) where
-  pub known-area : (a : ℕ) → v ≡ Area a → Area a ≡ or_else f g
+  pub known-area : (a : ℕ) → v ≡ Some a → Some a ≡ or_else f g
   known-area a q = ap (λ f. or_else f g) (sym q ∙ e)
 
-  pub known-before : v ≡ Nothing → (r : Found) → r ≡ g → r ≡ or_else f g
+  pub known-before : v ≡ None → (r : Found) → r ≡ g → r ≡ or_else f g
   known-before q r er = er ∙ ap (λ f. or_else f g) (sym q ∙ e)
 
 -- an ID that is above those of the blocks before is new to them
-pub known-new : (f : Found) (l : List ℕ) (id least w : ℕ) (v : Found) → v ≡ f → v ≡ Nothing → Below least l → w ≡ id → least ≤ w → Nothing ≡ or_else f (lookup id l)
+pub known-new : (f : Found) (l : List ℕ) (id least w : ℕ) (v : Found) → v ≡ f → v ≡ None → Below least l → w ≡ id → least ≤ w → None ≡ or_else f (lookup id l)
 known-new f l id least w v e q p ew h =
     sym (ap₂ or_else (sym e ∙ q) (lookup-below id l (below_up least id l (omega arith) p)))
 
 -- ---- one block
 
 module _ (a n : ℕ) (f : Found) where
-  pub found-same : (b : ℕ) → f ≡ Area b → a ≡ b → Held n ≡ judge_found a f n
+  pub found-same : (b : ℕ) → f ≡ Some b → a ≡ b → Ok n ≡ judge_found a f n
   found-same b e q = rw (e, eq-eqb a b q)
 
-  pub found-other : (b : ℕ) → f ≡ Area b → (a ≡ b → ⊥) → Refused (nowhere Conflict) ≡ judge_found a f n
+  pub found-other : (b : ℕ) → f ≡ Some b → (a ≡ b → ⊥) → Err (nowhere Conflict) ≡ judge_found a f n
   found-other b e q = rw (e, ne_eqb a b q)
 
-  pub found-new : f ≡ Nothing → n < most_areas → Held (n + 1) ≡ judge_found a f n
+  pub found-new : f ≡ None → n < most_areas → Ok (n + 1) ≡ judge_found a f n
   found-new e h = rw (e, lt-ltb n most_areas h)
 
-  pub found-full : f ≡ Nothing → most_areas ≤ n → Refused (nowhere BookFull) ≡ judge_found a f n
+  pub found-full : f ≡ None → most_areas ≤ n → Err (nowhere BookFull) ≡ judge_found a f n
   found-full e h = rw (e, le-ltb n most_areas h)
 
 module _ (a n : ℕ) (f : Found) (b : Bool) (eb : b ≡ area_off a) where
-  pub block-off : b ≡ true → Refused (nowhere AreaOff) ≡ judge_block a f n
+  pub block-off : b ≡ true → Err (nowhere AreaOff) ≡ judge_block a f n
   block-off h = let z : area_off a ≡ true = sym eb ∙ h in rw z
 
   pub block_on : b ≡ false → (r : Judged) → r ≡ judge_found a f n → r ≡ judge_block a f n

@@ -1,4 +1,5 @@
 -- One lemma for each answer of `take`, in plain variables, premises worded as the code makes them. Assumes nothing.
+use Rattle.std.specs.Prelude.{Ok, Err}
 use mathlib.Core.Path.{◌≡◌, refl, ap, ap₂, sym, ◌∙◌}
 use mathlib.Core.Bool.{Bool, true, false, not}
 use mathlib.Core.List.{List}
@@ -13,19 +14,17 @@ use Rattle.sizes.specs.Sizes.{book_bytes}
 use Rattle.layout.specs.Layout as layout
 use Rattle.message.specs.Messages.{Message}
 use Rattle.sheet.specs.Sheet.{judging, read_answer_by, judged}
-use Rattle.sheet.specs.declared.ReadAnswer.{ReadAnswer}
-use Rattle.sheet.specs.declared.ReadAnswer.TheVariants as reader
+use Rattle.sheet.specs.Results.{ReadAnswer}
 use Rattle.book.specs.Book.{sound}
 use Rattle.book.specs.Take.{areas_of, take_all, before, outcome, answer_of, left_by, taken_of, bytes_after}
 use Rattle.book.specs.Payload.{siou_of, aiou_of, block_count, block_start, blocks_of, take_bits, AtBits, gad-at-bits}
 use Rattle.book.specs.TakenLaws.{outcome-refused, answer-refused, outcome-read, answer-read, Says, says-read}
 use Rattle.book.specs.declared.Book.{Book}
-use Rattle.book.specs.declared.Taken.{Taken}
-use Rattle.book.specs.declared.Taken.TheVariants as taking
+use Rattle.book.specs.Results.{Taken}
 
 module _ (book : Book) (s p : List ℕ) where
   -- no room, or no sound book
-  pub take-room : length s < book_bytes → taking.Refused (nowhere refusal.Room) ≡ taken_of book s p
+  pub take-room : length s < book_bytes → Err (nowhere refusal.Room) ≡ taken_of book s p
   unfolding outcome
   take-room h = rw (lt-ltb (length s) book_bytes h)
 
@@ -34,7 +33,7 @@ module _ (book : Book) (s p : List ℕ) where
   left-room h = rw (lt-ltb (length s) book_bytes h)
 
   module _ (h : book_bytes ≤ length s) (b : Bool) (eb : b ≡ sound book s) where
-    pub take-state : not b ≡ true → taking.Refused (nowhere refusal.State) ≡ taken_of book s p
+    pub take-state : not b ≡ true → Err (nowhere refusal.State) ≡ taken_of book s p
     unfolding outcome
     take-state k = let y : sound book s ≡ false = sym eb ∙ not-true b k in rw (le-ltb (length s) book_bytes h, y)
 
@@ -47,27 +46,27 @@ module _ (book : Book) (s p : List ℕ) where
       take-sound = sym eb ∙ not-false b k
 
       module _ (v : ReadAnswer) (ev : v ≡ judged 2 0 p) where
-        module _ (r : answer.Fault) (q : v ≡ reader.Refused r) where
+        module _ (r : answer.Fault) (q : v ≡ Err r) where
           is-refused : judging 2 0 p ≡ layout.refused r
           unfolding judged
           is-refused = go (judging 2 0 p) (sym q ∙ ev)
             where
-              go : (o : layout.Outcome Message) → reader.Refused r ≡ read_answer_by o → o ≡ layout.refused r
+              go : (o : layout.Outcome Message) → Err r ≡ read_answer_by o → o ≡ layout.refused r
               go (layout.accepted m codes used) e = let z : ◌≡◌ {A = ℕ} 0 1 = cc in absurd (omega arith)
               go (layout.refused why) e = cc
 
-          pub take-fault : taking.Refused r ≡ taken_of book s p
+          pub take-fault : Err r ≡ taken_of book s p
           take-fault = sym (answer-refused book s p take-sound r is-refused)
 
           pub left-fault : s ≡ bytes_after book s p
           left-fault = sym (ap (λ o. left_by o s) (outcome-refused book s p take-sound r is-refused))
 
-        module _ (n entries : ℕ) (q : v ≡ reader.Read n entries) where
+        module _ (n entries : ℕ) (q : v ≡ Ok (record { bits = n; entries = entries })) where
           read : Says p
           unfolding judged
           read = go (judging 2 0 p) refl (sym q ∙ ev)
             where
-              go : (o : layout.Outcome Message) → judging 2 0 p ≡ o → reader.Read n entries ≡ read_answer_by o → Says p
+              go : (o : layout.Outcome Message) → judging 2 0 p ≡ o → Ok (record { bits = n; entries = entries }) ≡ read_answer_by o → Says p
               go (layout.accepted m codes used) e z = says-read p m codes used e
               go (layout.refused why) e z = let y : ◌≡◌ {A = ℕ} 0 1 = cc in absurd (omega arith)
 

@@ -1,4 +1,5 @@
 -- One lemma for each turn and each answer of the functions that search a book by ID, in plain variables, premises worded as the code makes them. Assumes nothing.
+use Rattle.std.specs.Prelude.{Some, None}
 use mathlib.Core.Path.{◌≡◌, refl, ap, sym, ◌∙◌, subst}
 use mathlib.Core.Bool.{Bool, true, false, cond}
 use mathlib.Core.List.{List, ◌∷◌}
@@ -18,7 +19,6 @@ use Rattle.book.specs.Book.{area_in, areas_in, place_of}
 use Rattle.book.specs.Laws.{Ascending, length-areas, areas-at}
 use Rattle.book.specs.Take.{lookup}
 use Rattle.book.specs.Search.{Below, below_up, below_next, Passed, Reached, reached-end, reached-other, reached-found}
-use Rattle.book.specs.declared.Found.TheVariants.{Area, Nothing}
 use Rattle.book.proofs.Reading.{number-there, first_byte}
 
 -- an area's ID is its first byte
@@ -28,11 +28,11 @@ id-byte s n i b h =
     ∙ ap (λ k. get_or s k 0) {x = 6 * i + 0} {y = 6 * i} (omega arith)
 
 -- the first area whose first byte is the ID is the first with that ID
-place-lookup : (id n : ℕ) (s : List ℕ) → Bytes s → lookup id (areas_in n s) ≡ cond (ltb (place_of id n s) n) (Area (get_or (areas_in n s) (place_of id n s) 0)) Nothing
+place-lookup : (id n : ℕ) (s : List ℕ) → Bytes s → lookup id (areas_in n s) ≡ cond (ltb (place_of id n s) n) (Some (get_or (areas_in n s) (place_of id n s) 0)) None
 unfolding lookup areas_in place_of
 place-lookup id zero s b = refl
 place-lookup id (suc n) s b =
-    ap (λ d. cond (eqb d id) (Area (area_in s)) (lookup id (areas_in n (drop 6 s)))) (first_byte s b) ∙ go (eqb (get_or s 0 0) id) (place-lookup id n (drop 6 s) (bytes_drop 6 b))
+    ap (λ d. cond (eqb d id) (Some (area_in s)) (lookup id (areas_in n (drop 6 s)))) (first_byte s b) ∙ go (eqb (get_or s 0 0) id) (place-lookup id n (drop 6 s) (bytes_drop 6 b))
   where
     x : ℕ
     x = place_of id n (drop 6 s)
@@ -47,10 +47,10 @@ place-lookup id (suc n) s b =
         by true q = lt-ltb (suc x) (suc n) (omega (arith, ltb-true x n q))
         by false q = le-ltb (suc x) (suc n) (omega (arith, ltb-false x n q))
 
-    go : (b : Bool) → lookup id l ≡ cond (ltb x n) (Area (get_or l x 0)) Nothing
-        → cond b (Area (area_in s)) (lookup id l) ≡ cond (ltb (cond b zero (suc x)) (suc n)) (Area (get_or (area_in s ∷ l) (cond b zero (suc x)) 0)) Nothing
-    go true ih = sym (ap (λ b. cond b (Area (area_in s)) Nothing) (lt-ltb 0 (suc n) (omega arith)))
-    go false ih = ih ∙ ap (λ b. cond b (Area (get_or l x 0)) Nothing) (sym suc-less)
+    go : (b : Bool) → lookup id l ≡ cond (ltb x n) (Some (get_or l x 0)) None
+        → cond b (Some (area_in s)) (lookup id l) ≡ cond (ltb (cond b zero (suc x)) (suc n)) (Some (get_or (area_in s ∷ l) (cond b zero (suc x)) 0)) None
+    go true ih = sym (ap (λ b. cond b (Some (area_in s)) None) (lt-ltb 0 (suc n) (omega arith)))
+    go false ih = ih ∙ ap (λ b. cond b (Some (get_or l x 0)) None) (sym suc-less)
 
 -- all areas have a smaller ID
 pub reach-end : (s : List ℕ) (id n i : ℕ) → Passed id n s i → n ≤ i → Reached id n s n
@@ -80,31 +80,31 @@ module _ (s : List ℕ) (known : (i : ℕ) → Fits w8 (get_or s i 0)) where
     -- ---- the area at the place that was reached
 
     module _ (at : ℕ) (up : Ascending 0 (areas_in n s)) (q : Reached id n s at) where
-      pub at-end : n ≤ at → Nothing ≡ lookup id (areas_in n s)
+      pub at-end : n ≤ at → None ≡ lookup id (areas_in n s)
       at-end h = sym (reached-end id n at s up q h)
 
       module _ (h : at < n) where
-        pub at_other : (get_or s (6 * at) 0 ≡ id → ⊥) → Nothing ≡ lookup id (areas_in n s)
+        pub at_other : (get_or s (6 * at) 0 ≡ id → ⊥) → None ≡ lookup id (areas_in n s)
         at_other k = sym (reached-other id n at s up q h (λ e. k (sym (id-byte s n at octets h) ∙ e)))
 
-        pub at-found : get_or s (6 * at) 0 ≡ id → 6 * n ≤ length s → (x : ℕ) → x ≡ number_at s (6 * at) → Area (x / 2) ≡ lookup id (areas_in n s)
+        pub at-found : get_or s (6 * at) 0 ≡ id → 6 * n ≤ length s → (x : ℕ) → x ≡ number_at s (6 * at) → Some (x / 2) ≡ lookup id (areas_in n s)
         at-found e fits x ex =
-            ap (λ x. Area (x / 2)) (number-there s n at x h fits ex) ∙ ap Area (sym (areas-at n at s h))
+            ap (λ x. Some (x / 2)) (number-there s n at x h fits ex) ∙ ap Some (sym (areas-at n at s h))
             ∙ sym (reached-found id n at s up q h (id-byte s n at octets h ∙ e))
 
     -- ---- the area at the first place with the ID
 
     module _ (fits : 6 * n ≤ length s) (i : ℕ) (p : i ≡ place_of id n s) where
-      pub place_none : n ≤ i → Nothing ≡ lookup id (areas_in n s)
+      pub place_none : n ≤ i → None ≡ lookup id (areas_in n s)
       place_none h =
           let z : ltb (place_of id n s) n ≡ false = le-ltb (place_of id n s) n (subst (λ i. n ≤ i) p h) in
-          ap (λ b. cond b (Area (get_or (areas_in n s) (place_of id n s) 0)) Nothing) (sym z) ∙ sym (place-lookup id n s octets)
+          ap (λ b. cond b (Some (get_or (areas_in n s) (place_of id n s) 0)) None) (sym z) ∙ sym (place-lookup id n s octets)
 
-      pub place_found : i < n → (x : ℕ) → x ≡ number_at s (6 * i) → Area (x / 2) ≡ lookup id (areas_in n s)
+      pub place_found : i < n → (x : ℕ) → x ≡ number_at s (6 * i) → Some (x / 2) ≡ lookup id (areas_in n s)
       place_found h x ex =
           let z : ltb (place_of id n s) n ≡ true = lt-ltb (place_of id n s) n (subst (λ i. i < n) p h) in
-          ap (λ x. Area (x / 2)) (number-there s n i x h fits ex) ∙ ap Area (sym (areas-at n i s h)) ∙ ap (λ i. Area (get_or (areas_in n s) i 0)) p
-          ∙ ap (λ b. cond b (Area (get_or (areas_in n s) (place_of id n s) 0)) Nothing) (sym z) ∙ sym (place-lookup id n s octets)
+          ap (λ x. Some (x / 2)) (number-there s n i x h fits ex) ∙ ap Some (sym (areas-at n i s h)) ∙ ap (λ i. Some (get_or (areas_in n s) i 0)) p
+          ∙ ap (λ b. cond b (Some (get_or (areas_in n s) (place_of id n s) 0)) None) (sym z) ∙ sym (place-lookup id n s octets)
 
 -- ---- from where the search for the next ID goes on
 

@@ -1,4 +1,5 @@
 -- One lemma for each turn and each answer of the functions that take a GAD, in plain variables, premises worded as the code makes them. Assumes nothing.
+use Rattle.std.specs.Prelude.{Ok, Err, Some, None}
 use mathlib.Core.Path.{◌≡◌, refl, ap, ap₂, sym, ◌∙◌, subst}
 use mathlib.Core.Bool.{Bool, true, false, cond}
 use mathlib.Core.List.{List, [], ◌∷◌, ◌++◌, append_assoc, append-nil}
@@ -23,11 +24,8 @@ use Rattle.book.specs.TakeLaws.{is-under, other-aiou, other-siou, or_else, or_as
 use Rattle.book.specs.Search.{Below, below_up, below-snoc, take-insert, Passed, Reached}
 use Rattle.book.specs.Judge.{judged_by, is_taken, judge_block, judge-is, grown_by, grown, took-grown, Image}
 use Rattle.book.specs.declared.Book.{Book}
-use Rattle.book.specs.declared.Found.{Found}
-use Rattle.book.specs.declared.Found.TheVariants.{Area, Nothing}
-use Rattle.book.specs.declared.Judged.{Judged}
-use Rattle.book.specs.declared.Judged.TheVariants.{Held, Refused}
-use Rattle.book.specs.declared.Taken.TheVariants as Taken
+use Rattle.book.specs.Results.{Found}
+use Rattle.book.specs.Results.{Judged}
 use Rattle.book.proofs.Reading.{areas-left, sound-count, sound-image}
 
 -- ---- the blocks one after the other
@@ -65,11 +63,11 @@ pub record IsHeld (o : Outcome) (n : ℕ) : Type 0 where
   pub is : o ≡ taken list
   pub many : length list ≡ n
 
-is_held : (o : Outcome) (n : ℕ) → Held n ≡ judged_by o → IsHeld o n
+is_held : (o : Outcome) (n : ℕ) → Ok n ≡ judged_by o → IsHeld o n
 is_held (taken l) n e = record { list = l; is = refl; many = cc }
 is_held (refused r) n e = let z : ◌≡◌ {A = ℕ} 0 1 = cc in absurd (omega arith)
 
-is-refused : (o : Outcome) (r : answer.Fault) → Refused r ≡ judged_by o → o ≡ refused r
+is-refused : (o : Outcome) (r : answer.Fault) → Err r ≡ judged_by o → o ≡ refused r
 is-refused (taken l) r e = let z : ◌≡◌ {A = ℕ} 0 1 = cc in absurd (omega arith)
 is-refused (refused q) r e = cc
 
@@ -92,10 +90,10 @@ judge-start s p count n e =
       looks = λ id. sym (or_nothing (lookup id (areas_in count s)));
     }
 
-pub judge-end : (s p : List ℕ) (count n i held : ℕ) → JudgingBlocks s p count n i held → n ≤ i → Held held ≡ judged_by (take_all (blocks_of p) (areas_in count s))
+pub judge-end : (s p : List ℕ) (count n i held : ℕ) → JudgingBlocks s p count n i held → n ≤ i → Ok held ≡ judged_by (take_all (blocks_of p) (areas_in count s))
 unfolding take_all
 judge-end s p count n i held q h =
-    ap Held (sym q.many) ∙ ap judged_by (ap (λ l. take_all l q.areas) (sym (blocks_end n i p h)) ∙ q.ends)
+    ap Ok (sym q.many) ∙ ap judged_by (ap (λ l. take_all l q.areas) (sym (blocks_end n i p h)) ∙ q.ends)
 
 module _ (s p : List ℕ) (count n i held : ℕ) (q : JudgingBlocks s p count n i held) (h : i < n) (x : ℕ) (ex : x ≡ block_at p i) (d : ℕ) (ed : d ≡ sf031 x)
     (f : Found) (ef : f ≡ or_else (lookup d (areas_in count s)) (lookup d (blocks_from i 0 p))) (v : Judged) (e : v ≡ judge_block x f held) where
@@ -109,11 +107,11 @@ module _ (s p : List ℕ) (count n i held : ℕ) (q : JudgingBlocks s p count n 
   unfolding take_all
   opened = ap (λ l. take_all l q.areas) (sym (blocks-next n i p h)) ∙ q.ends
 
-  pub judge-refused : (r : answer.Fault) → v ≡ Refused r → Refused r ≡ judged_by (take_all (blocks_of p) (areas_in count s))
+  pub judge-refused : (r : answer.Fault) → v ≡ Err r → Err r ≡ judged_by (take_all (blocks_of p) (areas_in count s))
   judge-refused r z =
       ap judged_by (ap (λ o. and_then o (λ l. take_all (blocks_from (n - (i + 1)) (i + 1) p) l)) (sym (is-refused (take_block (block_at p i) q.areas) r (sym z ∙ judged))) ∙ opened)
 
-  pub judge-turn : (m : ℕ) → v ≡ Held m → JudgingBlocks s p count n (i + 1) m
+  pub judge-turn : (m : ℕ) → v ≡ Ok m → JudgingBlocks s p count n (i + 1) m
   judge-turn m z =
       let w : IsHeld (take_block (block_at p i) q.areas) m = is_held _ m (sym z ∙ judged) in
       record {
@@ -292,14 +290,14 @@ unfolding grown
 take-grown a r l p h = go (lookup (sf031 a) l)
   where
     go : (f : Found) → take r (grown_by a l f) ≡ take r l
-    go (Area b) = refl
-    go Nothing = take-insert a r l p h
+    go (Some b) = refl
+    go None = take-insert a r l p h
 
 module _ (b : List ℕ) (n x d : ℕ) (v : Found) (ed : d ≡ sf031 x) (ev : v ≡ lookup d (areas_in n b)) where
   asked : v ≡ lookup (sf031 x) (areas_in n b)
   asked = ev ∙ ap (λ d. lookup d (areas_in n b)) ed
 
-  module _ (y : ℕ) (q : v ≡ Area y) where
+  module _ (y : ℕ) (q : v ≡ Some y) where
     held_stays : areas_in n b ≡ grown x (areas_in n b)
     unfolding grown
     held_stays = ap (grown_by x (areas_in n b)) (sym q ∙ asked)
@@ -313,7 +311,7 @@ module _ (b : List ℕ) (n x d : ℕ) (v : Found) (ed : d ≡ sf031 x) (ev : v �
         ∙ ap₂ (λ l k. l ++ drop (6 * k) b) p.image (sym (length-areas n b))
         ∙ ap (λ l. bytes_of_all l ++ drop (6 * length l) b) held_stays
 
-  module _ (q : v ≡ Nothing) where
+  module _ (q : v ≡ None) where
     new-put : insert x (areas_in n b) ≡ grown x (areas_in n b)
     unfolding grown
     new-put = ap (grown_by x (areas_in n b)) (sym q ∙ asked)
@@ -510,7 +508,7 @@ module _ (book : Book) (s : List ℕ) (w : sound book s ≡ true) (aiou siou n :
   count-ascending known = (count-image known).ascending
 
 -- blocks that are judged taken are taken
-pub is-taken : (s p : List ℕ) (n : ℕ) (v : Judged) → v ≡ judged_by (take_all (blocks_of p) (areas_in n s)) → (m : ℕ) → v ≡ Held m → is_taken (take_all (blocks_of p) (areas_in n s)) ≡ true
+pub is-taken : (s p : List ℕ) (n : ℕ) (v : Judged) → v ≡ judged_by (take_all (blocks_of p) (areas_in n s)) → (m : ℕ) → v ≡ Ok m → is_taken (take_all (blocks_of p) (areas_in n s)) ≡ true
 is-taken s p n v ev m q = ap is_taken (is_held (take_all (blocks_of p) (areas_in n s)) m (sym q ∙ ev)).is
 
 -- the blocks of a payload that reads as a GAD, taken into a sound book
@@ -527,23 +525,23 @@ module _ (book : Book) (s p : List ℕ) (w : sound book s ≡ true) (aiou siou n
   outcome-is = ap (take_all (blocks_of p)) (sym areas-before)
 
   module _ (v : Judged) (ev : v ≡ judged_by (take_all (blocks_of p) (areas_in n s))) where
-    refusal_is : (r : answer.Fault) → v ≡ Refused r → refused r ≡ take_bits book s p
+    refusal_is : (r : answer.Fault) → v ≡ Err r → refused r ≡ take_bits book s p
     refusal_is r q = sym (is-refused _ r (sym q ∙ ev)) ∙ sym outcome-is
 
-    pub take-refused : (r : answer.Fault) → v ≡ Refused r → Taken.Refused r ≡ answer_of (take_bits book s p) (aiou_of p) (siou_of p)
+    pub take-refused : (r : answer.Fault) → v ≡ Err r → Err r ≡ answer_of (take_bits book s p) (aiou_of p) (siou_of p)
     take-refused r q = ap (λ o. answer_of o (aiou_of p) (siou_of p)) (refusal_is r q)
 
-    pub left-refused : (r : answer.Fault) → v ≡ Refused r → s ≡ left_by (take_bits book s p) s
+    pub left-refused : (r : answer.Fault) → v ≡ Err r → s ≡ left_by (take_bits book s p) s
     left-refused r q = ap (λ o. left_by o s) (refusal_is r q)
 
-    pub take-held : (m : ℕ) → v ≡ Held m → (r : Book) → r ≡ book_of aiou siou m
-        → Taken.Holds r ≡ answer_of (take_bits book s p) (aiou_of p) (siou_of p)
+    pub take-held : (m : ℕ) → v ≡ Ok m → (r : Book) → r ≡ book_of aiou siou m
+        → Ok r ≡ answer_of (take_bits book s p) (aiou_of p) (siou_of p)
     take-held m q r er =
         let w : IsHeld (take_all (blocks_of p) (areas_in n s)) m = is_held _ m (sym q ∙ ev) in
-        ap Taken.Holds er ∙ ap₂ (λ a u. Taken.Holds (book_of a u m)) ea eu ∙ ap (λ m. Taken.Holds (book_of (aiou_of p + 1) (siou_of p + 1) m)) (sym w.many) ∙ ap (λ o. answer_of o (aiou_of p) (siou_of p)) (sym w.is ∙ sym outcome-is)
+        ap Ok er ∙ ap₂ (λ a u. Ok (book_of a u m)) ea eu ∙ ap (λ m. Ok (book_of (aiou_of p + 1) (siou_of p + 1) m)) (sym w.many) ∙ ap (λ o. answer_of o (aiou_of p) (siou_of p)) (sym w.is ∙ sym outcome-is)
 
     -- as many areas as before are the same ones
-    pub left-same : (m : ℕ) → v ≡ Held m → m ≡ n → ((i : ℕ) → Fits w8 (get_or s i 0)) → s ≡ left_by (take_bits book s p) s
+    pub left-same : (m : ℕ) → v ≡ Ok m → m ≡ n → ((i : ℕ) → Fits w8 (get_or s i 0)) → s ≡ left_by (take_bits book s p) s
     left-same m q e known =
         let h : IsHeld (take_all (blocks_of p) (areas_in n s)) m = is_held _ m (sym q ∙ ev) in
         let same : h.list ≡ areas_in n s

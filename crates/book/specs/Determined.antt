@@ -6,8 +6,8 @@ use Rattle.bits.specs.Part.{PartOf, part-determined}
 use Rattle.book.specs.Book.{book_of, found, found_at, head_sound, no_book, siou_sound, sound}
 use Rattle.book.specs.Take.{bytes_after, looked, number_of_taken, taken_of}
 use Rattle.book.specs.declared.Book.{Book}
-use Rattle.book.specs.declared.Found.{Found}
-use Rattle.book.specs.declared.Taken.{Taken}
+use Rattle.book.specs.Results.{Found}
+use Rattle.book.specs.Results.{Taken}
 use Rattle.std.specs.Borrow.{Bor}
 use Rattle.std.proofs.Common.{◌∙◌, sym}
 

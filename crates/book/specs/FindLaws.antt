@@ -1,5 +1,5 @@
 -- Laws: what is found in the bytes of a sound book is what is held under the ID. Proved; assumes nothing.
-use Rattle.std.specs.Prelude.{◌≡◌, refl, Bool, true, false, List, [], ◌∷◌, ◌++◌, ℕ, zero, suc, ◌+◌, ◌*◌, ◌≤◌, ◌<◌, ltb, eqb, length, take, drop}
+use Rattle.std.specs.Prelude.{◌≡◌, refl, Bool, true, false, List, [], ◌∷◌, ◌++◌, ℕ, zero, suc, ◌+◌, ◌*◌, ◌≤◌, ◌<◌, ltb, eqb, length, take, drop, Some, None}
 use Rattle.std.proofs.Common.{ap, ap₂, sym, ◌∙◌, arith, take-append-drop, drop-drop, lt-ltb, le-ltb, ltb-true, ltb-false}
 use Rattle.std.proofs.Math.Bool.{cond}
 use Rattle.bits.specs.Bits.{Bytes}
@@ -9,8 +9,7 @@ use Rattle.book.specs.Book.{areas_in, bytes_of_all, sound, place_of, found}
 use Rattle.book.specs.Laws.{Sound, length-areas, sound-lists}
 use Rattle.book.specs.Take.{lookup, looked}
 use Rattle.book.specs.declared.Book.{Book}
-use Rattle.book.specs.declared.Found.{Found}
-use Rattle.book.specs.declared.Found.TheVariants.{Area, Nothing}
+use Rattle.book.specs.Results.{Found}
 
 -- ---- `looked`: with the bytes there, and with too few
 
@@ -19,14 +18,14 @@ module _ (id n : ℕ) (s : List ℕ) where
   unfolding looked
   looked-there h = rw (le-ltb (length s) (6 * n) h)
 
-  pub looked-none : length s < 6 * n → looked id n s ≡ Nothing
+  pub looked-none : length s < 6 * n → looked id n s ≡ None
   unfolding looked
   looked-none h = rw (lt-ltb (length s) (6 * n) h)
 
 -- the six bytes of the area that is looked up, or none
 abbrev pub bytes_of_found : Found → List ℕ
-bytes_of_found (Area a) = bytes_of a
-bytes_of_found Nothing = []
+bytes_of_found (Some a) = bytes_of a
+bytes_of_found None = []
 
 found_part : (id : ℕ) (l t : List ℕ)
     → cond (ltb (place_of id (length l) (bytes_of_all l ++ t)) (length l)) (take 6 (drop (6 * place_of id (length l) (bytes_of_all l ++ t)) (bytes_of_all l ++ t))) [] ≡ bytes_of_found (lookup id l)
@@ -39,7 +38,7 @@ found_part id (a ∷ l) t = go (eqb (sf031 a) id) (found_part id l t)
 
     go : (b : Bool) → cond (ltb (place_of id (length l) s) (length l)) (take 6 (drop (6 * place_of id (length l) s) s)) [] ≡ bytes_of_found (lookup id l)
         → cond (ltb (cond b zero (suc (place_of id (length l) s))) (suc (length l))) (take 6 (drop (6 * cond b zero (suc (place_of id (length l) s))) (bytes_of a ++ s))) []
-        ≡ bytes_of_found (cond b (Area a) (lookup id l))
+        ≡ bytes_of_found (cond b (Some a) (lookup id l))
     go true ih = rw (lt-ltb 0 (suc (length l)) (omega arith))
     go false ih =
         let x : ℕ = place_of id (length l) s in

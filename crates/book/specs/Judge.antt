@@ -1,5 +1,5 @@
 -- Mirror: judging an area of a book by its bytes, and a GAD block by what the book and the earlier blocks say of its ID, without the areas in a row; and, proved, that it comes to the same.
-use Rattle.std.specs.Prelude.{◌≡◌, refl, Bool, true, false, cond, ◌&&◌, List, ℕ, ◌+◌, ◌*◌, ◌/◌, ◌%◌, leb, ltb, eqb, length, take}
+use Rattle.std.specs.Prelude.{◌≡◌, refl, Bool, true, false, cond, ◌&&◌, List, ℕ, ◌+◌, ◌*◌, ◌/◌, ◌%◌, leb, ltb, eqb, length, take, Ok, Err, Some, None}
 use Rattle.std.proofs.Common.{ap, sym, ◌∙◌, arith}
 use Rattle.answer.specs.Stop.{stop}
 use Rattle.answer.specs.Place.{nowhere}
@@ -10,10 +10,8 @@ use Rattle.book.specs.Book.{areas_in, bytes_of_all}
 use Rattle.book.specs.Laws.{Ascending}
 use Rattle.book.specs.Take.{lookup, insert, Outcome, taken, refused, placed, take_block}
 use Rattle.book.specs.TakeLaws.{Took, length-insert}
-use Rattle.book.specs.declared.Found.{Found}
-use Rattle.book.specs.declared.Found.TheVariants.{Area, Nothing}
-use Rattle.book.specs.declared.Judged.{Judged}
-use Rattle.book.specs.declared.Judged.TheVariants.{Held, Refused}
+use Rattle.book.specs.Results.{Found}
+use Rattle.book.specs.Results.{Judged}
 
 -- a number that six bytes say is an area's and a zero bit, and its ID is `least` or more
 unfoldable pub sound_area : (least x : ℕ) → Bool
@@ -21,41 +19,41 @@ sound_area least x = eqb (x % 2) 0 && (leb least (sf031 (x / 2)) && is_area (x /
 
 -- how many areas are held afterwards, or the refusal
 abbrev pub judged_by : Outcome → Judged
-judged_by (taken l) = Held (length l)
-judged_by (refused r) = Refused r
+judged_by (taken l) = Ok (length l)
+judged_by (refused r) = Err r
 
 abbrev pub is_taken : Outcome → Bool
 is_taken (taken l) = true
 is_taken (refused r) = false
 
 abbrev pub judge_found : ℕ → Found → ℕ → Judged
-judge_found a (Area b) n = cond (eqb a b) (Held n) (Refused (nowhere Conflict))
-judge_found a Nothing n = cond (ltb n most_areas) (Held (n + 1)) (Refused (nowhere BookFull))
+judge_found a (Some b) n = cond (eqb a b) (Ok n) (Err (nowhere Conflict))
+judge_found a None n = cond (ltb n most_areas) (Ok (n + 1)) (Err (nowhere BookFull))
 
 abbrev pub judge_block : ℕ → Found → ℕ → Judged
-judge_block a f n = cond (area_off a) (Refused (nowhere AreaOff)) (judge_found a f n)
+judge_block a f n = cond (area_off a) (Err (nowhere AreaOff)) (judge_found a f n)
 
 pub judge-is : (a : ℕ) (l : List ℕ) → judged_by (take_block a l) ≡ judge_block a (lookup (sf031 a) l) (length l)
 unfolding take_block
 judge-is a l = go (area_off a) (lookup (sf031 a) l)
   where
-    go : (t : Bool) (f : Found) → judged_by (stop t (refused (nowhere AreaOff)) (placed a l f)) ≡ cond t (Refused (nowhere AreaOff)) (judge_found a f (length l))
+    go : (t : Bool) (f : Found) → judged_by (stop t (refused (nowhere AreaOff)) (placed a l f)) ≡ cond t (Err (nowhere AreaOff)) (judge_found a f (length l))
     go true f = refl
-    go false (Area b) = by (eqb a b)
+    go false (Some b) = by (eqb a b)
       where
-        by : (x : Bool) → judged_by (cond x (taken l) (refused (nowhere Conflict))) ≡ cond x (Held (length l)) (Refused (nowhere Conflict))
+        by : (x : Bool) → judged_by (cond x (taken l) (refused (nowhere Conflict))) ≡ cond x (Ok (length l)) (Err (nowhere Conflict))
         by true = refl
         by false = refl
-    go false Nothing = by (ltb (length l) most_areas)
+    go false None = by (ltb (length l) most_areas)
       where
-        by : (x : Bool) → judged_by (cond x (taken (insert a l)) (refused (nowhere BookFull))) ≡ cond x (Held (length l + 1)) (Refused (nowhere BookFull))
-        by true = ap Held (length-insert a l ∙ omega arith)
+        by : (x : Bool) → judged_by (cond x (taken (insert a l)) (refused (nowhere BookFull))) ≡ cond x (Ok (length l + 1)) (Err (nowhere BookFull))
+        by true = ap Ok (length-insert a l ∙ omega arith)
         by false = refl
 
 -- the areas after one was taken: they are the same where it was held
 abbrev pub grown_by : ℕ → List ℕ → Found → List ℕ
-grown_by a l (Area b) = l
-grown_by a l Nothing = insert a l
+grown_by a l (Some b) = l
+grown_by a l None = insert a l
 
 unfoldable pub grown : ℕ → List ℕ → List ℕ
 grown a l = grown_by a l (lookup (sf031 a) l)

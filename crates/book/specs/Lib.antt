@@ -1,3 +1,4 @@
+pub mod Results
 pub mod Book
 pub mod Take
 pub mod Laws

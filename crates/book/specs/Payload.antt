@@ -1,5 +1,5 @@
 -- Mirror: a GAD payload at its bits, as the code reads it; and, proved, that where a payload is accepted these are what its layout reads (`gad-at-bits`).
-use Rattle.std.specs.Prelude.{◌≡◌, refl, Bool, false, ◌&&◌, take}
+use Rattle.std.specs.Prelude.{◌≡◌, refl, Bool, false, ◌&&◌, take, Ok}
 use Rattle.std.proofs.Math.Path.{ap, ap₂, subst}
 use Rattle.std.proofs.Common.{sym, ◌∙◌, add_assoc, arith, drop-drop}
 use Rattle.std.proofs.Math.Bool.{true}
@@ -15,7 +15,6 @@ use Rattle.bits.specs.Bits.{to_bits, number}
 use Rattle.bits.specs.Bits as bits
 use Rattle.bits.specs.Laws.{length-to_bits, field_lt, field-split, field-part}
 use Rattle.layout.specs.declared.Field.{Field}
-use Rattle.layout.specs.declared.Verdict.TheVariants.{Taken}
 use Rattle.layout.specs.Layout.{Layout, done, field, judge, accepted, refused, read_l}
 use Rattle.layout.specs.Parts.{times}
 use Rattle.layout.specs.RoundTrip.{enough-acc, judged-acc, before_acc}
@@ -80,7 +79,7 @@ module _ {A : Type 0} (s : List ℕ) (v : A) where
     reads : read_l l (drop pos (to_bits s)) ≡ accepted v codes used
 
   past : {f : Field} {next : ℕ → Layout A} {pos : ℕ} → From (field f next) pos
-      → (judge f (bits.field s pos f.width) ≡ Taken) × From (next (bits.field s pos f.width)) (pos + f.width)
+      → (judge f (bits.field s pos f.width) ≡ Ok tt) × From (next (bits.field s pos f.width)) (pos + f.width)
   unfolding read_l bits.field
   past {f} {next} {pos} r =
       let w : ℕ = f.width in
@@ -107,7 +106,7 @@ module _ {A : Type 0} (s : List ℕ) (v : A) where
   first r = record { says = refl; here = (past r).1 }
 
   further : {f : Field} {next : ℕ → Layout A} {pos n x : ℕ} → Behind pos n x (field f next)
-      → (judge f (bits.field s (pos + n) f.width) ≡ Taken)
+      → (judge f (bits.field s (pos + n) f.width) ≡ Ok tt)
       × Behind pos (n + f.width) (x * 2 ^ f.width + bits.field s (pos + n) f.width) (next (bits.field s (pos + n) f.width))
   further {f} {next} {pos} {n} {x} b =
       let p = past b.here in

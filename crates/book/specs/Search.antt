@@ -1,5 +1,5 @@
 -- Laws: an ID among areas that ascend, and from where the search for the next one can go on. Proved; assumes nothing.
-use Rattle.std.specs.Prelude.{◌≡◌, refl, Bool, true, false, List, [], ◌∷◌, ◌++◌, ℕ, zero, suc, ◌≤◌, ◌<◌, ltb, length, get_or, take, drop}
+use Rattle.std.specs.Prelude.{◌≡◌, refl, Bool, true, false, List, [], ◌∷◌, ◌++◌, ℕ, zero, suc, ◌≤◌, ◌<◌, ltb, length, get_or, take, drop, Some, None}
 use Rattle.std.proofs.Math.Path.{ap}
 use Rattle.std.proofs.Common.{sym, ◌∙◌, arith, take-append-drop, drop_of_length-le, drop-cons, le-ltb, ltb-true, ltb-false, eq-eqb, ne_eqb}
 use Rattle.std.proofs.Math.Bool.{cond}
@@ -8,7 +8,6 @@ use Rattle.book.specs.Book.{areas_in}
 use Rattle.book.specs.Laws.{Ascending, length-areas}
 use Rattle.book.specs.Take.{lookup, insert}
 use Rattle.book.specs.TakeLaws.{or_else, lookup-append}
-use Rattle.book.specs.declared.Found.TheVariants.{Area, Nothing}
 
 -- ---- IDs below a number
 
@@ -31,13 +30,13 @@ below_next top zero (a ∷ l) p h k = Below.more k Below.none
 below_next top (suc i) (a ∷ l) (Below.more q p) h k = Below.more q (below_next top i l p (omega arith) k)
 
 -- an ID that is above all of a list is not in it,
-pub lookup-below : (id : ℕ) (l : List ℕ) → Below id l → lookup id l ≡ Nothing
+pub lookup-below : (id : ℕ) (l : List ℕ) → Below id l → lookup id l ≡ None
 unfolding lookup
 lookup-below id [] Below.none = refl
 lookup-below id (a ∷ l) (Below.more h p) = rw (ne_eqb (sf031 a) id (λ e. omega arith)) (lookup-below id l p)
 
 -- nor is one that is below all of ascending ones
-pub lookup-under : (id least : ℕ) (l : List ℕ) → Ascending least l → id < least → lookup id l ≡ Nothing
+pub lookup-under : (id least : ℕ) (l : List ℕ) → Ascending least l → id < least → lookup id l ≡ None
 unfolding lookup
 lookup-under id least [] Ascending.none q = refl
 lookup-under id least (a ∷ l) (Ascending.more h k p) q =
@@ -75,12 +74,12 @@ module _ (id n r : ℕ) (s : List ℕ) (up : Ascending 0 (areas_in n s)) (q : Re
       ∙ lookup-append id (take r (areas_in n s)) (drop r (areas_in n s))
       ∙ ap (λ f. or_else f (lookup id (drop r (areas_in n s)))) (lookup-below id (take r (areas_in n s)) q.below)
 
-  pub reached-end : n ≤ r → lookup id (areas_in n s) ≡ Nothing
+  pub reached-end : n ≤ r → lookup id (areas_in n s) ≡ None
   unfolding lookup
   reached-end h = behind ∙ ap (lookup id) (drop_of_length-le (areas_in n s) {i = r} (omega (arith, length-areas n s)))
 
   module _ (h : r < n) where
-    pub reached-other : (sf031 (get_or (areas_in n s) r 0) ≡ id → ⊥) → lookup id (areas_in n s) ≡ Nothing
+    pub reached-other : (sf031 (get_or (areas_in n s) r 0) ≡ id → ⊥) → lookup id (areas_in n s) ≡ None
     reached-other k =
         behind
         ∙ lookup-under id (sf031 (get_or (areas_in n s) r 0)) (drop r (areas_in n s)) (ascending-drop r 0 (areas_in n s) up (omega (arith, length-areas n s))) (apart (q.above h) k)
@@ -92,8 +91,8 @@ module _ (id n r : ℕ) (s : List ℕ) (up : Ascending 0 (areas_in n s)) (q : Re
             go true e = ltb-true x y e
             go false e = absurd (f (omega (arith, ltb-false x y e)))
 
-    pub reached-found : sf031 (get_or (areas_in n s) r 0) ≡ id → lookup id (areas_in n s) ≡ Area (get_or (areas_in n s) r 0)
+    pub reached-found : sf031 (get_or (areas_in n s) r 0) ≡ id → lookup id (areas_in n s) ≡ Some (get_or (areas_in n s) r 0)
     unfolding lookup
     reached-found e =
         behind ∙ ap (lookup id) (drop-cons (areas_in n s) r 0 (omega (arith, length-areas n s)))
-        ∙ ap (λ b. cond b (Area (get_or (areas_in n s) r 0)) (lookup id (drop (suc r) (areas_in n s)))) (eq-eqb (sf031 (get_or (areas_in n s) r 0)) id e)
+        ∙ ap (λ b. cond b (Some (get_or (areas_in n s) r 0)) (lookup id (drop (suc r) (areas_in n s)))) (eq-eqb (sf031 (get_or (areas_in n s) r 0)) id e)

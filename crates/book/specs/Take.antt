@@ -1,5 +1,5 @@
 -- Definitions to believe: what a GAD does to the book (document 01, "Book and run"; document 02, request 5, "One solution update per book").
-use Rattle.std.specs.Prelude.{Bool, cond, not, ◌&&◌, List, [], ◌∷◌, ◌++◌, map, ℕ, ◌+◌, ◌*◌, ◌^◌, ltb, eqb, length, drop}
+use Rattle.std.specs.Prelude.{Bool, cond, not, ◌&&◌, List, [], ◌∷◌, ◌++◌, map, ℕ, ◌+◌, ◌*◌, ◌^◌, ltb, eqb, length, drop, Ok, Err, Some, None}
 use Rattle.answer.specs.Number.{number_of}
 use Rattle.answer.specs.Stop.{stop}
 use Rattle.answer.specs.Place.{nowhere}
@@ -13,10 +13,8 @@ use Rattle.area.specs.Area.{sf031, area_off}
 use Rattle.sizes.specs.Sizes.{most_areas, book_bytes}
 use Rattle.book.specs.Book.{book_of, areas_in, bytes_of_all, sound}
 use Rattle.book.specs.declared.Book.{Book}
-use Rattle.book.specs.declared.Found.{Found}
-use Rattle.book.specs.declared.Found.TheVariants.{Area, Nothing}
-use Rattle.book.specs.declared.Taken.{Taken}
-use Rattle.book.specs.declared.Taken.TheVariants.{Holds, Refused}
+use Rattle.book.specs.Results.{Found}
+use Rattle.book.specs.Results.{Taken}
 
 -- what follows from the GAD that was read, and what from a refusal; nothing else is read from a payload of type 2-0
 abbrev pub reading : {B : Type 0} → layout.Outcome Message → (Gad → B) → (answer.Fault → B) → B
@@ -36,12 +34,12 @@ areas_of blocks = map area_of blocks
 
 -- the first area with this ID
 unfoldable pub lookup : ℕ → List ℕ → Found
-lookup id [] = Nothing
-lookup id (a ∷ l) = cond (eqb (sf031 a) id) (Area a) (lookup id l)
+lookup id [] = None
+lookup id (a ∷ l) = cond (eqb (sf031 a) id) (Some a) (lookup id l)
 
 -- the same among the first n areas in a book's bytes; bytes that are too few for them hold none
 unfoldable pub looked : (id n : ℕ) → (s : List ℕ) → Found
-looked id n s = cond (ltb (length s) (6 * n)) Nothing (lookup id (areas_in n s))
+looked id n s = cond (ltb (length s) (6 * n)) None (lookup id (areas_in n s))
 
 -- an area takes its place by ID
 unfoldable pub insert : ℕ → List ℕ → List ℕ
@@ -55,8 +53,8 @@ pub data Outcome : Type 0 where
 
 -- "An identical repeat changes nothing." CONFLICT: "same area ID and AIOU, other definition", and the same SIOU, since another begins a new book. BOOK_FULL: "a 33rd area ID".
 abbrev pub placed : ℕ → List ℕ → Found → Outcome
-placed a l (Area b) = cond (eqb a b) (taken l) (refused (nowhere Conflict))
-placed a l Nothing = cond (ltb (length l) most_areas) (taken (insert a l)) (refused (nowhere BookFull))
+placed a l (Some b) = cond (eqb a b) (taken l) (refused (nowhere Conflict))
+placed a l None = cond (ltb (length l) most_areas) (taken (insert a l)) (refused (nowhere BookFull))
 
 -- a block, in the order AREA_OFF, CONFLICT, BOOK_FULL
 unfoldable pub take_block : ℕ → List ℕ → Outcome
@@ -88,8 +86,8 @@ outcome book s payload =
 
 -- what `take` answers, "The book now also holds the SIOU of the GAD that filled it.", and what it leaves of the lent bytes: "only bytes of areas held are written", and a refusal changes nothing
 abbrev pub answer_of : Outcome → (aiou siou : ℕ) → Taken
-answer_of (taken l) aiou siou = Holds (book_of (aiou + 1) (siou + 1) (length l))
-answer_of (refused r) aiou siou = Refused r
+answer_of (taken l) aiou siou = Ok (book_of (aiou + 1) (siou + 1) (length l))
+answer_of (refused r) aiou siou = Err r
 
 abbrev pub left_by : Outcome → List ℕ → List ℕ
 left_by (taken l) s = bytes_of_all l ++ drop (6 * length l) s
@@ -103,5 +101,5 @@ bytes_after book s payload = left_by (outcome book s payload) s
 
 -- the answer's number in document 01
 abbrev pub number_of_taken : Taken → ℕ
-number_of_taken (Holds book) = 0
-number_of_taken (Refused fault) = number_of fault.refusal
+number_of_taken (Ok book) = 0
+number_of_taken (Err fault) = number_of fault.refusal

@@ -1,5 +1,5 @@
 -- Laws: looking an ID up, an area that takes its place, and what it is that a block and all blocks were taken. Proved; assumes nothing.
-use Rattle.std.specs.Prelude.{◌≡◌, Bool, cond, not, ◌&&◌, List, [], ◌∷◌, ◌++◌, ℕ, zero, suc, ◌^◌, ◌≤◌, ◌<◌, ltb, length, get_or}
+use Rattle.std.specs.Prelude.{◌≡◌, Bool, cond, not, ◌&&◌, List, [], ◌∷◌, ◌++◌, ℕ, zero, suc, ◌^◌, ◌≤◌, ◌<◌, ltb, length, get_or, Some, None}
 use Rattle.std.proofs.Math.Path.{refl, ap, ap₂}
 use Rattle.std.proofs.Common.{sym, ◌∙◌, subst, arith, lt-ltb, ltb-true, ltb-false, eq-eqb, eqb-true, ne_eqb}
 use Rattle.std.proofs.Math.Bool.{true, false}
@@ -13,8 +13,7 @@ use Rattle.sizes.specs.Sizes.{most_areas}
 use Rattle.book.specs.Take.{lookup, insert, Outcome, taken, refused, placed, take_block, and_then, take_all, is_under}
 use Rattle.book.specs.Laws.{Ascending, Areas}
 use Rattle.book.specs.declared.Book.{Book}
-use Rattle.book.specs.declared.Found.{Found}
-use Rattle.book.specs.declared.Found.TheVariants.{Area, Nothing}
+use Rattle.book.specs.Results.{Found}
 
 -- ---- of one AIOU and SIOU
 
@@ -38,48 +37,48 @@ module _ (book : Book) (aiou siou : ℕ) where
 -- ---- looking up
 
 abbrev pub or_else : Found → Found → Found
-or_else (Area a) f = Area a
-or_else Nothing f = f
+or_else (Some a) f = Some a
+or_else None f = f
 
 pub or_assoc : (f g h : Found) → or_else (or_else f g) h ≡ or_else f (or_else g h)
-or_assoc (Area a) g h = refl
-or_assoc Nothing g h = refl
+or_assoc (Some a) g h = refl
+or_assoc None g h = refl
 
-pub or_nothing : (f : Found) → or_else f Nothing ≡ f
-or_nothing (Area a) = refl
-or_nothing Nothing = refl
+pub or_nothing : (f : Found) → or_else f None ≡ f
+or_nothing (Some a) = refl
+or_nothing None = refl
 
 pub lookup-append : (id : ℕ) (l m : List ℕ) → lookup id (l ++ m) ≡ or_else (lookup id l) (lookup id m)
 unfolding lookup
 lookup-append id [] m = refl
 lookup-append id (a ∷ l) m = go (eqb (sf031 a) id) (lookup-append id l m)
   where
-    go : (b : Bool) → lookup id (l ++ m) ≡ or_else (lookup id l) (lookup id m) → cond b (Area a) (lookup id (l ++ m)) ≡ or_else (cond b (Area a) (lookup id l)) (lookup id m)
+    go : (b : Bool) → lookup id (l ++ m) ≡ or_else (lookup id l) (lookup id m) → cond b (Some a) (lookup id (l ++ m)) ≡ or_else (cond b (Some a) (lookup id l)) (lookup id m)
     go true ih = refl
     go false ih = ih
 
 -- where the ID is new, the first area does not have it, nor do the others
-new-first : (id b : ℕ) (l : List ℕ) → lookup id (b ∷ l) ≡ Nothing → (sf031 b ≡ id → ⊥) × (lookup id l ≡ Nothing)
+new-first : (id b : ℕ) (l : List ℕ) → lookup id (b ∷ l) ≡ None → (sf031 b ≡ id → ⊥) × (lookup id l ≡ None)
 unfolding lookup
 new-first id b l e = go (eqb (sf031 b) id) refl e
   where
-    go : (t : Bool) → eqb (sf031 b) id ≡ t → cond t (Area b) (lookup id l) ≡ Nothing → (sf031 b ≡ id → ⊥) × (lookup id l ≡ Nothing)
+    go : (t : Bool) → eqb (sf031 b) id ≡ t → cond t (Some b) (lookup id l) ≡ None → (sf031 b ≡ id → ⊥) × (lookup id l ≡ None)
     go true q e = let z : ◌≡◌ {A = ℕ} 0 1 = cc in absurd (omega arith)
     go false q e = (eqb-false _ _ q, e)
 
-pub lookup-insert : (id a : ℕ) (l : List ℕ) → lookup (sf031 a) l ≡ Nothing → lookup id (insert a l) ≡ or_else (lookup id l) (lookup id (a ∷ []))
+pub lookup-insert : (id a : ℕ) (l : List ℕ) → lookup (sf031 a) l ≡ None → lookup id (insert a l) ≡ or_else (lookup id l) (lookup id (a ∷ []))
 unfolding lookup insert
 lookup-insert id a [] e = refl
 lookup-insert id a (b ∷ l) e =
     let n = new-first (sf031 a) b l e in
     go (ltb (sf031 a) (sf031 b)) (eqb (sf031 a) id) refl (eqb (sf031 b) id) refl n.0 n.1 (lookup-insert id a l n.1)
   where
-    absent : sf031 a ≡ id → lookup (sf031 a) l ≡ Nothing → lookup id l ≡ Nothing
+    absent : sf031 a ≡ id → lookup (sf031 a) l ≡ None → lookup id l ≡ None
     absent q e = ap (λ i. lookup i l) (sym q) ∙ e
 
-    go : (t x : Bool) → eqb (sf031 a) id ≡ x → (y : Bool) → eqb (sf031 b) id ≡ y → (sf031 b ≡ sf031 a → ⊥) → lookup (sf031 a) l ≡ Nothing
-        → lookup id (insert a l) ≡ or_else (lookup id l) (cond x (Area a) Nothing)
-        → lookup id (cond t (a ∷ b ∷ l) (b ∷ insert a l)) ≡ or_else (cond y (Area b) (lookup id l)) (cond x (Area a) Nothing)
+    go : (t x : Bool) → eqb (sf031 a) id ≡ x → (y : Bool) → eqb (sf031 b) id ≡ y → (sf031 b ≡ sf031 a → ⊥) → lookup (sf031 a) l ≡ None
+        → lookup id (insert a l) ≡ or_else (lookup id l) (cond x (Some a) None)
+        → lookup id (cond t (a ∷ b ∷ l) (b ∷ insert a l)) ≡ or_else (cond y (Some b) (lookup id l)) (cond x (Some a) None)
     go true true p true q k n ih = absurd (k (eqb-true _ _ q ∙ sym (eqb-true _ _ p)))
     go true true p false q k n ih = rw p (rw (absent (eqb-true _ _ p) n))
     go true false p true q k n ih = rw (p, q)
@@ -98,7 +97,7 @@ length-insert a (b ∷ l) = go (ltb (sf031 a) (sf031 b)) (length-insert a l)
     go true ih = refl
     go false ih = ap suc ih
 
-pub ascending-insert : (a : ℕ) (l : List ℕ) (least : ℕ) → a < 2 ^ 47 → least ≤ sf031 a → lookup (sf031 a) l ≡ Nothing → Ascending least l → Ascending least (insert a l)
+pub ascending-insert : (a : ℕ) (l : List ℕ) (least : ℕ) → a < 2 ^ 47 → least ≤ sf031 a → lookup (sf031 a) l ≡ None → Ascending least l → Ascending least (insert a l)
 unfolding insert
 ascending-insert a [] least h k e p = Ascending.more k h Ascending.none
 ascending-insert a (b ∷ l) least h k e (Ascending.more kb hb p) =
@@ -130,8 +129,8 @@ areas-insert a (b ∷ l) h (Areas.more hb p) = go (ltb (sf031 a) (sf031 b)) (are
 
 -- what it is that a block was taken: it was there, or it was new and took its place
 pub data Took (a : ℕ) (l : List ℕ) : List ℕ → Type 0 where
-  held : area_off a ≡ false → lookup (sf031 a) l ≡ Area a → Took a l l
-  new : area_off a ≡ false → lookup (sf031 a) l ≡ Nothing → length l < most_areas → Took a l (insert a l)
+  held : area_off a ≡ false → lookup (sf031 a) l ≡ Some a → Took a l l
+  new : area_off a ≡ false → lookup (sf031 a) l ≡ None → length l < most_areas → Took a l (insert a l)
 
 pub took : (a : ℕ) (l m : List ℕ) → take_block a l ≡ taken m → Took a l m
 unfolding take_block
@@ -139,23 +138,23 @@ took a l m = go (area_off a) refl (lookup (sf031 a) l) refl
   where
     go : (t : Bool) → area_off a ≡ t → (f : Found) → lookup (sf031 a) l ≡ f → stop t (refused (nowhere AreaOff)) (placed a l f) ≡ taken m → Took a l m
     go true q f r e = let z : ◌≡◌ {A = ℕ} 0 1 = cc in absurd (omega arith)
-    go false q (Area b) r e = by (eqb a b) refl e
+    go false q (Some b) r e = by (eqb a b) refl e
       where
         by : (x : Bool) → eqb a b ≡ x → cond x (taken l) (refused (nowhere Conflict)) ≡ taken m → Took a l m
-        by true p e = let z : l ≡ m = cc in subst (λ m. Took a l m) z (Took.held q (r ∙ ap Area (sym (eqb-true _ _ p))))
+        by true p e = let z : l ≡ m = cc in subst (λ m. Took a l m) z (Took.held q (r ∙ ap Some (sym (eqb-true _ _ p))))
         by false p e = let z : ◌≡◌ {A = ℕ} 0 1 = cc in absurd (omega arith)
-    go false q Nothing r e = by (ltb (length l) most_areas) refl e
+    go false q None r e = by (ltb (length l) most_areas) refl e
       where
         by : (x : Bool) → ltb (length l) most_areas ≡ x → cond x (taken (insert a l)) (refused (nowhere BookFull)) ≡ taken m → Took a l m
         by true p e = let z : insert a l ≡ m = cc in subst (λ m. Took a l m) z (Took.new q r (ltb-true _ _ p))
         by false p e = let z : ◌≡◌ {A = ℕ} 0 1 = cc in absurd (omega arith)
 
-self : (id a : ℕ) (l : List ℕ) → lookup (sf031 a) l ≡ Area a → lookup id l ≡ or_else (lookup id l) (lookup id (a ∷ []))
+self : (id a : ℕ) (l : List ℕ) → lookup (sf031 a) l ≡ Some a → lookup id l ≡ or_else (lookup id l) (lookup id (a ∷ []))
 unfolding lookup
 self id a l e = go (eqb (sf031 a) id) refl
   where
-    go : (t : Bool) → eqb (sf031 a) id ≡ t → lookup id l ≡ or_else (lookup id l) (cond t (Area a) Nothing)
-    go true q = let z : lookup id l ≡ Area a = ap (λ i. lookup i l) (sym (eqb-true _ _ q)) ∙ e in rw z
+    go : (t : Bool) → eqb (sf031 a) id ≡ t → lookup id l ≡ or_else (lookup id l) (cond t (Some a) None)
+    go true q = let z : lookup id l ≡ Some a = ap (λ i. lookup i l) (sym (eqb-true _ _ q)) ∙ e in rw z
     go false q = sym (or_nothing (lookup id l))
 
 -- after a block the book has its areas, and that one
@@ -200,14 +199,14 @@ lookup-after id (a ∷ rest) l n (TookAll.more {m = m} t ts) =
     ∙ ap (or_else (lookup id l)) (sym (lookup-append id (a ∷ []) rest))
 
 -- each block is held under its own ID
-holds-own : (a : ℕ) (l m : List ℕ) → Took a l m → lookup (sf031 a) m ≡ Area a
+holds-own : (a : ℕ) (l m : List ℕ) → Took a l m → lookup (sf031 a) m ≡ Some a
 unfolding lookup
 holds-own a l m (Took.held q e) = e
 holds-own a l m (Took.new q e h) =
-    lookup-block (sf031 a) a l m (Took.new q e h) ∙ ap (λ f. or_else f (cond (eqb (sf031 a) (sf031 a)) (Area a) Nothing)) e
-    ∙ ap (λ b. cond b (Area a) Nothing) (eq-eqb (sf031 a) (sf031 a) refl)
+    lookup-block (sf031 a) a l m (Took.new q e h) ∙ ap (λ f. or_else f (cond (eqb (sf031 a) (sf031 a)) (Some a) None)) e
+    ∙ ap (λ b. cond b (Some a) None) (eq-eqb (sf031 a) (sf031 a) refl)
 
-pub holds-each : (i : ℕ) (blocks l n : List ℕ) → TookAll blocks l n → i < length blocks → lookup (sf031 (get_or blocks i 0)) n ≡ Area (get_or blocks i 0)
+pub holds-each : (i : ℕ) (blocks l n : List ℕ) → TookAll blocks l n → i < length blocks → lookup (sf031 (get_or blocks i 0)) n ≡ Some (get_or blocks i 0)
 holds-each i [] l n TookAll.none h = absurd (omega arith)
 holds-each zero (a ∷ rest) l n (TookAll.more {m = m} t ts) h =
     lookup-after (sf031 a) rest m n ts ∙ ap (λ f. or_else f (lookup (sf031 a) rest)) (holds-own a l m t)
@@ -263,12 +262,12 @@ all_same (a ∷ rest) l n (TookAll.more {m = m} t ts) e = go m t ts (λ q. all_s
     go m (Took.new q f k) ts ih = absurd (omega (arith, length-insert a l, all-grow rest (insert a l) n ts))
 
 -- blocks that are held already change nothing
-pub retake : (blocks l n : List ℕ) → TookAll blocks l n → (x : List ℕ) → ((i : ℕ) → i < length blocks → lookup (sf031 (get_or blocks i 0)) x ≡ Area (get_or blocks i 0))
+pub retake : (blocks l n : List ℕ) → TookAll blocks l n → (x : List ℕ) → ((i : ℕ) → i < length blocks → lookup (sf031 (get_or blocks i 0)) x ≡ Some (get_or blocks i 0))
     → take_all blocks x ≡ taken x
 unfolding take_all take_block
 retake [] l n TookAll.none x h = refl
 retake (a ∷ rest) l n (TookAll.more {m = m} t ts) x h =
-    let held : lookup (sf031 a) x ≡ Area a = h 0 (omega arith) in
+    let held : lookup (sf031 a) x ≡ Some a = h 0 (omega arith) in
     rw (on-grid a l m t, held, eq-eqb a a refl) (retake rest m n ts x (λ i k. h (suc i) (omega arith)))
   where
     on-grid : (a : ℕ) (l m : List ℕ) → Took a l m → area_off a ≡ false

@@ -1,5 +1,5 @@
 -- Laws: what `take` makes of a payload with a sound book, and the areas that it leaves. Proved; assumes nothing.
-use Rattle.std.specs.Prelude.{◌≡◌, refl, Bool, cond, List, [], ◌++◌, ℕ, ◌+◌, ◌*◌, ◌^◌, ◌≤◌, ◌<◌, leb, eqb, length, drop}
+use Rattle.std.specs.Prelude.{◌≡◌, refl, Bool, cond, List, [], ◌++◌, ℕ, ◌+◌, ◌*◌, ◌^◌, ◌≤◌, ◌<◌, leb, eqb, length, drop, Ok, Err}
 use Rattle.std.proofs.Common.{ap, ap₂, sym, ◌∙◌, subst, arith, length-append, length-drop, le-ltb, le-leb, ne_eqb}
 use Rattle.std.proofs.Math.Bool.{true, false}
 use Rattle.answer.specs.declared.Fault as answer
@@ -16,7 +16,6 @@ use Rattle.book.specs.Take.{reading, areas_of, Outcome, taken, refused, take_all
 use Rattle.book.specs.Payload.{block_at, blocks_from, AtBits, gad-only, gad-at-bits}
 use Rattle.book.specs.TakeLaws.{TookAll, took-all, Good, InRange, stays-good, some-area}
 use Rattle.book.specs.declared.Book.{Book}
-use Rattle.book.specs.declared.Taken.TheVariants.{Holds, Refused}
 
 module _ (book : Book) (s payload : List ℕ) (w : sound book s ≡ true) where
   outcome-sound : outcome book s payload ≡ reading (judging 2 0 payload) (λ m. take_all (areas_of m.blocks) (before book s m.aiou m.siou)) (λ why. refused why)
@@ -28,7 +27,7 @@ module _ (book : Book) (s payload : List ℕ) (w : sound book s ≡ true) where
     pub outcome-refused : outcome book s payload ≡ refused why
     outcome-refused = outcome-sound ∙ ap (λ o. reading o (λ m. take_all (areas_of m.blocks) (before book s m.aiou m.siou)) (λ why. refused why)) e
 
-    pub answer-refused : taken_of book s payload ≡ Refused why
+    pub answer-refused : taken_of book s payload ≡ Err why
     answer-refused = ap (λ o. answer_of o (reading (judging 2 0 payload) (λ m. m.aiou) (λ why. 0)) (reading (judging 2 0 payload) (λ m. m.siou) (λ why. 0))) outcome-refused
 
   -- or its blocks into the book
@@ -83,17 +82,17 @@ says-read payload v codes used e =
     let r = gad-only payload v codes used e in
     record { gad = r.0; codes = codes; used = used; reads = e ∙ ap (λ v. layout.accepted v codes used) r.1 }
 
-pub says : (book : Book) (s payload : List ℕ) (after : Book) → sound book s ≡ true → taken_of book s payload ≡ Holds after → Says payload
+pub says : (book : Book) (s payload : List ℕ) (after : Book) → sound book s ≡ true → taken_of book s payload ≡ Ok after → Says payload
 says book s payload after w e = go (judging 2 0 payload) refl
   where
     go : (o : layout.Outcome Message) → judging 2 0 payload ≡ o → Says payload
     go (layout.accepted v codes used) q = says-read payload v codes used q
     go (layout.refused why) q =
-        let z : Refused why ≡ Holds after = sym (answer-refused book s payload w why q) ∙ e in
+        let z : Err why ≡ Ok after = sym (answer-refused book s payload w why q) ∙ e in
         let y : ◌≡◌ {A = ℕ} 0 1 = cc in
         absurd (omega arith)
 
-module _ (book : Book) (s payload : List ℕ) (after : Book) (w : sound book s ≡ true) (e : taken_of book s payload ≡ Holds after)
+module _ (book : Book) (s payload : List ℕ) (after : Book) (w : sound book s ≡ true) (e : taken_of book s payload ≡ Ok after)
     (m : Gad) (codes : List ℕ) (used : ℕ) (r : judging 2 0 payload ≡ layout.accepted (gad_message m) codes used) where
   -- the areas held afterwards
   pub record Left : Type 0 where
@@ -104,7 +103,7 @@ module _ (book : Book) (s payload : List ℕ) (after : Book) (w : sound book s �
   pub left : Left
   left = go (take_all (areas_of m.blocks) (before book s m.aiou m.siou)) refl (sym (answer-read book s payload w m codes used r) ∙ e)
     where
-      go : (o : Outcome) → take_all (areas_of m.blocks) (before book s m.aiou m.siou) ≡ o → answer_of o m.aiou m.siou ≡ Holds after → Left
+      go : (o : Outcome) → take_all (areas_of m.blocks) (before book s m.aiou m.siou) ≡ o → answer_of o m.aiou m.siou ≡ Ok after → Left
       go (taken l) q e = record { areas = l; is = q; head = cc }
       go (refused r) q e = let z : ◌≡◌ {A = ℕ} 0 1 = cc in absurd (omega arith)
 

@@ -2,7 +2,7 @@
 -- there was, else the GAD's block, else nothing (`in-book`, and its three parts `block-found`, `area-stays`, `nothing-else`). It has the GAD's AIOU and SIOU (`has-update`); a GAD of the
 -- book's own adds to it (`same-adds`), one of another AIOU or SIOU is judged from an empty book, and only its blocks are found then (`another-begins`, `another-alone`), as over a book
 -- of unknown SIOU every one is (`unknown-begins`). Proved; assumes nothing.
-use Rattle.std.specs.Prelude.{◌≡◌, ◌⊎◌, Bool, true, ◌&&◌, List, [], ◌∷◌, ◌++◌, ℕ, ◌+◌, ◌*◌, ◌<◌, get_or, drop}
+use Rattle.std.specs.Prelude.{◌≡◌, ◌⊎◌, Bool, true, ◌&&◌, List, [], ◌∷◌, ◌++◌, ℕ, ◌+◌, ◌*◌, ◌<◌, get_or, drop, Ok, Err, Some, None}
 use Rattle.std.proofs.Math.Path.{refl, ap}
 use Rattle.std.proofs.Common.{ap₂, sym, ◌∙◌, inl, inr, arith, drop_at}
 use Rattle.std.proofs.Math.Bool.{false, cond}
@@ -23,26 +23,24 @@ use Rattle.book.specs.TakeLaws.{is-under, other-aiou, other-siou, or_else, TookA
 use Rattle.book.specs.FindLaws.{bytes_of_found, found_in, found-is}
 use Rattle.book.specs.TakenLaws.{outcome-read, answer-read, Says, says, Left, left, all-taken, good-after, bytes-are, sound-after}
 use Rattle.book.specs.declared.Book.{Book}
-use Rattle.book.specs.declared.Found.{Found}
-use Rattle.book.specs.declared.Found.TheVariants.{Area, Nothing}
-use Rattle.book.specs.declared.Taken.TheVariants.{Holds, Refused}
+use Rattle.book.specs.Results.{Found}
 
 -- A sound book stays sound, whatever the payload is.
-pub stays-sound : (book : Book) (s payload : List ℕ) (after : Book) → sound book s ≡ true → taken_of book s payload ≡ Holds after → sound after (bytes_after book s payload) ≡ true
+pub stays-sound : (book : Book) (s payload : List ℕ) (after : Book) → sound book s ≡ true → taken_of book s payload ≡ Ok after → sound after (bytes_after book s payload) ≡ true
 stays-sound book s payload after w e =
     let m : Says payload = says book s payload after w e in
     sound-after book s payload after w e m.gad m.codes m.used m.reads
 
 -- "It is taken whole or refused": a refusal changes nothing.
-pub refusal-keeps : (book : Book) (s payload : List ℕ) (r : answer.Fault) → taken_of book s payload ≡ Refused r → bytes_after book s payload ≡ s
+pub refusal-keeps : (book : Book) (s payload : List ℕ) (r : answer.Fault) → taken_of book s payload ≡ Err r → bytes_after book s payload ≡ s
 refusal-keeps book s payload r = go (outcome book s payload)
   where
-    go : (o : Outcome) → answer_of o (reading (judging 2 0 payload) (λ m. m.aiou) (λ why. 0)) (reading (judging 2 0 payload) (λ m. m.siou) (λ why. 0)) ≡ Refused r → left_by o s ≡ s
+    go : (o : Outcome) → answer_of o (reading (judging 2 0 payload) (λ m. m.aiou) (λ why. 0)) (reading (judging 2 0 payload) (λ m. m.siou) (λ why. 0)) ≡ Err r → left_by o s ≡ s
     go (taken l) e = let z : ◌≡◌ {A = ℕ} 0 1 = cc in absurd (omega arith)
     go (refused q) e = refl
 
 -- "An identical repeat changes nothing."
-module _ (book : Book) (s payload : List ℕ) (after : Book) (w : sound book s ≡ true) (e : taken_of book s payload ≡ Holds after) where
+module _ (book : Book) (s payload : List ℕ) (after : Book) (w : sound book s ≡ true) (e : taken_of book s payload ≡ Ok after) where
   module _ (m : Gad) (codes : List ℕ) (used : ℕ) (r : judging 2 0 payload ≡ accepted (gad_message m) codes used) where
     abbrev kept : List ℕ
     kept = (left book s payload after w e m codes used r).areas
@@ -59,18 +57,18 @@ module _ (book : Book) (s payload : List ℕ) (after : Book) (w : sound book s �
         ∙ areas-bytes kept (drop (6 * length kept) s) 0 (good-after book s payload after w e m codes used r).ascending)
         ∙ retake (areas_of m.blocks) (before book s m.aiou m.siou) kept all kept (λ i. holds-each i (areas_of m.blocks) (before book s m.aiou m.siou) kept all)
 
-    repeat_read : (taken_of after (bytes_after book s payload) payload ≡ Holds after) × (bytes_after after (bytes_after book s payload) payload ≡ bytes_after book s payload)
+    repeat_read : (taken_of after (bytes_after book s payload) payload ≡ Ok after) × (bytes_after after (bytes_after book s payload) payload ≡ bytes_after book s payload)
     repeat_read =
         let s₁ : List ℕ = bytes_after book s payload in
         let w₁ : sound after s₁ ≡ true = sound-after book s payload after w e m codes used r in
         let bytes : s₁ ≡ bytes_of_all kept ++ drop (6 * length kept) s = bytes-are book s payload after w e m codes used r in
         let rest : drop (6 * length kept) s₁ ≡ drop (6 * length kept) s
         = ap (drop (6 * length kept)) bytes ∙ drop_at (bytes_of_all kept) (drop (6 * length kept) s) (6 * length kept) (length-bytes kept) in (
-          answer-read after s₁ payload w₁ m codes used r ∙ ap (λ o. answer_of o m.aiou m.siou) again ∙ ap Holds (sym (left book s payload after w e m codes used r).head),
+          answer-read after s₁ payload w₁ m codes used r ∙ ap (λ o. answer_of o m.aiou m.siou) again ∙ ap Ok (sym (left book s payload after w e m codes used r).head),
           ap (λ o. left_by o s₁) (outcome-read after s₁ payload w₁ m codes used r ∙ again) ∙ ap (λ t. bytes_of_all kept ++ t) rest ∙ sym bytes,
         )
 
-  pub repeat-keeps : (taken_of after (bytes_after book s payload) payload ≡ Holds after) × (bytes_after after (bytes_after book s payload) payload ≡ bytes_after book s payload)
+  pub repeat-keeps : (taken_of after (bytes_after book s payload) payload ≡ Ok after) × (bytes_after after (bytes_after book s payload) payload ≡ bytes_after book s payload)
   repeat-keeps = let m : Says payload = says book s payload after w e in repeat_read m.gad m.codes m.used m.reads
 
 -- ---- what is found afterwards
@@ -85,8 +83,8 @@ first_of [] y = y
 first_of (x ∷ xs) y = x ∷ xs
 
 bytes-or : (f g : Found) → bytes_of_found (or_else f g) ≡ first_of (bytes_of_found f) (bytes_of_found g)
-bytes-or (Area a) g = refl
-bytes-or Nothing g = refl
+bytes-or (Some a) g = refl
+bytes-or None g = refl
 
 first-stays : (x y : List ℕ) → (x ≡ [] → ⊥) → first_of x y ≡ x
 first-stays [] y h = absurd (h refl)
@@ -125,7 +123,7 @@ module _ (book : Book) (s payload : List ℕ) (w : sound book s ≡ true) (m : G
   unknown-begins e = another-begins (inr (λ q. omega arith))
 
 -- After a GAD m was taken into a sound book (s are bytes, as those of every slice of u8 are):
-module _ (book : Book) (s payload : List ℕ) (after : Book) (w : sound book s ≡ true) (b : Bytes s) (e : taken_of book s payload ≡ Holds after)
+module _ (book : Book) (s payload : List ℕ) (after : Book) (w : sound book s ≡ true) (b : Bytes s) (e : taken_of book s payload ≡ Ok after)
     (m : Gad) (codes : List ℕ) (used : ℕ) (r : judging 2 0 payload ≡ accepted (gad_message m) codes used) (id : AreaId) where
   abbrev held : Left book s payload after w e m codes used r
   held = left book s payload after w e m codes used r
@@ -158,7 +156,7 @@ module _ (book : Book) (s payload : List ℕ) (after : Book) (w : sound book s �
       in-book ∙ ap (λ x. first_of x (bytes_of_found (lookup id.0 (areas_of m.blocks)))) z ∙ first-stays (found book s id) _ h
 
   -- and nothing else is.
-  pub nothing-else : found_before book s m.aiou m.siou id ≡ [] → lookup id.0 (areas_of m.blocks) ≡ Nothing → found after (bytes_after book s payload) id ≡ []
+  pub nothing-else : found_before book s m.aiou m.siou id ≡ [] → lookup id.0 (areas_of m.blocks) ≡ None → found after (bytes_after book s payload) id ≡ []
   nothing-else p q = in-book ∙ ap₂ (λ x y. first_of x (bytes_of_found y)) p q
 
   -- After a GAD of another AIOU or SIOU only its own blocks are found.

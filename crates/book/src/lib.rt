@@ -13,6 +13,7 @@ ghost use Rattle.book.specs.TakeLaws.{or_else};
 ghost use Rattle.book.specs.Search.{Below, Passed, Reached};
 ghost use Rattle.book.specs.Judge.{sound_area, judged_by, is_taken, judge_found, judge_block, grown, Image};
 
+use quick::Extent;
 use answer::{Fault, Place, Refusal};
 use area::AreaId;
 use sheet::ReadAnswer;
@@ -27,25 +28,13 @@ pub struct Book {
 }
 
 // The area with an ID, if there is one.
-#[derive(Clone, Copy)]
-pub enum Found {
-    Area(u64),
-    Nothing,
-}
+pub type Found = Option<u64>;
 
 // How many areas the book would hold, or why a block is refused.
-#[derive(Clone, Copy)]
-enum Judged {
-    Held(usize),
-    Refused(Fault),
-}
+type Judged = Result<usize, Fault>;
 
 // The book that a GAD leaves, or why it is not taken; a fault of the payload with its place, as the reader gives it.
-#[derive(Clone, Copy)]
-pub enum Taken {
-    Holds(Book),
-    Refused(Fault),
-}
+pub type Taken = Result<Book, Fault>;
 
 // The book with this AIOU + 1, this SIOU + 1 and so many areas, and the one without areas. Every book is made by one of the two.
 pub fn book_of(aiou_plus_one: u8, siou_plus_one: u16, count: usize) -> Book
@@ -268,7 +257,7 @@ pub fn look(bytes: &[u8], count: usize, id: u8) -> Found
     ensures { result ≡ looked id count bytes.now }
 {
     if bytes.len() / 6 < count {
-        return Found::Nothing;
+        return None;
     }
     look_in(bytes, count, id)
 }
@@ -280,9 +269,9 @@ fn look_in(bytes: &[u8], count: usize, id: u8) -> Found
 {
     let i = place(bytes, count, id);
     if i < count {
-        return Found::Area(area::number_at(bytes, 6 * i) / 2);
+        return Some(area::number_at(bytes, 6 * i) / 2);
     }
-    Found::Nothing
+    None
 }
 
 // How many areas have a smaller ID, counted on from a place before which all have.
@@ -328,12 +317,12 @@ fn look_at(bytes: &[u8], count: usize, at: usize, id: u8) -> Found
     ensures { result ≡ lookup id (areas_in count bytes.now) }
 {
     if count <= at {
-        return Found::Nothing;
+        return None;
     }
     if bytes[6 * at] != id {
-        return Found::Nothing;
+        return None;
     }
-    Found::Area(area::number_at(bytes, 6 * at) / 2)
+    Some(area::number_at(bytes, 6 * at) / 2)
 }
 
 // The area with this ID among the first n blocks.
@@ -345,11 +334,11 @@ fn look_before(payload: &[u8], n: usize, id: u8) -> Found
     while i < n {
         let area = block(payload, i);
         if area::id(area) == id {
-            return Found::Area(area);
+            return Some(area);
         }
         i += 1;
     }
-    Found::Nothing
+    None
 }
 
 // The same in the book, where so many areas have a smaller ID, and then among the first n blocks. Those have IDs below `least`.
@@ -367,10 +356,10 @@ fn known(
     ensures { result ≡ or_else (lookup id (areas_in count bytes.now)) (lookup id (blocks_from n 0 payload.now)) }
 {
     match look_at(bytes, count, at, id) {
-        Found::Area(area) => Found::Area(area),
-        Found::Nothing => {
+        Some(area) => Some(area),
+        None => {
             if least <= wide(id) {
-                return Found::Nothing;
+                return None;
             }
             look_before(payload, n, id)
         }
@@ -382,23 +371,23 @@ fn judge_found(area: u64, found: Found, held: usize) -> Judged
     ensures { result ≡ judge_found area found held }
 {
     match found {
-        Found::Area(other) => {
+        Some(other) => {
             if area == other {
-                Judged::Held(held)
+                Ok(held)
             } else {
-                Judged::Refused(Fault {
+                Err(Fault {
                     refusal: Refusal::Conflict,
-                    place: Place::Nowhere,
+                    place: None,
                 })
             }
         }
-        Found::Nothing => {
+        None => {
             if held < sizes::MOST_AREAS {
-                Judged::Held(held + 1)
+                Ok(held + 1)
             } else {
-                Judged::Refused(Fault {
+                Err(Fault {
                     refusal: Refusal::BookFull,
-                    place: Place::Nowhere,
+                    place: None,
                 })
             }
         }
@@ -410,9 +399,9 @@ fn judge_block(area: u64, found: Found, held: usize) -> Judged
     ensures { result ≡ judge_block area found held }
 {
     if area::is_off(area) {
-        return Judged::Refused(Fault {
+        return Err(Fault {
             refusal: Refusal::AreaOff,
-            place: Place::Nowhere,
+            place: None,
         });
     }
     judge_found(area, found, held)
@@ -433,18 +422,18 @@ fn judge(bytes: &[u8], count: usize, payload: &[u8]) -> Judged
         let id = area::id(area);
         let next = seek(bytes, count, at, least, id);
         match judge_block(area, known(bytes, count, payload, i, next, least, id), held) {
-            Judged::Held(more) => {
+            Ok(more) => {
                 held = more;
                 at = next;
                 least = past(least, id);
                 i += 1;
             }
-            Judged::Refused(refusal) => {
-                return Judged::Refused(refusal);
+            Err(refusal) => {
+                return Err(refusal);
             }
         }
     }
-    Judged::Held(held)
+    Ok(held)
 }
 
 // A new area takes its place among the book's, of which so many have a smaller ID: of the others the one with the smaller ID is put down, the other is
@@ -477,8 +466,8 @@ fn add(bytes: &mut [u8], held: usize, at: usize, area: u64) -> usize
     ensures bytes_after { bytes.new ≡ left_by (taken (grown area (areas_in held bytes.old))) bytes.old }
 {
     match look_at(bytes, held, at, area::id(area)) {
-        Found::Area(_) => held,
-        Found::Nothing => {
+        Some(_) => held,
+        None => {
             insert(bytes, held, at, area);
             held + 1
         }
@@ -530,13 +519,13 @@ fn take_blocks(book: Book, bytes: &mut [u8], payload: &[u8]) -> Taken
     let siou = siou_plus_one(payload);
     let count = count_under(book, aiou, siou);
     match judge(bytes, count, payload) {
-        Judged::Refused(refusal) => Taken::Refused(refusal),
-        Judged::Held(held) => {
+        Err(refusal) => Err(refusal),
+        Ok(held) => {
             if held == count {
-                return Taken::Holds(book_of(aiou, siou, held));
+                return Ok(book_of(aiou, siou, held));
             }
             insert_all(bytes, count, payload);
-            Taken::Holds(book_of(aiou, siou, held))
+            Ok(book_of(aiou, siou, held))
         }
     }
 }
@@ -548,23 +537,23 @@ pub fn take(book: Book, bytes: &mut [u8], payload: &[u8]) -> Taken
     ensures bytes_after { bytes.new ≡ bytes_after book bytes.old payload.now }
 {
     if bytes.len() < sizes::BOOK_BYTES {
-        return Taken::Refused(Fault {
+        return Err(Fault {
             refusal: Refusal::Room,
-            place: Place::Nowhere,
+            place: None,
         });
     }
     if !is_sound(book, bytes) {
-        return Taken::Refused(Fault {
+        return Err(Fault {
             refusal: Refusal::State,
-            place: Place::Nowhere,
+            place: None,
         });
     }
     match sheet::judge(2, 0, payload) {
-        ReadAnswer::Refused(fault) => Taken::Refused(fault),
-        ReadAnswer::Read {
+        Err(fault) => Err(fault),
+        Ok(Extent {
             bits: _,
             entries: _,
-        } => take_blocks(book, bytes, payload),
+        }) => take_blocks(book, bytes, payload),
     }
 }
 
@@ -573,8 +562,8 @@ pub fn number_taken(answer: Taken) -> u8
     ensures { result ≡ number_of_taken answer }
 {
     match answer {
-        Taken::Holds(_) => 0,
-        Taken::Refused(fault) => {
+        Ok(_) => 0,
+        Err(fault) => {
             let refusal = fault.refusal;
             answer::number(refusal)
         }

@@ -1,5 +1,5 @@
 -- The table of document 01's measured cases holds, with a single proof, and at every second. Proved.
-use Rattle.std.specs.Prelude.{◌≡◌, refl, List, [], ◌∷◌, map, ℕ}
+use Rattle.std.specs.Prelude.{◌≡◌, refl, List, [], ◌∷◌, map, ℕ, None}
 use Rattle.std.proofs.Common.{ap, ap₂, sym, ◌∙◌}
 use Rattle.std.specs.Float.Ieee.{round, div, of_int}
 use Rattle.area.specs.Area.{area_off}
@@ -14,8 +14,6 @@ use Rattle.desk.specs.Desk.{new_desk, desk_sound}
 use Rattle.desk.specs.Take.{hands, by_header, is_gap, lacks_room, verdict, logged_by, frame_taken}
 use Rattle.desk.specs.Gap.{plain_verdict, plain_taken, no-gap-logged, no-gap-run}
 use Rattle.desk.specs.declared.Desk.{Desk}
-use Rattle.desk.specs.declared.Last.TheVariants.{Never}
-use Rattle.desk.specs.declared.Run.TheVariants.{Closed}
 use Rattle.frame.specs.Fields.{authenticated, authentication}
 use Rattle.frame.specs.Check.{frame_of, bad_message_crc, bad_frame_crc, checked, payload_in}
 use Rattle.frame.specs.Write.{bytes_of, start, description, body, check_over, plain}
@@ -33,7 +31,7 @@ measured-hold = refl
 
 -- a new desk for solution 0, processor 0 and GPS; document 01's definitions do not look at the second
 abbrev first : Desk
-first = record { solution = 0; processor = 0; constellation = Gps; book = no_book; run = Closed; last = Never }
+first = record { solution = 0; processor = 0; constellation = Gps; book = no_book; run = None; last = None }
 
 first_run : (second : ℕ) (frame : List ℕ) → (plain_taken (hands first frame second book book log)).answer.desk.run ≡ (plain_taken (hands first frame 0 book book log)).answer.desk.run
 unfolding plain_taken plain_verdict

@@ -1,5 +1,5 @@
 -- Document 01, "Measured cases": one table against the definitions. Definitions to believe; proofs/Measured.antt proves that the table holds.
-use Rattle.std.specs.Prelude.{Bool, true, false, List, [], ◌∷◌, ◌++◌, ℕ, ◌+◌, ◌*◌, ◌^◌, pos, replicate, Float}
+use Rattle.std.specs.Prelude.{Bool, true, false, List, [], ◌∷◌, ◌++◌, ℕ, ◌+◌, ◌*◌, ◌^◌, pos, replicate, Float, Ok, Err, Some}
 use Rattle.std.specs.Float.{fin, binary64}
 use Rattle.std.specs.Float.Ieee.{round}
 use Rattle.answer.specs.Place.{nowhere}
@@ -8,18 +8,14 @@ use Rattle.bits.specs.Bits.{bits_of, number}
 use Rattle.sizes.specs.Sizes.{book_bytes, log_room}
 use Rattle.book.specs.Book.{book_of, no_book}
 use Rattle.book.specs.Take.{taken_of}
-use Rattle.book.specs.declared.Taken as took
-use Rattle.book.specs.declared.Taken.TheVariants as gad
+use Rattle.book.specs.Results as took
 use Rattle.desk.specs.Desk.{new_desk}
 use Rattle.desk.specs.Take.{hands, verdict, logged_by, leaving_by, frame_taken}
-use Rattle.desk.specs.declared.NewDesk.{NewDesk}
-use Rattle.desk.specs.declared.NewDesk.TheVariants as new
-use Rattle.desk.specs.declared.Run.{Run}
-use Rattle.desk.specs.declared.Run.TheVariants.{Open}
+use Rattle.desk.specs.Results.{NewDesk}
+use Rattle.desk.specs.Results.{Run}
 use Rattle.frame.specs.Write.{bytes_of, plain}
 use Rattle.groups.specs.Groups.{groups_of}
-use Rattle.sheet.specs.declared.WriteAnswer.{WriteAnswer}
-use Rattle.sheet.specs.declared.WriteAnswer.TheVariants.{Written}
+use Rattle.sheet.specs.Results.{WriteAnswer}
 use Rattle.sheet.specs.Sheet.{judged_sheet}
 use Rattle.values.specs.declared.Yaw.TheVariants as Yaw
 use Rattle.values.specs.declared.Value.{Value}
@@ -54,13 +50,13 @@ log = replicate log_room 0
 
 -- the run that a new desk has open after its first frame, and the log bytes that it writes of it
 abbrev pub first_run_of : NewDesk → (second : ℕ) → (frame : List ℕ) → Answer
-first_run_of (new.Made desk) second frame = opens (frame_taken (hands desk frame second book book log)).answer.desk.run
-first_run_of (new.Refused why) second frame = no_desk
+first_run_of (Ok desk) second frame = opens (frame_taken (hands desk frame second book book log)).answer.desk.run
+first_run_of (Err why) second frame = no_desk
 
 abbrev pub first_log : NewDesk → (second : ℕ) → (frame : List ℕ) → Answer
-first_log (new.Made desk) second frame =
+first_log (Ok desk) second frame =
     bytes (logged_by (leaving_by (hands desk frame second book book log)) book book (verdict (hands desk frame second book book log)))
-first_log (new.Refused why) second frame = no_desk
+first_log (Err why) second frame = no_desk
 
 -- where a frame comes in at this second
 abbrev pub said : (second : ℕ) → Question → Answer
@@ -119,18 +115,18 @@ measured =
     at (value_at 21 59) (means (OfYaw (Yaw.Degrees (decimal false 354 1)))) ∷
     at (value_at 21 60) (means (Refused Field)) ∷
     -- 4. GPS OCB, one unused satellite: 50 bits, 7 bytes.
-    at (payload_of 0 0 (5 ∷ 1 ∷ 0 ∷ 0 ∷ 0 ∷ 0 ∷ 0 ∷ 134217728 ∷ 1 ∷ [])) (takes (Written 50 7)) ∷
+    at (payload_of 0 0 (5 ∷ 1 ∷ 0 ∷ 0 ∷ 0 ∷ 0 ∷ 0 ∷ 134217728 ∷ 1 ∷ [])) (takes (Ok (record { bits = 50; bytes = 7 }))) ∷
     -- 5. BeiDou likewise 57 bits, 8 bytes.
-    at (payload_of 0 3 (5 ∷ 1 ∷ 0 ∷ 0 ∷ 0 ∷ 0 ∷ 0 ∷ 4294967296 ∷ 1 ∷ [])) (takes (Written 57 8)) ∷
+    at (payload_of 0 3 (5 ∷ 1 ∷ 0 ∷ 0 ∷ 0 ∷ 0 ∷ 0 ∷ 4294967296 ∷ 1 ∷ [])) (takes (Ok (record { bits = 57; bytes = 8 }))) ∷
     -- 6. One-area GAD: 66 bits, 9 bytes.
-    at (payload_of 2 0 (5 ∷ 3 ∷ 0 ∷ 0 ∷ 7 ∷ 1234 ∷ 2000 ∷ 3 ∷ 4 ∷ 9 ∷ 9 ∷ [])) (takes (Written 66 9)) ∷
+    at (payload_of 2 0 (5 ∷ 3 ∷ 0 ∷ 0 ∷ 7 ∷ 1234 ∷ 2000 ∷ 3 ∷ 4 ∷ 9 ∷ 9 ∷ [])) (takes (Ok (record { bits = 66; bytes = 9 }))) ∷
     -- 7. 8 rows at 3.2 degrees: latitude code 224 fits (-90.0), 223 AREA_OFF.
-    at (into_book (gad_of (eight_rows 224))) (leaves (gad.Holds (book_of 1 1 1))) ∷
-    at (into_book (gad_of (eight_rows 223))) (leaves (gad.Refused (nowhere AreaOff))) ∷
+    at (into_book (gad_of (eight_rows 224))) (leaves (Ok (book_of 1 1 1))) ∷
+    at (into_book (gad_of (eight_rows 223))) (leaves (Err (nowhere AreaOff))) ∷
     -- 8. 43,199 is BF D1 02.
     at (in_groups 43199) (bytes (0xBF ∷ 0xD1 ∷ 0x02 ∷ [])) ∷
     -- 9. Tag 4294967295 becomes 23295.
-    at (run_after (hpac_with 1 4294967295)) (opens (Open 23295 no_book)) ∷
+    at (run_after (hpac_with 1 4294967295)) (opens (Some (record { tag = 23295; book = no_book }))) ∷
     -- 10. First HPAC, no book, tag 43,199, one area 5: 01 BF D1 02 00 00 03 05 01.
     at (log_after (hpac_with 0 43199)) (bytes (0x01 ∷ 0xBF ∷ 0xD1 ∷ 0x02 ∷ 0x00 ∷ 0x00 ∷ 0x03 ∷ 0x05 ∷ 0x01 ∷ [])) ∷
     []

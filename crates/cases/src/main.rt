@@ -1,6 +1,7 @@
 // Runs document 01's measured cases over the real calls and prints for each whether it holds. proofs/Measured.antt proves them of the definitions.
 #![tactic(auto)]
 
+use desk::OpenRun;
 use desk::{Desk, NewDesk, Run, Said, Taken};
 use frame::Parts;
 use groups::Written;
@@ -59,8 +60,8 @@ fn is_field(sf: u16, code: u64) -> bool {
 fn takes(kind: u8, subtype: u8, sheet: &[u64], bits: usize, bytes: usize) -> bool {
     let mut out = [0u8; sizes::LONGEST_PAYLOAD];
     match sheet::write(kind, subtype, sheet, &mut out) {
-        WriteAnswer::Written { bits: b, bytes: n } => { if b == bits { n == bytes } else { false } }
-        WriteAnswer::Refused(_) => false,
+        Ok(Written { bits: b, bytes: n }) => { if b == bits { n == bytes } else { false } }
+        Err(_) => false,
     }
 }
 
@@ -81,10 +82,10 @@ fn into_book(latitude: u16) -> book::Taken {
 // The area is taken.
 fn fits(latitude: u16) -> bool {
     match into_book(latitude) {
-        book::Taken::Holds(book) => book.aiou_plus_one == 1
+        Ok(book) => book.aiou_plus_one == 1
             && book.siou_plus_one == 1
             && book.count == 1,
-        book::Taken::Refused(_) => false,
+        Err(_) => false,
     }
 }
 
@@ -96,8 +97,8 @@ fn is_off(latitude: u16) -> bool {
 fn is_three(number: u64, first: u8, second: u8, third: u8) -> bool {
     let mut out = [0u8; 3];
     match groups::put(number, &mut out) {
-        Written::Bytes(n) => n == 3 && out[0] == first && out[1] == second && out[2] == third,
-        Written::Refused(_) => false,
+        Ok(n) => n == 3 && out[0] == first && out[1] == second && out[2] == third,
+        Err(_) => false,
     }
 }
 
@@ -127,11 +128,11 @@ fn taken(desk: Desk, tag_kind: u8, tag: u64, log: &mut [u8]) -> Taken {
 // A run with this tag and no book.
 fn is_open(run: Run, tag: u64) -> bool {
     match run {
-        Run::Open { tag: t, book } => t == tag
+        Some(OpenRun { tag: t, book }) => t == tag
             && book.aiou_plus_one == 0
             && book.siou_plus_one == 0
             && book.count == 0,
-        Run::Closed => false,
+        None => false,
     }
 }
 
@@ -139,12 +140,12 @@ fn is_open(run: Run, tag: u64) -> bool {
 fn opens(tag: u64, becomes: u64) -> bool {
     let mut log = [0u8; sizes::LOG_ROOM];
     match desk::new_desk(0, 0, 0) {
-        NewDesk::Made(desk) => {
+        Ok(desk) => {
             let after = taken(desk, 1, tag, &mut log).desk;
             let run = after.run;
             is_open(run, becomes)
         }
-        NewDesk::Refused(_) => false,
+        Err(_) => false,
     }
 }
 
@@ -159,8 +160,8 @@ fn begins(text: &[u8], n: usize, wanted: &[u8]) -> bool {
 // These bytes of log were written.
 fn is_log(said: Said, log: &[u8], wanted: &[u8]) -> bool {
     match said {
-        Said::Accepted { log: n } => begins(log, n, wanted),
-        Said::Refused(_) => false,
+        Ok(n) => begins(log, n, wanted),
+        Err(_) => false,
     }
 }
 
@@ -168,11 +169,11 @@ fn is_log(said: Said, log: &[u8], wanted: &[u8]) -> bool {
 fn logs(tag: u64, wanted: &[u8]) -> bool {
     let mut log = [0u8; sizes::LOG_ROOM];
     match desk::new_desk(0, 0, 0) {
-        NewDesk::Made(desk) => {
+        Ok(desk) => {
             let said = taken(desk, 0, tag, &mut log).said;
             is_log(said, &log, wanted)
         }
-        NewDesk::Refused(_) => false,
+        Err(_) => false,
     }
 }
 

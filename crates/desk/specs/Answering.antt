@@ -1,5 +1,5 @@
 -- Laws, of every verdict: its log has room, a refusal is one by which a desk can answer, its areas are bytes, and its message was read. Proved; assumes nothing.
-use Rattle.std.specs.Prelude.{◌≡◌, Bool, cond, not, ◌&&◌, ltb, get_or, drop}
+use Rattle.std.specs.Prelude.{◌≡◌, Bool, cond, not, ◌&&◌, ltb, get_or, drop, Option, Some, None}
 use Rattle.std.proofs.Math.Path.{refl, ap, subst}
 use Rattle.std.proofs.Common.{ap₂, sym, ◌∙◌, true≢false, length-drop}
 use Rattle.std.proofs.Math.Bool.{true, false}
@@ -15,7 +15,6 @@ use Rattle.answer.specs.Stop.{stop}
 use Rattle.answer.specs.Place.{nowhere}
 use Rattle.answer.specs.declared.Fault as answer
 use Rattle.answer.specs.declared.Place.{Place}
-use Rattle.answer.specs.declared.Place.TheVariants.{Nowhere, At}
 use Rattle.answer.specs.declared.Refusal.{Refusal}
 use Rattle.answer.specs.declared.Refusal.TheVariants.{Preamble, FrameCrc, Length, MessageCrc}
 use Rattle.answer.specs.declared.Refusal.TheVariants as refusal
@@ -41,8 +40,7 @@ use Rattle.book.specs.Book.{bytes_of_all, sound}
 use Rattle.book.specs.Take as gads
 use Rattle.book.specs.Payload.{gad-only}
 use Rattle.book.specs.declared.Book.{Book}
-use Rattle.book.specs.declared.Found.{Found}
-use Rattle.book.specs.declared.Found.TheVariants.{Area, Nothing}
+use Rattle.book.specs.Results.{Found}
 use Rattle.entrylog.specs.Log.{opened, log_of}
 use Rattle.entrylog.specs.Bound.{always-enough}
 use Rattle.entrylog.specs.Pass.{Reads}
@@ -54,8 +52,7 @@ use Rattle.desk.specs.Payloads.{our-type, our-subtype, our-row, judging-hpac, sh
 use Rattle.desk.specs.Copied.{copied-sound}
 use Rattle.desk.specs.Fits.{sound-live, sound-open, handling-sound, has_room, Ready}
 use Rattle.desk.specs.declared.Desk.{Desk}
-use Rattle.desk.specs.declared.Run.{Run}
-use Rattle.desk.specs.declared.Run.TheVariants.{Closed, Open}
+use Rattle.desk.specs.Results.{Run}
 
 -- ---- the frame's own refusals
 
@@ -97,8 +94,8 @@ block-refuses a l = go (area_off a) (gads.lookup (sf031 a) l)
 
     go : (b : Bool) (f : Found) → take_answers (stop b (gads.refused (nowhere refusal.AreaOff)) (gads.placed a l f)) ≡ true
     go true f = refl
-    go false (Area b) = by (eqb a b) (gads.taken l) (gads.refused (nowhere refusal.Conflict)) refl refl
-    go false Nothing = by (ltb (length l) most_areas) (gads.taken (gads.insert a l)) (gads.refused (nowhere refusal.BookFull)) refl refl
+    go false (Some b) = by (eqb a b) (gads.taken l) (gads.refused (nowhere refusal.Conflict)) refl refl
+    go false None = by (ltb (length l) most_areas) (gads.taken (gads.insert a l)) (gads.refused (nowhere refusal.BookFull)) refl refl
 
 all-refuses : (blocks l : List ℕ) → take_answers (gads.take_all blocks l) ≡ true
 unfolding gads.take_all
@@ -177,7 +174,7 @@ module _ (desk : Desk) (live run : List ℕ) where
       was_read : WasRead desk.constellation r.message
       was_read = record { payload = payload; codes = r.codes; used = r.used; reads = r.reads }
 
-      continued : (tag : ℕ) (book : Book) → desk.run ≡ Open tag book → Answered (continues book r.message)
+      continued : (tag : ℕ) (book : Book) → desk.run ≡ Some (record { tag = tag; book = book }) → Answered (continues book r.message)
       unfolding logged_by
       continued tag book e =
           record {
@@ -210,11 +207,11 @@ module _ (desk : Desk) (live run : List ℕ) where
           }
 
       by-run : (o : Run) → desk.run ≡ o → Answered (by_run o (tag_of header) r.message)
-      by-run Closed e = newly
-      by-run (Open current book) e = go (eqb (tag_of header) current)
+      by-run None e = newly
+      by-run (Some p) e = go (eqb (tag_of header) p.tag)
         where
-          go : (b : Bool) → Answered (cond b (continues book r.message) (opens (tag_of header) r.message))
-          go true = continued current book e
+          go : (b : Bool) → Answered (cond b (continues p.book r.message) (opens (tag_of header) r.message))
+          go true = continued p.tag p.book e
           go false = newly
 
     by-hpac : Answered (by_payload desk live header payload (judging 1 (row_of desk.constellation) payload))
@@ -315,14 +312,14 @@ log-kept handed = go (lacks_room handed.live handed.run handed.log) refl
         length-append l (drop (length l) handed.log)
         ∙ omega (arith, length-drop (length l) handed.log, (answered handed).room, (has_room handed.live handed.run handed.log e).log-room)
 
-six-not : (place : Place) (why : Refusal) → answers_at place why ≡ true → number_of why ≡ 6 → ⊥
+six-not : (place : (Option Place)) (why : Refusal) → answers_at place why ≡ true → number_of why ≡ 6 → ⊥
 six-not place refusal.Short e n = omega arith
 six-not place refusal.Preamble e n = omega arith
 six-not place refusal.FrameCrc e n = omega arith
 six-not place refusal.Length e n = omega arith
 six-not place refusal.MessageCrc e n = omega arith
-six-not Nowhere refusal.UnknownType e n = true≢false (sym e)
-six-not (At sf at) refusal.UnknownType e n = true≢false (sym e)
+six-not None refusal.UnknownType e n = true≢false (sym e)
+six-not (Some p) refusal.UnknownType e n = true≢false (sym e)
 six-not place refusal.MaskEmpty e n = omega arith
 six-not place refusal.Field e n = omega arith
 six-not place refusal.Room e n = omega arith

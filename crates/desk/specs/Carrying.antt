@@ -1,9 +1,8 @@
 -- Serves proofs, and is proved: a message read by its own layout, and the same payload read as one of the twelve messages. Assumes nothing.
-use Rattle.std.specs.Prelude.{◌≡◌, refl, Bool, true, false, List, ℕ, leb, length, take, drop}
+use Rattle.std.specs.Prelude.{◌≡◌, refl, Bool, true, false, List, ℕ, leb, length, take, drop, Ok, Err}
 use Rattle.std.proofs.Common.{ap, ◌∙◌}
 use Rattle.bits.specs.Bits.{number}
-use Rattle.layout.specs.declared.Verdict.{Verdict}
-use Rattle.layout.specs.declared.Verdict.TheVariants.{Taken, Fault}
+use Rattle.layout.specs.Results.{Verdict}
 use Rattle.layout.specs.Layout.{Layout, done, judge, Outcome, accepted, refused, enough, judged, before, read_l}
 use Rattle.entrylog.specs.Alike.{Alike, ends, past}
 
@@ -25,8 +24,8 @@ carries-read {A = A} f (past {h} {next} {next'} u p) bits =
         → enough h.sf b (judged h.sf v (before c h.width (read_l (next' c) (drop h.width bits))))
         ≡ carried f (enough h.sf b (judged h.sf v (before c h.width (read_l (next c) (drop h.width bits)))))
     go false v c e = refl
-    go true (Fault why) c e = refl
-    go true Taken c e = ap (before c h.width) e ∙ by (read_l (next c) (drop h.width bits))
+    go true (Err why) c e = refl
+    go true (Ok _) c e = ap (before c h.width) e ∙ by (read_l (next c) (drop h.width bits))
       where
         by : (o : Outcome A) → before c h.width (carried f o) ≡ carried f (before c h.width o)
         by (accepted v codes used) = refl

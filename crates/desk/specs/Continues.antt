@@ -1,6 +1,6 @@
 -- Laws: a frame that is a message of the open run is one whatever the live book holds, and whenever the last frame was accepted. Proved; assumes nothing.
 use Rattle.std.proofs.Math.Path.{◌≡◌, ap}
-use Rattle.std.specs.Prelude.{refl, Bool, not, ◌||◌, List, ℕ, length}
+use Rattle.std.specs.Prelude.{refl, Bool, not, ◌||◌, List, ℕ, length, Ok, Err}
 use Rattle.std.proofs.Common.{◌∙◌, arith}
 use Rattle.std.proofs.Math.Bool.{true, false}
 use Rattle.std.proofs.Math.Dec.{ltb}
@@ -21,13 +21,12 @@ use Rattle.sizes.specs.Sizes.{book_bytes, log_room}
 use Rattle.book.specs.Laws.{sound-room}
 use Rattle.book.specs.Take.{taken_of, bytes_after}
 use Rattle.book.specs.declared.Book.{Book}
-use Rattle.book.specs.declared.Taken as took
-use Rattle.book.specs.declared.Taken.TheVariants as gad
+use Rattle.book.specs.Results as took
 use Rattle.desk.specs.Desk.{desk_with, desk_sound}
 use Rattle.desk.specs.Take.{Verdict, refused, continues, by_book, by_message, by_payload, ours, is_sealed, by_header, by_frame, handling, lacks_room, hands, verdict, dated}
 use Rattle.desk.specs.Fits.{sound-live}
 use Rattle.desk.specs.declared.Desk.{Desk}
-use Rattle.desk.specs.declared.Last.{Last}
+use Rattle.desk.specs.Results.{Last}
 
 -- the same desk with another live book and another second
 abbrev with-other : Desk → Book → Last → Desk
@@ -45,8 +44,8 @@ module _ (run_book : Book) (message : Hpac) where
     on-message header payload (gad_message body) e = absurd (never (taken_of desk.book live payload) e)
       where
         never : (t : took.Taken) → by_book t (bytes_after desk.book live payload) ≡ continues run_book message → ⊥
-        never (gad.Holds after) e = let z : ◌≡◌ {A = ℕ} 0 1 = cc in omega arith
-        never (gad.Refused why) e = let z : ◌≡◌ {A = ℕ} 0 1 = cc in omega arith
+        never (Ok after) e = let z : ◌≡◌ {A = ℕ} 0 1 = cc in omega arith
+        never (Err why) e = let z : ◌≡◌ {A = ℕ} 0 1 = cc in omega arith
     on-message header payload (ocb_message constellation body) e = let z : ◌≡◌ {A = ℕ} 0 1 = cc in absurd (omega arith)
     on-message header payload (bpac_message body) e = let z : ◌≡◌ {A = ℕ} 0 1 = cc in absurd (omega arith)
 

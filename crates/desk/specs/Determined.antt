@@ -9,8 +9,8 @@ use Rattle.desk.specs.Desk.{desk_sound, new_desk, number_of_new}
 use Rattle.desk.specs.Lookup.{Lies, bytes_at, spot-determined, spot_of}
 use Rattle.desk.specs.Take.{book_taken, by_header, frame_taken, handling, hands, hands_book, number_of_said, results, results_book, settled_by}
 use Rattle.desk.specs.declared.Desk.{Desk}
-use Rattle.desk.specs.declared.NewDesk.{NewDesk}
-use Rattle.desk.specs.declared.Said.{Said}
+use Rattle.desk.specs.Results.{NewDesk}
+use Rattle.desk.specs.Results.{Said}
 use Rattle.desk.specs.declared.Taken.{Taken}
 use Rattle.frame.specs.declared.Frame.{Frame}
 use Rattle.std.specs.Borrow.{Bor}

@@ -1,6 +1,6 @@
 -- Laws: what a verdict on a frame can be, given the desk. Proved; assumes nothing.
 use Rattle.std.proofs.Math.Path.{◌≡◌}
-use Rattle.std.specs.Prelude.{refl, cond, not, ◌&&◌, ◌||◌, List, ℕ, ◌≤◌, ◌<◌, eqb}
+use Rattle.std.specs.Prelude.{refl, cond, not, ◌&&◌, ◌||◌, List, ℕ, ◌≤◌, ◌<◌, eqb, Ok, Err, Some, None}
 use Rattle.std.proofs.Common.{ap, sym, ◌∙◌, arith}
 use Rattle.std.proofs.Math.Bool.{Bool, true, false}
 use Rattle.std.proofs.Math.Dec.{ltb}
@@ -25,14 +25,12 @@ use Rattle.book.specs.Take.{taken_of, bytes_after}
 use Rattle.book.specs.Laws.{sound-room}
 use Rattle.book.specs.Theorems.{stays-sound}
 use Rattle.book.specs.declared.Book.{Book}
-use Rattle.book.specs.declared.Taken as took
-use Rattle.book.specs.declared.Taken.TheVariants as gad
+use Rattle.book.specs.Results as took
 use Rattle.desk.specs.Desk.{source_in_range, run_sound, desk_sound}
 use Rattle.desk.specs.Take.{Verdict, refused, defines, continues, opens, by_run, bad_tag, tag_of, by_book, by_message, by_payload, ours, is_sealed, by_header, by_frame, is_gap, handling, lacks_room, hands, verdict, copied, leaving, no_book_room, hands_book, book_verdict}
 use Rattle.desk.specs.Copied.{copied-sound}
 use Rattle.desk.specs.declared.Desk.{Desk}
-use Rattle.desk.specs.declared.Run.{Run}
-use Rattle.desk.specs.declared.Run.TheVariants.{Closed, Open}
+use Rattle.desk.specs.Results.{Run}
 
 -- ---- the parts of a sound desk
 
@@ -52,7 +50,7 @@ module _ (desk : Desk) (live run : List ℕ) (e : desk_sound desk live run ≡ t
   sound-run = both_right (sound desk.book live) (run_sound desk.run run) books
 
   -- and of its open run
-  pub sound-open : (tag : ℕ) (book : Book) → desk.run ≡ Open tag book → sound book run ≡ true
+  pub sound-open : (tag : ℕ) (book : Book) → desk.run ≡ Some (record { tag = tag; book = book }) → sound book run ≡ true
   sound-open tag book o = both_right (ltb tag tags) (sound book run) (sym (ap (λ r. run_sound r run) o) ∙ sound-run)
 
 -- ---- a sound desk is sound without its live book, and so is the one that handles a frame
@@ -100,7 +98,7 @@ pub record Ready (desk : Desk) (live run : List ℕ) : Type 0 where
 pub data Fits (desk : Desk) (live run : List ℕ) : Verdict → Type 0 where
   not_taken : {why : answer.Fault} → Fits desk live run (refused why)
   new-areas : {book : Book} {bytes : List ℕ} → Ready desk live run → sound book bytes ≡ true → Fits desk live run (defines book bytes)
-  same-run : {tag : ℕ} {book : Book} {message : Hpac} → Ready desk live run → desk.run ≡ Open tag book → Fits desk live run (continues book message)
+  same-run : {tag : ℕ} {book : Book} {message : Hpac} → Ready desk live run → desk.run ≡ Some (record { tag = tag; book = book }) → Fits desk live run (continues book message)
   new-run : {tag : ℕ} {message : Hpac} → Ready desk live run → tag < tags → Fits desk live run (opens tag message)
 
 module _ (desk : Desk) (live run : List ℕ) where
@@ -113,16 +111,16 @@ module _ (desk : Desk) (live run : List ℕ) where
     tag-in-range = omega arith
 
     fits-run : (r : Run) (message : Hpac) → desk.run ≡ r → Fits desk live run (by_run r (tag_of header) message)
-    fits-run Closed message e = new-run ready tag-in-range
-    fits-run (Open current book) message e = go (eqb (tag_of header) current)
+    fits-run None message e = new-run ready tag-in-range
+    fits-run (Some p) message e = go (eqb (tag_of header) p.tag)
       where
-        go : (b : Bool) → Fits desk live run (cond b (continues book message) (opens (tag_of header) message))
+        go : (b : Bool) → Fits desk live run (cond b (continues p.book message) (opens (tag_of header) message))
         go true = same-run ready e
         go false = new-run ready tag-in-range
 
     fits-book : (t : took.Taken) → taken_of desk.book live payload ≡ t → Fits desk live run (by_book t (bytes_after desk.book live payload))
-    fits-book (gad.Holds book) e = new-areas ready (stays-sound desk.book live payload book (sound-live desk live run ready.state) e)
-    fits-book (gad.Refused why) e = not_taken
+    fits-book (Ok book) e = new-areas ready (stays-sound desk.book live payload book (sound-live desk live run ready.state) e)
+    fits-book (Err why) e = not_taken
 
     fits-message : (m : Message) → Fits desk live run (by_message desk live header payload m)
     fits-message (hpac_message constellation body) = fits-stop (bad_tag header) (nowhere refusal.Tag) (by_run desk.run (tag_of header) body) (λ e. fits-run desk.run body refl)

@@ -1,5 +1,5 @@
 -- Theorems of document 02, request 1, "Old grid after a radio gap": what a gap changes, and that without one all is as document 01 lays down. Proved; assumes nothing.
-use Rattle.std.specs.Prelude.{◌≡◌, Bool, true, false, cond, not, List, [], ◌∷◌, ◌++◌, ℕ, ◌+◌, ◌-◌, ◌≤◌, leb, ltb}
+use Rattle.std.specs.Prelude.{◌≡◌, Bool, true, false, cond, not, List, [], ◌∷◌, ◌++◌, ℕ, ◌+◌, ◌-◌, ◌≤◌, leb, ltb, Ok, Err, Some, None}
 use Rattle.std.proofs.Math.Path.{refl, ap, ap₂, sym}
 use Rattle.std.proofs.Common.{◌∙◌, subst, arith, ltb-false, le-ltb, le-leb}
 use Rattle.std.proofs.Math.ListN.{length}
@@ -29,11 +29,8 @@ use Rattle.desk.specs.Fits.{empty-sound, handling-sound, has_room}
 use Rattle.desk.specs.Continues.{past, on-frame}
 use Rattle.desk.specs.History.{Held, Given, frame_with, kept_book, verdict_on, after, Course, onward, along}
 use Rattle.desk.specs.declared.Desk.{Desk}
-use Rattle.desk.specs.declared.Last.{Last}
-use Rattle.desk.specs.declared.Last.TheVariants.{Never, At}
-use Rattle.desk.specs.declared.Run.TheVariants.{Open}
-use Rattle.desk.specs.declared.Said.{Said}
-use Rattle.desk.specs.declared.Said.TheVariants as said
+use Rattle.desk.specs.Results.{Last}
+use Rattle.desk.specs.Results.{Said}
 use Rattle.desk.specs.declared.Taken.{Taken}
 
 -- ---- what is left is what the desk that handled the frame leaves, with the second; or all as lent
@@ -73,7 +70,7 @@ plain_verdict handed =
 unfoldable pub plain_taken : Handed → Result
 plain_taken handed = result_by handed.desk handed.live handed.run handed.log (plain_verdict handed)
 
-pub before-first : (desk : Desk) (second : ℕ) → desk.last ≡ Never → is_gap desk.last second ≡ false
+pub before-first : (desk : Desk) (second : ℕ) → desk.last ≡ None → is_gap desk.last second ≡ false
 unfolding is_gap
 before-first desk second e = ap (λ l. is_gap l second) e
 
@@ -124,14 +121,14 @@ module _ (handed : Handed) (e : is_gap handed.desk.last handed.second ≡ false)
 -- ---- a refusal: "if it is refused, the old book stays", and so does all that was lent, the last second too, gap or no gap
 
 module _ (handed : Handed) where
-  not-accepted : (v : Verdict) (n : ℕ) (why : answer.Fault) → said_by v n ≡ said.Refused why → v ≡ refused why
+  not-accepted : (v : Verdict) (n : ℕ) (why : answer.Fault) → said_by v n ≡ Err why → v ≡ refused why
   not-accepted (refused r) n why e = let z : r ≡ why = cc in ap refused z
   not-accepted (defines book bytes) n why e = let z : ◌≡◌ {A = ℕ} 0 1 = cc in absurd (omega arith)
   not-accepted (continues book message) n why e = let z : ◌≡◌ {A = ℕ} 0 1 = cc in absurd (omega arith)
   not-accepted (opens tag message) n why e = let z : ◌≡◌ {A = ℕ} 0 1 = cc in absurd (omega arith)
 
-  pub all-as-lent : (why : answer.Fault) → (frame_taken handed).answer.said ≡ said.Refused why
-      → frame_taken handed ≡ results (record { said = said.Refused why; desk = handed.desk }) handed.live handed.run handed.log
+  pub all-as-lent : (why : answer.Fault) → (frame_taken handed).answer.said ≡ Err why
+      → frame_taken handed ≡ results (record { said = Err why; desk = handed.desk }) handed.live handed.run handed.log
   unfolding frame_taken logged_by groups_of_all
   all-as-lent why e =
       ap (settled_by handed.desk handed.second handed.live handed.run handed.log)
@@ -152,8 +149,8 @@ settled-said : (desk : Desk) (second : ℕ) (answer : Taken) → (settled desk s
 settled-said desk second answer = go answer.said
   where
     go : (s : Said) → (settled_as desk second s answer.desk).said ≡ s
-    go (said.Accepted log) = refl
-    go (said.Refused why) = refl
+    go (Ok log) = refl
+    go (Err why) = refl
 
 -- the same desk with an empty live book
 abbrev pub emptied : Handed → Desk
@@ -194,9 +191,9 @@ module _ (handed : Handed) (w : desk_sound handed.desk handed.live handed.run �
   gap-log = ap (λ x. x.log) gap
 
   -- and what is left is what that desk leaves, with the second, if the frame is accepted. (If it is refused all is as lent: `all-as-lent`.)
-  pub gap-accepted : (n : ℕ) → (plain_taken (from_empty handed)).answer.said ≡ said.Accepted n
+  pub gap-accepted : (n : ℕ) → (plain_taken (from_empty handed)).answer.said ≡ Ok n
       → frame_taken handed
-      ≡ results (record { said = said.Accepted n; desk = dated (plain_taken (from_empty handed)).answer.desk (At (counted handed.desk.last handed.second)) })
+      ≡ results (record { said = Ok n; desk = dated (plain_taken (from_empty handed)).answer.desk (Some (counted handed.desk.last handed.second)) })
       (plain_taken (from_empty handed)).live (plain_taken (from_empty handed)).run (plain_taken (from_empty handed)).log
   gap-accepted n a =
       gap
@@ -217,7 +214,7 @@ module _ (handed : Handed) (w : desk_sound handed.desk handed.live handed.run �
   -- An HPAC message that opens a run leaves no live book, and a run on no book. No byte of a book is written.
   pub gap-opens : (tag : ℕ) (message : Hpac) → verdict handed ≡ opens tag message
       → ((frame_taken handed).answer.desk.book ≡ no_book) × ((frame_taken handed).live ≡ handed.live)
-      × ((frame_taken handed).answer.desk.run ≡ Open tag no_book) × ((frame_taken handed).run ≡ handed.run)
+      × ((frame_taken handed).answer.desk.run ≡ Some (record { tag = tag; book = no_book })) × ((frame_taken handed).run ≡ handed.run)
   unfolding frame_taken
   gap-opens tag message q =
       let s : frame_taken handed ≡ settled_by handed.desk handed.second handed.live handed.run handed.log (opens tag message)
@@ -293,12 +290,12 @@ unfolding reason_for
 no-book-reason bytes aiou siou area = refl
 
 -- "449 is no gap, 450 is"
-pub no-gap-449 : (second : ℕ) → is_gap (At second) (second + 449) ≡ false
+pub no-gap-449 : (second : ℕ) → is_gap (Some second) (second + 449) ≡ false
 unfolding is_gap
 no-gap-449 second =
     ap (λ b. leb outage (cond b second (second + 449) - second)) (le-ltb (second + 449) second (omega arith)) ∙ lt-leb outage (second + 449 - second) (omega arith)
 
-pub gap-450 : (second : ℕ) → is_gap (At second) (second + 450) ≡ true
+pub gap-450 : (second : ℕ) → is_gap (Some second) (second + 450) ≡ true
 unfolding is_gap
 gap-450 second =
     ap (λ b. leb outage (cond b second (second + 450) - second)) (le-ltb (second + 450) second (omega arith)) ∙ le-leb outage (second + 450 - second) (omega arith)
@@ -306,35 +303,35 @@ gap-450 second =
 -- ---- the kept second never falls
 
 abbrev pub NotBefore : Last → Last → Type 0
-NotBefore Never then = Unit {0}
-NotBefore (At second) Never = ⊥
-NotBefore (At second) (At later) = second ≤ later
+NotBefore None then = Unit {0}
+NotBefore (Some second) None = ⊥
+NotBefore (Some second) (Some later) = second ≤ later
 
 not-before : (last : Last) → NotBefore last last
-not-before Never = tt
-not-before (At second) = omega arith
+not-before None = tt
+not-before (Some second) = omega arith
 
-no-earlier : (last : Last) (second : ℕ) → NotBefore last (At (counted last second))
-no-earlier Never second = tt
-no-earlier (At kept) second = go (ltb second kept) refl
+no-earlier : (last : Last) (second : ℕ) → NotBefore last (Some (counted last second))
+no-earlier None second = tt
+no-earlier (Some kept) second = go (ltb second kept) refl
   where
     go : (b : Bool) → ltb second kept ≡ b → kept ≤ cond b kept second
     go true e = omega arith
     go false e = ltb-false second kept e
 
 later-still : (a b c : Last) → NotBefore a b → NotBefore b c → NotBefore a c
-later-still Never b c p q = tt
-later-still (At x) Never c p q = absurd p
-later-still (At x) (At y) Never p q = absurd q
-later-still (At x) (At y) (At z) p q = omega arith
+later-still None b c p q = tt
+later-still (Some x) None c p q = absurd p
+later-still (Some x) (Some y) None p q = absurd q
+later-still (Some x) (Some y) (Some z) p q = omega arith
 
 -- An accepted frame's second is kept as it counts.
-pub second-kept : (handed : Handed) (n : ℕ) → (frame_taken handed).answer.said ≡ said.Accepted n
-    → (frame_taken handed).answer.desk.last ≡ At (counted handed.desk.last handed.second)
+pub second-kept : (handed : Handed) (n : ℕ) → (frame_taken handed).answer.said ≡ Ok n
+    → (frame_taken handed).answer.desk.last ≡ Some (counted handed.desk.last handed.second)
 unfolding frame_taken
 second-kept handed n a = go (verdict handed) (length (logged_by (leaving_by handed) handed.live handed.run (verdict handed))) a
   where
-    go : (v : Verdict) (m : ℕ) → said_by v m ≡ said.Accepted n → (leaving handed.desk handed.second v).last ≡ At (counted handed.desk.last handed.second)
+    go : (v : Verdict) (m : ℕ) → said_by v m ≡ Ok n → (leaving handed.desk handed.second v).last ≡ Some (counted handed.desk.last handed.second)
     go (refused why) m a = let z : ◌≡◌ {A = ℕ} 0 1 = cc in absurd (omega arith)
     go (defines book bytes) m a = refl
     go (continues book message) m a = refl

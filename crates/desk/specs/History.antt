@@ -1,6 +1,6 @@
 -- Definitions to believe: a desk that is given frames and kept books one after the other, and the live book as it was when the open run was opened. That is, here and wherever these
 -- words stand, the live book as the frame that opened the run was handled with: after a gap an empty one.
-use Rattle.std.specs.Prelude.{◌≡◌, Bool, true, false, List, [], ◌∷◌, ◌++◌, ℕ}
+use Rattle.std.specs.Prelude.{◌≡◌, Bool, true, false, List, [], ◌∷◌, ◌++◌, ℕ, Some, None}
 use Rattle.area.specs.declared.AreaId.{AreaId}
 use Rattle.book.specs.Book.{found}
 use Rattle.book.specs.declared.Book.{Book}
@@ -8,8 +8,7 @@ use Rattle.entrylog.specs.Log.{opened, log_of}
 use Rattle.desk.specs.Desk.{desk_sound}
 use Rattle.desk.specs.Take.{Verdict, refused, defines, continues, opens, hands, verdict, leaving, hands_book, book_verdict, desk_by, live_by, run_bytes_by, entries_by}
 use Rattle.desk.specs.declared.Desk.{Desk}
-use Rattle.desk.specs.declared.Run.{Run}
-use Rattle.desk.specs.declared.Run.TheVariants.{Closed, Open}
+use Rattle.desk.specs.Results.{Run}
 
 -- what a desk has between two frames: its state, and the bytes of the live book and of the run's
 pub record Held : Type 0 where
@@ -90,8 +89,8 @@ told_by opening (opens tag message) = opened tag opening.book ++ log_of opening.
 
 -- the run's book, if a run is open, is the live book as it was when the run was opened: under each ID the same six bytes
 pub data Kept (run : List ℕ) (opening : Snapshot) : Run → Type 0 where
-  closed : Kept run opening Closed
-  kept : {tag : ℕ} {book : Book} → book ≡ opening.book → ((id : AreaId) → found book run id ≡ found book opening.bytes id) → Kept run opening (Open tag book)
+  closed : Kept run opening None
+  kept : {tag : ℕ} {book : Book} → book ≡ opening.book → ((id : AreaId) → found book run id ≡ found book opening.bytes id) → Kept run opening (Some (record { tag = tag; book = book }))
 
 abbrev pub KeptOn : Course → Type 0
 KeptOn course = Kept course.held.run course.opening course.held.desk.run

@@ -1,3 +1,4 @@
+pub mod Results
 pub mod Desk
 pub mod Take
 pub mod Answers

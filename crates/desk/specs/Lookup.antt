@@ -1,5 +1,5 @@
 -- Definitions to believe: looking an area up (document 01, "Book and run").
-use Rattle.std.specs.Prelude.{cond, not, ◌||◌, ◌≡◌, List, [], ℕ, ◌*◌, ltb, length, take, drop}
+use Rattle.std.specs.Prelude.{cond, not, ◌||◌, ◌≡◌, List, [], ℕ, ◌*◌, ltb, length, take, drop, Some, None}
 use Rattle.std.specs.Borrow.{Bor}
 use Rattle.bits.specs.Part.{PartOf, part-determined}
 use Rattle.area.specs.declared.AreaId.{AreaId}
@@ -8,8 +8,7 @@ use Rattle.book.specs.Book.{is_held, place_of}
 use Rattle.book.specs.declared.Book.{Book}
 use Rattle.desk.specs.Desk.{desk_sound}
 use Rattle.desk.specs.declared.Desk.{Desk}
-use Rattle.desk.specs.declared.Run.{Run}
-use Rattle.desk.specs.declared.Run.TheVariants.{Closed, Open}
+use Rattle.desk.specs.Results.{Run}
 
 -- where an area's six bytes are: so many bytes behind the start of the live book or of the run's, or nowhere
 pub data Spot : Type 0 where
@@ -22,8 +21,8 @@ spot_in spot book bytes id = cond (is_held book bytes id) (spot (6 * place_of id
 
 -- "Looking up an area gives its six bytes out of the run's book if a run is open, else out of the live book;"
 abbrev pub by_run : Run → Book → (live run : List ℕ) → AreaId → Spot
-by_run Closed book live run id = spot_in in_live book live id
-by_run (Open tag run_book) book live run id = spot_in in_run run_book run id
+by_run None book live run id = spot_in in_live book live id
+by_run (Some p) book live run id = spot_in in_run p.book run id
 
 -- "an absent ID, either book short, or a state or book not sound, give the empty part at the live book's start."
 unfoldable pub spot_of : Desk → (live run : List ℕ) → AreaId → Spot

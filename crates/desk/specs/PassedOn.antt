@@ -1,13 +1,12 @@
 -- Theorems (document 02, request 2): "Every call above passes the place on as it got it." A desk that refuses a frame at a place refuses it as the reader refuses its payload, so the place is
 -- the reader's (`judged-faults` of crate sheet says what that is). Proved; assumes nothing.
-use Rattle.std.specs.Prelude.{◌≡◌, Bool, true, false, cond, not, List, ℕ, eqb, length}
+use Rattle.std.specs.Prelude.{◌≡◌, Bool, true, false, cond, not, List, ℕ, eqb, length, Err, Some, None}
 use Rattle.std.proofs.Math.Path.{refl}
 use Rattle.std.proofs.Common.{ap, ap₂, sym, ◌∙◌, arith, eqb-true}
 use Rattle.std.proofs.lemmas.Bool.{not-false, eqb-false}
 use Rattle.answer.specs.Stop.{stop}
 use Rattle.answer.specs.Place.{nowhere}
 use Rattle.answer.specs.declared.Fault as answer
-use Rattle.answer.specs.declared.Place.TheVariants.{Nowhere, At}
 use Rattle.answer.specs.declared.Refusal.{Refusal}
 use Rattle.answer.specs.declared.Refusal.TheVariants as refusal
 use Rattle.layout.specs.Layout.{done, read_l}
@@ -17,7 +16,6 @@ use Rattle.hpac.specs.Hpac.{Hpac, hpac}
 use Rattle.gad.specs.Gad.{Gad}
 use Rattle.message.specs.Messages.{Message, ocb_message, hpac_message, gad_message, bpac_message}
 use Rattle.sheet.specs.Sheet.{bad_length, judging, judged, read_answer_by}
-use Rattle.sheet.specs.declared.ReadAnswer.TheVariants as reader
 use Rattle.frame.specs.Check.{checked, payload_in}
 use Rattle.frame.specs.declared.Frame.{Frame}
 use Rattle.frame.specs.declared.Checked.{Checked}
@@ -29,14 +27,13 @@ use Rattle.desk.specs.Take.{Handed, Verdict, refused, continues, opens, by_run, 
 use Rattle.desk.specs.Carrying.{carried}
 use Rattle.desk.specs.Payloads.{our-type, our-subtype, our-row, judging-hpac}
 use Rattle.desk.specs.declared.Desk.{Desk}
-use Rattle.desk.specs.declared.Run.{Run}
-use Rattle.desk.specs.declared.Run.TheVariants.{Closed, Open}
+use Rattle.desk.specs.Results.{Run}
 
 -- ---- the desk's own refusals have no place
 
-module _ (why : answer.Fault) (sf at : ℕ) (p : why.place ≡ At sf at) where
-  no_place : Nowhere ≡ why.place → ⊥
-  no_place e = let z : Nowhere ≡ At sf at = e ∙ p in let y : ◌≡◌ {A = ℕ} 0 1 = cc in omega arith
+module _ (why : answer.Fault) (sf at : ℕ) (p : why.place ≡ Some (record { sf = sf; at = at })) where
+  no_place : None ≡ why.place → ⊥
+  no_place e = let z : None ≡ Some (record { sf = sf; at = at }) = e ∙ p in let y : ◌≡◌ {A = ℕ} 0 1 = cc in omega arith
 
   not_plain : (r : Refusal) → refused (nowhere r) ≡ refused why → ⊥
   not_plain r e = let z : nowhere r ≡ why = cc in no_place (ap (λ (x : answer.Fault). x.place) z)
@@ -46,10 +43,10 @@ module _ (why : answer.Fault) (sf at : ℕ) (p : why.place ≡ At sf at) where
   past false r rest e = (refl, e)
 
   not-run : (run : Run) (tag : ℕ) (message : Hpac) → by_run run tag message ≡ refused why → ⊥
-  not-run Closed tag message e = let z : ◌≡◌ {A = ℕ} 0 1 = cc in omega arith
-  not-run (Open current book) tag message e = go (eqb tag current) e
+  not-run None tag message e = let z : ◌≡◌ {A = ℕ} 0 1 = cc in omega arith
+  not-run (Some p) tag message e = go (eqb tag p.tag) e
     where
-      go : (b : Bool) → cond b (continues book message) (opens tag message) ≡ refused why → ⊥
+      go : (b : Bool) → cond b (continues p.book message) (opens tag message) ≡ refused why → ⊥
       go true e = let z : ◌≡◌ {A = ℕ} 0 1 = cc in omega arith
       go false e = let z : ◌≡◌ {A = ℕ} 0 1 = cc in omega arith
 
@@ -107,9 +104,9 @@ module _ (why : answer.Fault) (sf at : ℕ) (p : why.place ≡ At sf at) where
 pub record PassedOn (handed : Handed) (why : answer.Fault) : Type 0 where
   pub header : Frame
   pub checks : checked handed.frame ≡ check.Accepted header
-  pub reads : judged header.message_type header.subtype (payload_in header handed.frame) ≡ reader.Refused why
+  pub reads : judged header.message_type header.subtype (payload_in header handed.frame) ≡ Err why
 
-pub passed_on : (handed : Handed) (why : answer.Fault) (sf at : ℕ) → why.place ≡ At sf at → verdict handed ≡ refused why → PassedOn handed why
+pub passed_on : (handed : Handed) (why : answer.Fault) (sf at : ℕ) → why.place ≡ Some (record { sf = sf; at = at }) → verdict handed ≡ refused why → PassedOn handed why
 unfolding verdict judged
 passed_on handed why sf at p e =
     let a = past why sf at p (lacks_room handed.live handed.run handed.log) refusal.Room _ e in

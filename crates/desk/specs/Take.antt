@@ -1,5 +1,5 @@
 -- Definitions to believe: document 01, "Book and run": what a desk makes of a frame, in the order of its checks, and what it leaves; and document 02, request 1, "Old grid after a radio gap".
-use Rattle.std.specs.Prelude.{Bool, true, false, cond, not, ◌&&◌, ◌||◌, List, [], ◌++◌, ℕ, ◌-◌, ◌*◌, ◌%◌, leb, ltb, eqb, length, take, drop}
+use Rattle.std.specs.Prelude.{Bool, true, false, cond, not, ◌&&◌, ◌||◌, List, [], ◌++◌, ℕ, ◌-◌, ◌*◌, ◌%◌, leb, ltb, eqb, length, take, drop, Ok, Err, Some, None}
 use Rattle.sizes.specs.Sizes.{tags, book_bytes, log_room}
 use Rattle.answer.specs.Number.{number_of}
 use Rattle.answer.specs.Stop.{stop}
@@ -10,8 +10,7 @@ use Rattle.codes.specs.Tables.{row_of}
 use Rattle.codes.specs.declared.Constellation.{Constellation}
 use Rattle.frame.specs.Check.{checked, payload_in}
 use Rattle.frame.specs.declared.Frame.{Frame}
-use Rattle.frame.specs.declared.Seal.{Seal}
-use Rattle.frame.specs.declared.Seal.TheVariants as seal
+use Rattle.frame.specs.Results.{Seal}
 use Rattle.frame.specs.declared.Checked.{Checked}
 use Rattle.frame.specs.declared.Checked.TheVariants as check
 use Rattle.layout.specs.Layout as layout
@@ -21,18 +20,14 @@ use Rattle.sheet.specs.Sheet.{judging}
 use Rattle.book.specs.Book.{no_book, sound}
 use Rattle.book.specs.Take.{taken_of, bytes_after}
 use Rattle.book.specs.declared.Book.{Book}
-use Rattle.book.specs.declared.Taken as took
-use Rattle.book.specs.declared.Taken.TheVariants as gad
+use Rattle.book.specs.Results as took
 use Rattle.groups.specs.Groups.{groups_of_all}
 use Rattle.entrylog.specs.Log.{opened, log_of}
 use Rattle.desk.specs.Desk.{desk_with, desk_sound}
 use Rattle.desk.specs.declared.Desk.{Desk}
-use Rattle.desk.specs.declared.Last.{Last}
-use Rattle.desk.specs.declared.Last.TheVariants.{Never, At}
-use Rattle.desk.specs.declared.Run.{Run}
-use Rattle.desk.specs.declared.Run.TheVariants.{Closed, Open}
-use Rattle.desk.specs.declared.Said.{Said}
-use Rattle.desk.specs.declared.Said.TheVariants as said
+use Rattle.desk.specs.Results.{Last}
+use Rattle.desk.specs.Results.{Run}
+use Rattle.desk.specs.Results.{Said}
 use Rattle.desk.specs.declared.Taken.{Taken}
 
 -- ---- what a call is given: the desk, the frame and "the second it came in", and lent the live book, the run's book and a log
@@ -62,8 +57,8 @@ pub data Verdict : Type 0 where
 
 -- for HPAC: "A tag other than the open run's, earlier ones too, opens a run"
 abbrev pub by_run : Run → (tag : ℕ) → Hpac → Verdict
-by_run Closed tag message = opens tag message
-by_run (Open current book) tag message = cond (eqb tag current) (continues book message) (opens tag message)
+by_run None tag message = opens tag message
+by_run (Some p) tag message = cond (eqb tag p.tag) (continues p.book message) (opens tag message)
 
 -- TAG: "16-bit time tag over 43,199"
 abbrev pub bad_tag : Frame → Bool
@@ -75,8 +70,8 @@ tag_of header = header.tag % tags
 
 -- for GAD "the book's refusals", or the live book that is left
 abbrev pub by_book : took.Taken → List ℕ → Verdict
-by_book (gad.Holds book) bytes = defines book bytes
-by_book (gad.Refused why) bytes = refused why
+by_book (Ok book) bytes = defines book bytes
+by_book (Err why) bytes = refused why
 
 -- "then for HPAC TAG, for GAD the book's refusals (a GAD's tag does not count)"; no other payload comes as far as here
 abbrev pub by_message : Desk → (live : List ℕ) → Frame → (payload : List ℕ) → Message → Verdict
@@ -102,8 +97,8 @@ ours desk header =
 
 -- SEALED: "TF004 is 1, payload wanted"
 abbrev pub is_sealed : Seal → Bool
-is_sealed seal.Plain = false
-is_sealed (seal.Sealed sealing) = true
+is_sealed None = false
+is_sealed (Some sealing) = true
 
 -- "NOT_OURS, SEALED, payload refusals, .."
 unfoldable pub by_header : Desk → (live : List ℕ) → Frame → (payload : List ℕ) → Verdict
@@ -126,13 +121,13 @@ outage = 450
 
 -- the second as it counts: "A second earlier than the last accepted frame's counts as that one."
 abbrev pub counted : Last → (second : ℕ) → ℕ
-counted Never second = second
-counted (At last) second = cond (ltb second last) last second
+counted None second = second
+counted (Some last) second = cond (ltb second last) last second
 
 -- the seconds that have passed since that frame: "Before the first accepted frame no time counts as passed."
 abbrev pub passed : Last → (second : ℕ) → ℕ
-passed Never second = 0
-passed (At last) second = counted (At last) second - last
+passed None second = 0
+passed (Some last) second = counted (Some last) second - last
 
 -- "If 450 or more have passed since the last accepted frame of ours, .."
 unfoldable pub is_gap : Last → (second : ℕ) → Bool
@@ -164,7 +159,7 @@ abbrev pub run_by : Desk → Verdict → Run
 run_by desk (refused why) = desk.run
 run_by desk (defines book bytes) = desk.run
 run_by desk (continues book message) = desk.run
-run_by desk (opens tag message) = Open tag desk.book
+run_by desk (opens tag message) = Some (record { tag = tag; book = desk.book })
 
 -- the live book
 abbrev pub book_by : Desk → Verdict → Book
@@ -205,10 +200,10 @@ log_by desk live run log v = logged_by desk live run v ++ drop (length (logged_b
 
 -- the answer: OK with the log bytes written, or the refusal with its place
 abbrev pub said_by : Verdict → (logged : ℕ) → Said
-said_by (refused why) logged = said.Refused why
-said_by (defines book bytes) logged = said.Accepted logged
-said_by (continues book message) logged = said.Accepted logged
-said_by (opens tag message) logged = said.Accepted logged
+said_by (refused why) logged = Err why
+said_by (defines book bytes) logged = Ok logged
+said_by (continues book message) logged = Ok logged
+said_by (opens tag message) logged = Ok logged
 
 -- the answer and the desk then
 abbrev pub taken_by : Desk → (live run : List ℕ) → Verdict → Taken
@@ -236,7 +231,7 @@ dated desk last =
 
 -- the desk that handled a frame which it takes, with this frame's second, as it counts, for the last accepted one's
 abbrev pub accepting : Desk → (second : ℕ) → Desk
-accepting desk second = dated (handling desk second) (At (counted desk.last second))
+accepting desk second = dated (handling desk second) (Some (counted desk.last second))
 
 -- the desk from which a verdict leaves what it leaves: "if it is refused, the old book stays", and the old second
 abbrev pub leaving : Desk → (second : ℕ) → Verdict → Desk
@@ -257,8 +252,8 @@ frame_taken handed = settled_by handed.desk handed.second handed.live handed.run
 
 -- the same of what another desk answered and left of the frame: its second is kept if it was taken; beside a refusal the desk is as lent
 abbrev pub settled_as : Desk → (second : ℕ) → Said → (left : Desk) → Taken
-settled_as desk second (said.Accepted log) left = record { said = said.Accepted log; desk = dated left (At (counted desk.last second)) }
-settled_as desk second (said.Refused why) left = record { said = said.Refused why; desk = desk }
+settled_as desk second (Ok log) left = record { said = Ok log; desk = dated left (Some (counted desk.last second)) }
+settled_as desk second (Err why) left = record { said = Err why; desk = desk }
 
 abbrev pub settled : Desk → (second : ℕ) → Taken → Taken
 settled desk second answer = settled_as desk second (answer).said (answer).desk
@@ -268,8 +263,8 @@ with_second desk second left = results (settled desk second left.answer) left.li
 
 -- the answer's number in document 01
 abbrev pub number_of_said : Said → ℕ
-number_of_said (said.Accepted log) = 0
-number_of_said (said.Refused fault) = number_of fault.refusal
+number_of_said (Ok log) = 0
+number_of_said (Err fault) = number_of fault.refusal
 
 -- ---- a book that was read from its kept form, in bytes of its own, is taken as the live book; an open run and the last second stay as they are
 

@@ -1,7 +1,7 @@
 -- Theorems on the desk, for frames with their seconds. A sound desk stays sound. Which definition placed this residual: that of the live book as it was when its run was opened, whatever GAD came
 -- since; so two definitions never mix in one run. A GAD changes no later entry of the open run. A log always has
 -- room, and no frame is refused by UNKNOWN_TYPE. Proved; assumes nothing.
-use Rattle.std.specs.Prelude.{◌≡◌, refl, Bool, false, cond, ◌&&◌, List, [], ◌∷◌, ◌++◌, map, ℕ, ◌*◌, ◌≤◌, ltb, length, take, drop}
+use Rattle.std.specs.Prelude.{◌≡◌, refl, Bool, false, cond, ◌&&◌, List, [], ◌∷◌, ◌++◌, map, ℕ, ◌*◌, ◌≤◌, ltb, length, take, drop, Option, Ok, Err, Some, None}
 use Rattle.std.proofs.Common.{ap, ap₂, sym, ◌∙◌, subst, true≢false, arith, lt-ltb, le-leb, le-ltb}
 use Rattle.std.proofs.Math.Bool.{true}
 use Rattle.area.specs.declared.AreaId.{AreaId}
@@ -16,11 +16,9 @@ use Rattle.entries.specs.Entry as entry
 use Rattle.entries.specs.Entry.{joined, numbers_of}
 use Rattle.answer.specs.declared.Fault as answer
 use Rattle.answer.specs.declared.Place.{Place}
-use Rattle.answer.specs.declared.Place.TheVariants.{Nowhere, At}
 use Rattle.answer.specs.declared.Refusal.TheVariants.{Field, UnknownType}
 use Rattle.message.specs.Messages.{constellation_for}
-use Rattle.message.specs.declared.Subtype.{Subtype}
-use Rattle.message.specs.declared.Subtype.TheVariants as subtype
+use Rattle.message.specs.Results.{Subtype}
 use Rattle.desk.specs.Desk.{source_in_range, made_for, new_desk, desk_sound}
 use Rattle.desk.specs.Answers.{answers, answers_at}
 use Rattle.desk.specs.Take.{Handed, Verdict, refused, defines, continues, opens, counted, verdict, copied, logged_by, leaving_by, frame_taken, number_of_said}
@@ -31,10 +29,7 @@ use Rattle.desk.specs.History.{Held, Given, frame_with, kept_book, verdict_on, h
 use Rattle.desk.specs.Continues.{still-continues}
 use Rattle.desk.specs.Answering.{verdict_answers, answered, log-kept, number-six}
 use Rattle.desk.specs.declared.Desk.{Desk}
-use Rattle.desk.specs.declared.Last.TheVariants.{Never, At}
-use Rattle.desk.specs.declared.NewDesk.TheVariants.{Made, Refused}
-use Rattle.desk.specs.declared.Run.{Run}
-use Rattle.desk.specs.declared.Run.TheVariants.{Closed, Open}
+use Rattle.desk.specs.Results.{Run}
 
 -- ---- a sound desk stays sound
 
@@ -69,16 +64,16 @@ pub stays-sound : (held : Held) (given : Given) → held_sound held ≡ true →
 stays-sound held given e = sound-by (handled held given) (handled-sound held given e) (verdict_on held given) (fits_on held given)
 
 -- a new desk is sound, with any bytes lent for its books
-pub new-sound : (solution processor constellation : ℕ) (desk : Desk) (live run : List ℕ) → new_desk solution processor constellation ≡ Made desk → book_bytes ≤ length live
+pub new-sound : (solution processor constellation : ℕ) (desk : Desk) (live run : List ℕ) → new_desk solution processor constellation ≡ Ok desk → book_bytes ≤ length live
     → desk_sound desk live run ≡ true
 unfolding new_desk desk_sound sound siou_sound head_sound areas_sound
 new-sound solution processor constellation desk live run e h = go (source_in_range solution processor) refl (constellation_for constellation) e
   where
-    go : (b : Bool) → source_in_range solution processor ≡ b → (s : Subtype) → cond b (made_for solution processor s) (Refused Field) ≡ Made desk → desk_sound desk live run ≡ true
-    go true q (subtype.Known c) e =
-        let z : record { solution = solution; processor = processor; constellation = c; book = no_book; run = Closed; last = Never } ≡ desk = cc in
+    go : (b : Bool) → source_in_range solution processor ≡ b → (s : Subtype) → cond b (made_for solution processor s) (Err Field) ≡ Ok desk → desk_sound desk live run ≡ true
+    go true q (Some c) e =
+        let z : record { solution = solution; processor = processor; constellation = c; book = no_book; run = None; last = None } ≡ desk = cc in
         subst (λ d. desk_sound d live run ≡ true) z (rw (q, le-leb book_bytes (length live) h))
-    go true q subtype.Unknown e = let z : ◌≡◌ {A = ℕ} 0 1 = cc in absurd (omega arith)
+    go true q None e = let z : ◌≡◌ {A = ℕ} 0 1 = cc in absurd (omega arith)
     go false q s e = let z : ◌≡◌ {A = ℕ} 0 1 = cc in absurd (omega arith)
 
 -- ---- which definition placed this residual
@@ -120,13 +115,13 @@ module _ (held : Held) (opening : Snapshot) (k : Kept held.run opening held.desk
   kept_by (opens tag message) (new-run r h) =
       kept refl (copied-found held.desk.book held.live held.run (sound-live held.desk held.live held.run r.state) r.room)
 
-  by-run : (r : Run) (tag : ℕ) (book : Book) → Kept held.run opening r → r ≡ Open tag book → (message : Hpac)
+  by-run : (r : Run) (tag : ℕ) (book : Book) → Kept held.run opening r → r ≡ Some (record { tag = tag; book = book }) → (message : Hpac)
       → log_of book held.run message ≡ log_of opening.book opening.bytes message
-  by-run Closed tag book closed e message = let z : ◌≡◌ {A = ℕ} 0 1 = cc in absurd (omega arith)
-  by-run (Open t b) tag book (kept p q) e message =
-      let same : b ≡ book = cc in
-      ap (λ b. log_of b held.run message) (sym same) ∙ log-same b held.run opening.bytes q message
-      ∙ ap (λ b. log_of b opening.bytes message) p
+  by-run None tag book closed e message = let z : ◌≡◌ {A = ℕ} 0 1 = cc in absurd (omega arith)
+  by-run (Some r₀) tag book (kept p q) e message =
+      let same : r₀.book ≡ book = cc in
+      ap (λ r₀.book. log_of r₀.book held.run message) (sym same) ∙ log-same r₀.book held.run opening.bytes q message
+      ∙ ap (λ r₀.book. log_of r₀.book opening.bytes message) p
 
   told-by : (v : Verdict) → Fits held.desk held.live held.run v → entries_of held v ≡ told_by (opening_by held opening v) v
   told-by (refused why) f = refl
@@ -147,7 +142,7 @@ always-kept course [] k = k
 always-kept course (given ∷ rest) k = always-kept (onward course given) rest (stays-kept course given k)
 
 -- where no run is open there is nothing to ask: a new desk may start with any `opening`
-pub closed-kept : (start : Course) → start.held.desk.run ≡ Closed → KeptOn start
+pub closed-kept : (start : Course) → start.held.desk.run ≡ None → KeptOn start
 closed-kept start e = subst (λ r. Kept start.held.run start.opening r) (sym e) closed
 
 pub told : (course : Course) (given : Given) → KeptOn course
@@ -222,7 +217,7 @@ module _ (held : Held) (book : Book) (bytes : List ℕ) (frame : List ℕ) (seco
       go : (given : Given) → Fits (handled_by held given (defines book bytes)).desk (handled_by held given (defines book bytes)).live (handled_by held given (defines book bytes)).run (defines book bytes)
           → Unchanged (held_by (handled_by held given (defines book bytes)) (defines book bytes))
       go (frame_with f s l) (new-areas r w) = (
-        still-continues run_book message held.desk held.live held.run book bytes (At (counted held.desk.last s))
+        still-continues run_book message held.desk held.live held.run book bytes (Some (counted held.desk.last s))
             (sound-by (handled_at held s (defines book bytes)) r.state (defines book bytes) (new-areas r w)) frame second log q,
         refl,
       )
@@ -235,7 +230,7 @@ module _ (held : Held) (book : Book) (bytes : List ℕ) (frame : List ℕ) (seco
 -- ---- what the log places is what the lookup shows
 
 -- While a run is open, looking up an area gives the six bytes that its ID has in the run's book: those that `bits_for` and reason 3 ask.
-pub looks-up : (desk : Desk) (live run : List ℕ) (tag : ℕ) (book : Book) → desk_sound desk live run ≡ true → book_bytes ≤ length run → desk.run ≡ Open tag book
+pub looks-up : (desk : Desk) (live run : List ℕ) (tag : ℕ) (book : Book) → desk_sound desk live run ≡ true → book_bytes ≤ length run → desk.run ≡ Some (record { tag = tag; book = book })
     → (id : AreaId) → bytes_at live run (spot_of desk live run id) ≡ found book run id
 unfolding spot_of found
 looks-up desk live run tag book e h o id =
@@ -261,12 +256,12 @@ pub refusals : (handed : Handed) (why : answer.Fault) → verdict handed ≡ ref
 refusals handed why e = subst (λ v. verdict_answers v ≡ true) e (answered handed).refusal
 
 -- .. so never by UNKNOWN_TYPE: a type that it does not know is NOT_OURS.
-pub never-unknown-type : (handed : Handed) (place : Place) → verdict handed ≡ refused (record { refusal = UnknownType; place = place }) → ⊥
+pub never-unknown-type : (handed : Handed) (place : (Option Place)) → verdict handed ≡ refused (record { refusal = UnknownType; place = place }) → ⊥
 never-unknown-type handed place e = go place (refusals handed (record { refusal = UnknownType; place = place }) e)
   where
-    go : (place : Place) → answers_at place UnknownType ≡ true → ⊥
-    go Nowhere h = true≢false (sym h)
-    go (At sf at) h = true≢false (sym h)
+    go : (place : (Option Place)) → answers_at place UnknownType ≡ true → ⊥
+    go None h = true≢false (sym h)
+    go (Some sf at) h = true≢false (sym h)
 
 pub never-six : (handed : Handed) → number_of_said (frame_taken handed).answer.said ≡ 6 → ⊥
 never-six handed n = number-six handed n

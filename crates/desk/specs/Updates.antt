@@ -1,7 +1,7 @@
 -- Theorems (document 02, request 5, "One solution update per book"), over every history of frames and kept books, at whatever seconds: a block is placed only if the run's book has its message's
 -- SIOU (`one-update`); a run opened on a book of unknown SIOU places no block (`unknown-places-none`); a book's SIOU is that of the GAD that began it, or of the kept or starting book, and
 -- unknown where a gap emptied it (`siou-from`); the book of a run that is opened is the live book as it is then (`opened-siou`). Proved; assumes nothing.
-use Rattle.std.specs.Prelude.{◌≡◌, Bool, cond, not, ◌&&◌, List, [], ◌∷◌, ℕ, ◌+◌, length}
+use Rattle.std.specs.Prelude.{◌≡◌, Bool, cond, not, ◌&&◌, List, [], ◌∷◌, ℕ, ◌+◌, length, Some, None}
 use Rattle.std.proofs.Math.Path.{refl, subst}
 use Rattle.std.proofs.Common.{ap, ap₂, sym, ◌∙◌, arith}
 use Rattle.std.proofs.Math.Bool.{true, false}
@@ -41,8 +41,7 @@ use Rattle.desk.specs.Entries.{entries_under, written_on}
 use Rattle.desk.specs.Theorems.{always-kept}
 use Rattle.desk.specs.Display.{written-under}
 use Rattle.desk.specs.declared.Desk.{Desk}
-use Rattle.desk.specs.declared.Run.{Run}
-use Rattle.desk.specs.declared.Run.TheVariants.{Closed, Open}
+use Rattle.desk.specs.Results.{Run}
 
 -- ---- which blocks are placed
 
@@ -157,10 +156,10 @@ module _ (desk : Desk) (live : List ℕ) (gad : Part Gad) where
   fills-stop false why rest h = h refl
 
   fills-run : (r : Run) (tag : ℕ) (message : Hpac) → Fills (by_run r tag message)
-  fills-run Closed tag message = tt
-  fills-run (Open current book) tag message = go (eqb tag current)
+  fills-run None tag message = tt
+  fills-run (Some p) tag message = go (eqb tag p.tag)
     where
-      go : (b : Bool) → Fills (cond b (continues book message) (opens tag message))
+      go : (b : Bool) → Fills (cond b (continues p.book message) (opens tag message))
       go true = tt
       go false = tt
 

@@ -1,6 +1,6 @@
 -- Theorems (document 02, request 2): a refusal's answer says document 01's number and is never 0; field's number and place too, each by bits of its own, wherever they have room, as they do
 -- for every payload and for every sheet under 2^32 entries. Proved.
-use Rattle.std.specs.Prelude.{◌≡◌, refl, Bool, true, false, cond, List, ℕ, ◌+◌, ◌*◌, ◌/◌, ◌%◌, ◌^◌, ◌≤◌, ◌<◌, ltb, length}
+use Rattle.std.specs.Prelude.{◌≡◌, refl, Bool, true, false, cond, List, ℕ, ◌+◌, ◌*◌, ◌/◌, ◌%◌, ◌^◌, ◌≤◌, ◌<◌, ltb, length, Err}
 use Rattle.std.proofs.Common.{ap, ap₂, ◌∙◌, arith, ltb-false}
 use Rattle.answer.specs.Number.{number_of}
 use Rattle.answer.specs.Place.{sf_in, at_in}
@@ -9,8 +9,6 @@ use Rattle.answer.specs.declared.Refusal.TheVariants as refusal
 use Rattle.answer.specs.declared.Fault.{Fault}
 use Rattle.sheet.specs.Sheet.{judged, judged_sheet}
 use Rattle.sheet.specs.Places.{judged-faults, payload-within, judged-sheet-faults, entry-within}
-use Rattle.sheet.specs.declared.ReadAnswer.TheVariants as reader
-use Rattle.sheet.specs.declared.WriteAnswer.TheVariants as writer
 use Rattle.export.specs.Numbers.{at_most, most_sf, most_place, answer_of}
 
 -- the lowest 8 bits are document 01's number, the next 24 the field's, the highest 32 the bit or the entry
@@ -73,13 +71,13 @@ exact fault h k =
     }
 
 -- What a payload is refused by is told exactly ..
-pub judged-exact : (kind subtype : ℕ) (payload : List ℕ) (why : Fault) → judged kind subtype payload ≡ reader.Refused why → Exact why
+pub judged-exact : (kind subtype : ℕ) (payload : List ℕ) (why : Fault) → judged kind subtype payload ≡ Err why → Exact why
 judged-exact kind subtype payload why e =
     let w = payload-within (judged-faults kind subtype payload why e) in
     exact why (omega (arith, w.sf)) (omega (arith, w.at))
 
 -- .. and what a sheet is refused by, if it has fewer than 2^32 entries.
-pub judged-sheet-exact : (kind subtype : ℕ) (sheet : List ℕ) (why : Fault) → length sheet < 2 ^ 32 → judged_sheet kind subtype sheet ≡ writer.Refused why → Exact why
+pub judged-sheet-exact : (kind subtype : ℕ) (sheet : List ℕ) (why : Fault) → length sheet < 2 ^ 32 → judged_sheet kind subtype sheet ≡ Err why → Exact why
 judged-sheet-exact kind subtype sheet why few e =
     let w = entry-within (judged-sheet-faults kind subtype sheet why e) in
     exact why (omega (arith, w.sf)) (omega (arith, w.at))

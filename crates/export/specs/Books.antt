@@ -1,14 +1,11 @@
 -- Definitions to believe: a book as three numbers, and the answers of `book` and `kept` in numbers.
-use Rattle.std.specs.Prelude.{cond, List, [], ◌∷◌, ℕ, ◌+◌, ◌-◌, eqb, get_or}
+use Rattle.std.specs.Prelude.{cond, List, [], ◌∷◌, ℕ, ◌+◌, ◌-◌, eqb, get_or, Ok, Err}
 use Rattle.book.specs.declared.Book.{Book}
 use Rattle.book.specs.Book.{no_book, book_of as book_with}
-use Rattle.book.specs.declared.Taken.{Taken}
-use Rattle.book.specs.declared.Taken.TheVariants as taking
+use Rattle.book.specs.Results.{Taken}
 use Rattle.book.specs.Take.{taken_of, bytes_after}
-use Rattle.kept.specs.declared.Written.{Written}
-use Rattle.kept.specs.declared.Written.TheVariants as writing
-use Rattle.kept.specs.declared.ReadKept.{ReadKept}
-use Rattle.kept.specs.declared.ReadKept.TheVariants as reading
+use Rattle.kept.specs.Results.{Written}
+use Rattle.kept.specs.Results.{ReadKept}
 use Rattle.kept.specs.Kept.{written, out_after, read_kept, answer_of, left_by}
 use Rattle.export.specs.Numbers.{Told, refused, refused_at, at_most}
 
@@ -35,8 +32,8 @@ unfoldable pub take_leaves : (book bytes payload : List ℕ) → List ℕ
 take_leaves book bytes payload = bytes_after (book_in book) bytes payload
 
 unfoldable pub told_taken : Taken → Told
-told_taken (taking.Holds book) = record { number = 0; numbers = book_of book }
-told_taken (taking.Refused fault) = refused_at fault
+told_taken (Ok book) = record { number = 0; numbers = book_of book }
+told_taken (Err fault) = refused_at fault
 
 -- the kept book written
 unfoldable pub kept_of : (book bytes out : List ℕ) → Written
@@ -46,8 +43,8 @@ unfoldable pub kept_leaves : (book bytes out : List ℕ) → List ℕ
 kept_leaves book bytes out = out_after (book_in book) bytes out
 
 unfoldable pub told_kept : Written → Told
-told_kept (writing.Bytes n) = record { number = 0; numbers = n ∷ [] }
-told_kept (writing.Refused refusal) = refused refusal
+told_kept (Ok n) = record { number = 0; numbers = n ∷ [] }
+told_kept (Err refusal) = refused refusal
 
 -- the kept book read
 unfoldable pub read_of : (kept bytes : List ℕ) → ReadKept
@@ -57,5 +54,5 @@ unfoldable pub read_leaves : (kept bytes : List ℕ) → List ℕ
 read_leaves kept bytes = left_by (read_kept kept bytes) bytes
 
 unfoldable pub told_read : ReadKept → Told
-told_read (reading.Holds book) = record { number = 0; numbers = book_of book }
-told_read (reading.Refused refusal) = refused refusal
+told_read (Ok book) = record { number = 0; numbers = book_of book }
+told_read (Err refusal) = refused refusal

@@ -1,15 +1,13 @@
 -- Definitions to believe: the answers of `frame` in numbers.
-use Rattle.std.specs.Prelude.{List, [], ◌∷◌, ℕ}
+use Rattle.std.specs.Prelude.{List, [], ◌∷◌, ℕ, Ok, Err, Some, None}
 use Rattle.export.specs.Numbers.{Told, refused}
 use Rattle.frame.specs.declared.Frame.{Frame}
 use Rattle.frame.specs.declared.Parts.{Parts}
 use Rattle.frame.specs.declared.Sealing.{Sealing}
-use Rattle.frame.specs.declared.Seal.{Seal}
-use Rattle.frame.specs.declared.Seal.TheVariants.{Plain, Sealed}
+use Rattle.frame.specs.Results.{Seal}
 use Rattle.frame.specs.declared.Checked.{Checked}
 use Rattle.frame.specs.declared.Checked.TheVariants as check
-use Rattle.frame.specs.declared.Written.{Written}
-use Rattle.frame.specs.declared.Written.TheVariants as write
+use Rattle.frame.specs.Results.{Written}
 
 -- the places that a header takes
 abbrev pub header_room : ℕ
@@ -17,13 +15,13 @@ header_room = 15
 
 -- TF004
 abbrev pub is_sealed : Seal → ℕ
-is_sealed Plain = 0
-is_sealed (Sealed sealing) = 1
+is_sealed None = 0
+is_sealed (Some sealing) = 1
 
 -- TF012 to TF015, zeros in a plain frame
 abbrev pub sealing_of : Seal → Sealing
-sealing_of Plain = record { id = 0; sequence = 0; authentication = 0; authentication_length = 0 }
-sealing_of (Sealed sealing) = sealing
+sealing_of None = record { id = 0; sequence = 0; authentication = 0; authentication_length = 0 }
+sealing_of (Some sealing) = sealing
 
 -- the frame's length in bytes; TF002 to TF005, TF007 to TF011, TF012 to TF015; how many bytes are before the payload
 unfoldable pub header_of : Frame → List ℕ
@@ -65,5 +63,5 @@ parts_of kind check subtype tag_kind tag solution processor =
 
 -- the frame's length
 unfoldable pub told_written : Written → Told
-told_written (write.Frame n) = record { number = 0; numbers = n ∷ [] }
-told_written (write.Refused refusal) = refused refusal
+told_written (Ok n) = record { number = 0; numbers = n ∷ [] }
+told_written (Err refusal) = refused refusal

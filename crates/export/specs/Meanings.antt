@@ -1,5 +1,5 @@
 -- Definitions to believe: the answers of `values` in numbers and floats.
-use Rattle.std.specs.Prelude.{List, [], ◌∷◌, ℕ, set, Float}
+use Rattle.std.specs.Prelude.{List, [], ◌∷◌, ℕ, set, Float, Ok, Err}
 use Rattle.answer.specs.Number.{number_of}
 use Rattle.values.specs.declared.Residual.{Residual}
 use Rattle.values.specs.declared.Residual.TheVariants as residual
@@ -7,8 +7,7 @@ use Rattle.values.specs.declared.Yaw.{Yaw}
 use Rattle.values.specs.declared.Yaw.TheVariants as yaw
 use Rattle.values.specs.declared.Value.{Value}
 use Rattle.values.specs.declared.Value.TheVariants as value
-use Rattle.values.specs.declared.OrbitAnswer.{OrbitAnswer}
-use Rattle.values.specs.declared.OrbitAnswer.TheVariants as orbit
+use Rattle.values.specs.Results.{OrbitAnswer}
 use Rattle.export.specs.Numbers.{Told, refused}
 
 -- a unit and a count; a value; the three orbit corrections
@@ -65,9 +64,9 @@ floats_of_value (value.Refused refusal) l = l
 
 -- the orbit corrections: radial, along-track, cross-track
 unfoldable pub told_orbit : OrbitAnswer → ℕ
-told_orbit (orbit.Is at) = 0
-told_orbit (orbit.Refused refusal) = number_of refusal
+told_orbit (Ok at) = 0
+told_orbit (Err refusal) = number_of refusal
 
 unfoldable pub floats_of_orbit : OrbitAnswer → List Float → List Float
-floats_of_orbit (orbit.Is at) l = set (set (set l 0 at.radial) 1 at.along_track) 2 at.cross_track
-floats_of_orbit (orbit.Refused refusal) l = l
+floats_of_orbit (Ok at) l = set (set (set l 0 at.radial) 1 at.along_track) 2 at.cross_track
+floats_of_orbit (Err refusal) l = l

@@ -1,7 +1,7 @@
 -- Theorems: calls for other languages in a row are calls of `stream`, `book` and `kept` in a row. The numbers and bytes which a call leaves, refused ones included, the next call reads as the
 -- tray (`next-call`, `next-finish`) or the book (`next-take`, `next-read`) that the call below answered; step by step they are those calls. A kept book that was written is the book again when it is read
 -- (`kept_back`, `kept-back-areas`). The theorems on whole streams are lifted for the calls of `prepare` (crate exportprepare). Proved; assumes nothing.
-use Rattle.std.specs.Prelude.{◌≡◌, refl, Bool, true, false, cond, not, List, ◌∷◌, ◌++◌, ℕ, ◌*◌, ◌≤◌, ◌<◌, ltb, length, take, drop}
+use Rattle.std.specs.Prelude.{◌≡◌, refl, Bool, true, false, cond, not, List, ◌∷◌, ◌++◌, ℕ, ◌*◌, ◌≤◌, ◌<◌, ltb, length, take, drop, Ok, Err}
 use Rattle.std.proofs.Math.Path.{ap, subst}
 use Rattle.std.proofs.Common.{◌∙◌, arith, le-ltb, ltb-false}
 use Rattle.answer.specs.Stop.{stop}
@@ -23,13 +23,10 @@ use Rattle.book.specs.Take.{taken_of, bytes_after}
 use Rattle.book.specs.Take as taken
 use Rattle.book.specs.Theorems.{stays-sound}
 use Rattle.book.specs.declared.Book.{Book}
-use Rattle.book.specs.declared.Taken.{Taken}
-use Rattle.book.specs.declared.Taken.TheVariants as taking
+use Rattle.book.specs.Results.{Taken}
 use Rattle.kept.specs.Kept.{read_kept, answer_of, left_by}
 use Rattle.kept.specs.Theorems.{reads-sound, write_read, write-read-bytes}
-use Rattle.kept.specs.declared.Written.TheVariants as writing
-use Rattle.kept.specs.declared.ReadKept.{ReadKept}
-use Rattle.kept.specs.declared.ReadKept.TheVariants as reading
+use Rattle.kept.specs.Results.{ReadKept}
 use Rattle.export.specs.Numbers.{room_for, laid, lent_after, at_most}
 use Rattle.export.specs.Frames.{header_room}
 use Rattle.export.specs.Streams.{tray_room, told_room, rooms, tray_in, tray_of, call_of, finish_of, tray_said, tray_told}
@@ -124,36 +121,36 @@ empty aiou siou-plus-one lent = refl
 
 -- the book after a GAD, and after a kept book was read: the one that is answered, and with a refusal the old one
 abbrev pub after_taken : Book → Taken → Book
-after_taken old (taking.Holds book) = book
-after_taken old (taking.Refused refusal) = old
+after_taken old (Ok book) = book
+after_taken old (Err refusal) = old
 
 abbrev pub after_read : Book → ReadKept → Book
-after_read old (reading.Holds book) = book
-after_read old (reading.Refused refusal) = old
+after_read old (Ok book) = book
+after_read old (Err refusal) = old
 
 -- a GAD is taken into a sound book only, and makes one
-was-sound : (old : Book) (s payload : List ℕ) (new : Book) → taken_of old s payload ≡ taking.Holds new → book.sound old s ≡ true
+was-sound : (old : Book) (s payload : List ℕ) (new : Book) → taken_of old s payload ≡ Ok new → book.sound old s ≡ true
 unfolding taken.outcome
 was-sound old s payload new = go (ltb (length s) book_bytes) (book.sound old s) _ _ _
   where
     go : (a b : Bool) (o : taken.Outcome) (aiou siou : ℕ)
-        → taken.answer_of (stop a (taken.refused (nowhere Room)) (stop (not b) (taken.refused (nowhere State)) o)) aiou siou ≡ taking.Holds new → b ≡ true
+        → taken.answer_of (stop a (taken.refused (nowhere Room)) (stop (not b) (taken.refused (nowhere State)) o)) aiou siou ≡ Ok new → b ≡ true
     go true b o aiou siou e = let w : ◌≡◌ {A = ℕ} 0 1 = cc in absurd (omega arith)
     go false false o aiou siou e = let w : ◌≡◌ {A = ℕ} 0 1 = cc in absurd (omega arith)
     go false true o aiou siou e = refl
 
-made-sound : (old : Book) (s payload : List ℕ) (new : Book) → taken_of old s payload ≡ taking.Holds new → head_sound new ≡ true
+made-sound : (old : Book) (s payload : List ℕ) (new : Book) → taken_of old s payload ≡ Ok new → head_sound new ≡ true
 made-sound old s payload new e = sound-head new (bytes_after old s payload) (stays-sound old s payload new (was-sound old s payload new e) e)
 
-next-taken : (book : List ℕ) (t : Taken) → ((new : Book) → t ≡ taking.Holds new → head_sound new ≡ true) → book_in (laid (told_taken t).numbers book) ≡ after_taken (book_in book) t
+next-taken : (book : List ℕ) (t : Taken) → ((new : Book) → t ≡ Ok new → head_sound new ≡ true) → book_in (laid (told_taken t).numbers book) ≡ after_taken (book_in book) t
 unfolding told_taken laid
-next-taken book (taking.Holds new) h = book-laid new book (h new refl)
-next-taken book (taking.Refused refusal) h = refl
+next-taken book (Ok new) h = book-laid new book (h new refl)
+next-taken book (Err refusal) h = refl
 
-next-kept : (book : List ℕ) (r : ReadKept) → ((new : Book) → r ≡ reading.Holds new → head_sound new ≡ true) → book_in (laid (told_read r).numbers book) ≡ after_read (book_in book) r
+next-kept : (book : List ℕ) (r : ReadKept) → ((new : Book) → r ≡ Ok new → head_sound new ≡ true) → book_in (laid (told_read r).numbers book) ≡ after_read (book_in book) r
 unfolding told_read laid
-next-kept book (reading.Holds new) h = book-laid new book (h new refl)
-next-kept book (reading.Refused refusal) h = refl
+next-kept book (Ok new) h = book-laid new book (h new refl)
+next-kept book (Err refusal) h = refl
 
 -- The next call reads the book that `book::take` answered,
 pub next-take : (book bytes payload : List ℕ)
@@ -173,7 +170,7 @@ next-read kept book bytes =
     (next-kept book (answer_of (read_kept kept bytes)) (λ new e. sound-head new (left_by (read_kept kept bytes) bytes) (reads-sound kept bytes new e)))
 
 -- So a book that was written as a kept book has its AIOU, SIOU and count again when that is read, whatever numbers and bytes are lent for it,
-pub kept_back : (book bytes out lent areas : List ℕ) (n : ℕ) → Bytes bytes → kept_of book bytes out ≡ writing.Bytes n → book_room ≤ length lent → book_bytes ≤ length areas
+pub kept_back : (book bytes out lent areas : List ℕ) (n : ℕ) → Bytes bytes → kept_of book bytes out ≡ Ok n → book_room ≤ length lent → book_bytes ≤ length areas
     → book_in (lent_after book_room lent (told_read (read_of (take n (kept_leaves book bytes out)) areas))) ≡ book_in book
 unfolding kept_of kept_leaves room_for
 kept_back book bytes out lent areas n b e h k =
@@ -183,7 +180,7 @@ kept_back book bytes out lent areas n b e h k =
     ∙ ap (after_read (book_in lent)) (write_read (book_in book) bytes out areas b n e k)
 
 -- and its areas: into the bytes that are lent come those of the areas held, and the others stay.
-pub kept-back-areas : (book bytes out areas : List ℕ) (n : ℕ) → Bytes bytes → kept_of book bytes out ≡ writing.Bytes n → book_bytes ≤ length areas
+pub kept-back-areas : (book bytes out areas : List ℕ) (n : ℕ) → Bytes bytes → kept_of book bytes out ≡ Ok n → book_bytes ≤ length areas
     → read_leaves (take n (kept_leaves book bytes out)) areas ≡ take (6 * (book_in book).count) bytes ++ drop (6 * (book_in book).count) areas
 unfolding kept_of kept_leaves read_leaves
 kept-back-areas book bytes out areas n b e k = write-read-bytes (book_in book) bytes out areas b n e k

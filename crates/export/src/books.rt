@@ -87,11 +87,11 @@ fn tell_taken(answer: Taken, book: &mut [u64]) -> u64
     ensures book_after { book.new ≡ laid (told_taken answer).numbers book.old }
 {
     match answer {
-        Taken::Holds(held) => {
+        Ok(held) => {
             put_book(held, book);
             0
         }
-        Taken::Refused(fault) => answer_of(fault),
+        Err(fault) => answer_of(fault),
     }
 }
 
@@ -114,11 +114,11 @@ fn tell_read(answer: ReadKept, book: &mut [u64]) -> u8
     ensures book_after { book.new ≡ laid (told_read answer).numbers book.old }
 {
     match answer {
-        ReadKept::Holds(held) => {
+        Ok(held) => {
             put_book(held, book);
             0
         }
-        ReadKept::Refused(refusal) => answer::number(refusal),
+        Err(refusal) => answer::number(refusal),
     }
 }
 
@@ -148,12 +148,12 @@ fn tell_kept(answer: Written, written: &mut [u64]) -> u8
     ensures written_after { written.new ≡ laid (told_kept answer).numbers written.old }
 {
     match answer {
-        Written::Bytes(n) => {
+        Ok(n) => {
             let numbers = [count(n)];
             put(&numbers, written);
             0
         }
-        Written::Refused(refusal) => answer::number(refusal),
+        Err(refusal) => answer::number(refusal),
     }
 }
 

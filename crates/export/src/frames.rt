@@ -15,8 +15,8 @@ fn is_sealed(seal: Seal) -> u64
     ensures { result ≡ is_sealed seal }
 {
     match seal {
-        Seal::Plain => 0,
-        Seal::Sealed(_) => 1,
+        None => 0,
+        Some(_) => 1,
     }
 }
 
@@ -25,13 +25,13 @@ fn sealing_of(seal: Seal) -> Sealing
     ensures { result ≡ sealing_of seal }
 {
     match seal {
-        Seal::Plain => Sealing {
+        None => Sealing {
             id: 0,
             sequence: 0,
             authentication: 0,
             authentication_length: 0,
         },
-        Seal::Sealed(sealing) => sealing,
+        Some(sealing) => sealing,
     }
 }
 
@@ -93,12 +93,12 @@ fn tell_written(answer: Written, size: &mut [u64]) -> u8
     ensures size_after { size.new ≡ laid (told_written answer).numbers size.old }
 {
     match answer {
-        Written::Frame(n) => {
+        Ok(n) => {
             let numbers = [count(n)];
             put(&numbers, size);
             0
         }
-        Written::Refused(refusal) => answer::number(refusal),
+        Err(refusal) => answer::number(refusal),
     }
 }
 

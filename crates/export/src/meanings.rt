@@ -145,11 +145,11 @@ fn tell_orbit(answer: OrbitAnswer, orbit: &mut [f64]) -> u8
     ensures orbit_after { orbit.new ≡ floats_of_orbit answer orbit.old }
 {
     match answer {
-        OrbitAnswer::Is(at) => {
+        Ok(at) => {
             put_orbit(at, orbit);
             0
         }
-        OrbitAnswer::Refused(refusal) => answer::number(refusal),
+        Err(refusal) => answer::number(refusal),
     }
 }
 

@@ -5,6 +5,8 @@ ghost use Rattle.sheet.specs.Sheet.{judged, read_answer, sheet_after, judged_she
 ghost use Rattle.export.specs.Numbers.{room_for, laid, answered, lent_after};
 ghost use Rattle.export.specs.Payloads.{counts_room, told_read, told_written};
 
+use sheet::Written;
+use quick::Extent;
 use crate::numbers::{ROOM_ANSWER, answer_of, count, put};
 use sheet::{ReadAnswer, WriteAnswer};
 
@@ -18,12 +20,12 @@ fn tell_read(answer: ReadAnswer, counts: &mut [u64]) -> u64
     ensures counts_after { counts.new ≡ laid (told_read answer).numbers counts.old }
 {
     match answer {
-        ReadAnswer::Read { bits, entries } => {
+        Ok(Extent { bits, entries }) => {
             let numbers = [count(bits), count(entries)];
             put(&numbers, counts);
             0
         }
-        ReadAnswer::Refused(fault) => answer_of(fault),
+        Err(fault) => answer_of(fault),
     }
 }
 
@@ -34,12 +36,12 @@ fn tell_written(answer: WriteAnswer, counts: &mut [u64]) -> u64
     ensures counts_after { counts.new ≡ laid (told_written answer).numbers counts.old }
 {
     match answer {
-        WriteAnswer::Written { bits, bytes } => {
+        Ok(Written { bits, bytes }) => {
             let numbers = [count(bits), count(bytes)];
             put(&numbers, counts);
             0
         }
-        WriteAnswer::Refused(fault) => answer_of(fault),
+        Err(fault) => answer_of(fault),
     }
 }
 

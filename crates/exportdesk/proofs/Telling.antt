@@ -9,7 +9,7 @@ use Rattle.book.specs.declared.Book.{Book}
 use Rattle.desk.specs.Desk.{desk_sound}
 use Rattle.desk.specs.Take.{hands, results, frame_taken, hands_book, results_book, book_taken}
 use Rattle.desk.specs.declared.Desk.{Desk}
-use Rattle.desk.specs.declared.Said.{Said}
+use Rattle.desk.specs.Results.{Said}
 use Rattle.desk.specs.declared.Taken.{Taken}
 use Rattle.export.specs.Numbers.{laid}
 use Rattle.export.specs.Books.{book_in}

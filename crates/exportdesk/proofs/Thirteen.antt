@@ -1,4 +1,5 @@
 -- Laws: a desk taken out of thirteen numbers and put back, worded as the code makes them.
+use Rattle.std.specs.Prelude.{Some, None}
 use mathlib.Core.Path.{◌≡◌, sym, ap, ◌∙◌}
 use mathlib.Core.Bool.{true, false}
 use mathlib.Core.List.{List, [], ◌∷◌}
@@ -9,13 +10,10 @@ use borrow.Author.Tests.{eq-eqb, ne_eqb, le-leb, lt-leb}
 use Rattle.codes.specs.declared.Constellation.{Constellation}
 use Rattle.codes.specs.declared.Constellation.TheVariants.{Gps}
 use Rattle.message.specs.Messages.{constellation_for}
-use Rattle.message.specs.declared.Subtype.{Subtype}
-use Rattle.message.specs.declared.Subtype.TheVariants as subtype
+use Rattle.message.specs.Results.{Subtype}
 use Rattle.book.specs.declared.Book.{Book}
-use Rattle.desk.specs.declared.Last.{Last}
-use Rattle.desk.specs.declared.Last.TheVariants.{Never, At}
-use Rattle.desk.specs.declared.Run.{Run}
-use Rattle.desk.specs.declared.Run.TheVariants.{Closed, Open}
+use Rattle.desk.specs.Results.{Last}
+use Rattle.desk.specs.Results.{Run}
 use Rattle.export.specs.Numbers.{at_most}
 use Rattle.export.specs.Books.{book_in}
 use Rattle.exportdesk.specs.States.{known, constellation_in, solution_in, run_in, last_in, desk_in}
@@ -27,10 +25,10 @@ module _ (x k : ℕ) (v : Subtype) (p : k ≡ at_most 5 x) (q : v ≡ constellat
   unfolding constellation_in
   said = ap known q ∙ ap (λ (k : ℕ). known (constellation_for k)) p
 
-  pub constellation-known : (c : Constellation) → v ≡ subtype.Known c → c ≡ constellation_in x
+  pub constellation-known : (c : Constellation) → v ≡ Some c → c ≡ constellation_in x
   constellation-known c e = sym (ap known e) ∙ said
 
-  pub constellation-unknown : v ≡ subtype.Unknown → Gps ≡ constellation_in x
+  pub constellation-unknown : v ≡ None → Gps ≡ constellation_in x
   constellation-unknown e = sym (ap known e) ∙ said
 
 module _ (solution constellation running dated : ℕ) where
@@ -61,20 +59,20 @@ module _ (solution constellation running dated : ℕ) where
 -- ---- the run, and the desk
 
 module _ (flag tag aiou siou-plus-one areas : ℕ) where
-  pub run-closed : flag ≡ 0 → Closed ≡ run_in flag tag aiou siou-plus-one areas
+  pub run-closed : flag ≡ 0 → None ≡ run_in flag tag aiou siou-plus-one areas
   unfolding run_in
   run-closed h = let z : eqb flag 0 ≡ true = eq-eqb _ _ h in rw z
 
-  pub run-open : (book : Book) → (flag ≡ 0 → ⊥) → book ≡ book_in (aiou ∷ siou-plus-one ∷ areas ∷ []) → Open tag book ≡ run_in flag tag aiou siou-plus-one areas
+  pub run-open : (book : Book) → (flag ≡ 0 → ⊥) → book ≡ book_in (aiou ∷ siou-plus-one ∷ areas ∷ []) → Some (record { tag = tag; book = book }) ≡ run_in flag tag aiou siou-plus-one areas
   unfolding run_in
-  run-open book h p = let z : eqb flag 0 ≡ false = ne_eqb _ _ h in rw z (ap (λ (b : Book). Open tag b) p)
+  run-open book h p = let z : eqb flag 0 ≡ false = ne_eqb _ _ h in rw z (ap (λ (b : Book). Some (record { tag = tag; book = b })) p)
 
 module _ (dated second : ℕ) where
-  pub last-never : dated ≡ 0 → Never ≡ last_in dated second
+  pub last-never : dated ≡ 0 → None ≡ last_in dated second
   unfolding last_in
   last-never h = let z : eqb dated 0 ≡ true = eq-eqb _ _ h in rw z
 
-  pub last-at : (dated ≡ 0 → ⊥) → At second ≡ last_in dated second
+  pub last-at : (dated ≡ 0 → ⊥) → Some second ≡ last_in dated second
   unfolding last_in
   last-at h = let z : eqb dated 0 ≡ false = ne_eqb _ _ h in rw z
 

@@ -1,5 +1,5 @@
 -- Theorems on looking an area up: six bytes are found, or none. Proved; assumes nothing.
-use Rattle.std.specs.Prelude.{◌≡◌, refl, Bool, cond, not, ◌||◌, List, [], ℕ, ◌*◌, length, take, drop}
+use Rattle.std.specs.Prelude.{◌≡◌, refl, Bool, cond, not, ◌||◌, List, [], ℕ, ◌*◌, length, take, drop, Some, None}
 use Rattle.std.proofs.Common.{sym}
 use Rattle.std.proofs.Math.Path.{subst}
 use Rattle.std.proofs.Math.Bool.{true, false}
@@ -11,13 +11,11 @@ use Rattle.book.specs.Book.{areas_in, sound, place_of, is_held, found}
 use Rattle.book.specs.Take.{lookup}
 use Rattle.book.specs.FindLaws.{bytes_of_found, found-is}
 use Rattle.book.specs.declared.Book.{Book}
-use Rattle.book.specs.declared.Found.{Found}
-use Rattle.book.specs.declared.Found.TheVariants.{Area, Nothing}
+use Rattle.book.specs.Results.{Found}
 use Rattle.desk.specs.Desk.{desk_sound}
 use Rattle.desk.specs.Lookup.{in_live, in_run, nowhere, by_run, spot_of, bytes_at}
 use Rattle.desk.specs.declared.Desk.{Desk}
-use Rattle.desk.specs.declared.Run.{Run}
-use Rattle.desk.specs.declared.Run.TheVariants.{Closed, Open}
+use Rattle.desk.specs.Results.{Run}
 use Rattle.export.specs.Numbers.{room_for}
 use Rattle.export.specs.Books.{book_room, book_in}
 use Rattle.exportdesk.specs.States.{desk_room, desk_in}
@@ -35,8 +33,8 @@ found-six : (book : Book) (s : List ℕ) (id : AreaId) → Bytes s → SixOrNone
 found-six book s id b = go (sound book s) refl
   where
     by : (f : Found) → SixOrNone (bytes_of_found f)
-    by (Area a) = six refl
-    by Nothing = none
+    by (Some a) = six refl
+    by None = none
 
     go : (w : Bool) → sound book s ≡ w → SixOrNone (found book s id)
     go true e = subst SixOrNone (sym (found-is book s e b id)) (by (lookup id.0 (areas_in book.count s)))
@@ -54,8 +52,8 @@ module _ (live run : List ℕ) (b : Bytes live) (c : Bytes run) (id : AreaId) wh
   run-six book false e f = none
 
   by-run : (r : Run) (book : Book) → SixOrNone (bytes_at live run (by_run r book live run id))
-  by-run Closed book = live-six book (is_held book live id) refl (found-six book live id b)
-  by-run (Open tag run_book) book = run-six run_book (is_held run_book run id) refl (found-six run_book run id c)
+  by-run None book = live-six book (is_held book live id) refl (found-six book live id b)
+  by-run (Some p) book = run-six p.book (is_held p.book run id) refl (found-six p.book run id c)
 
   spot-six : (desk : Desk) → SixOrNone (bytes_at live run (spot_of desk live run id))
   unfolding spot_of

@@ -1,18 +1,15 @@
 -- Definitions to believe: a desk as thirteen numbers.
-use Rattle.std.specs.Prelude.{cond, ◌&&◌, List, [], ◌∷◌, ℕ, ◌-◌, leb, eqb, get_or}
+use Rattle.std.specs.Prelude.{cond, ◌&&◌, List, [], ◌∷◌, ℕ, ◌-◌, leb, eqb, get_or, Some, None}
 use Rattle.codes.specs.Tables.{row_of}
 use Rattle.codes.specs.declared.Constellation.{Constellation}
 use Rattle.codes.specs.declared.Constellation.TheVariants.{Gps}
 use Rattle.message.specs.Messages.{constellation_for}
-use Rattle.message.specs.declared.Subtype.{Subtype}
-use Rattle.message.specs.declared.Subtype.TheVariants as subtype
+use Rattle.message.specs.Results.{Subtype}
 use Rattle.book.specs.declared.Book.{Book}
 use Rattle.book.specs.Book.{no_book}
 use Rattle.desk.specs.declared.Desk.{Desk}
-use Rattle.desk.specs.declared.Last.{Last}
-use Rattle.desk.specs.declared.Last.TheVariants.{Never, At}
-use Rattle.desk.specs.declared.Run.{Run}
-use Rattle.desk.specs.declared.Run.TheVariants.{Closed, Open}
+use Rattle.desk.specs.Results.{Last}
+use Rattle.desk.specs.Results.{Run}
 use Rattle.export.specs.Numbers.{at_most}
 use Rattle.export.specs.Books.{book_in}
 
@@ -25,8 +22,8 @@ desk_room = 13
 
 -- constellations are 0 to 4, as the subtypes of HPAC; any other number is none (`solution_in`)
 abbrev pub known : Subtype → Constellation
-known (subtype.Known constellation) = constellation
-known subtype.Unknown = Gps
+known (Some constellation) = constellation
+known None = Gps
 
 unfoldable pub constellation_in : ℕ → Constellation
 constellation_in x = known (constellation_for (at_most 5 x))
@@ -38,11 +35,11 @@ solution_in solution constellation running dated = cond (leb constellation 4 && 
 
 -- "Numbers that a flag makes meaningless (the tag of a closed run, ..) do not count."
 unfoldable pub run_in : (flag tag aiou siou-plus-one areas : ℕ) → Run
-run_in flag tag aiou siou-plus-one areas = cond (eqb flag 0) Closed (Open tag (book_in (aiou ∷ siou-plus-one ∷ areas ∷ [])))
+run_in flag tag aiou siou-plus-one areas = cond (eqb flag 0) None (Some (record { tag = tag; book = book_in (aiou ∷ siou-plus-one ∷ areas ∷ []) }))
 
 -- "with flag 0 the second does not count"; every second is sound
 unfoldable pub last_in : (dated second : ℕ) → Last
-last_in dated second = cond (eqb dated 0) Never (At second)
+last_in dated second = cond (eqb dated 0) None (Some second)
 
 unfoldable pub desk_in : List ℕ → Desk
 desk_in s =
@@ -58,24 +55,24 @@ desk_in s =
 -- ---- a desk said in thirteen numbers; what does not count is 0
 
 abbrev pub is_open : Run → ℕ
-is_open Closed = 0
-is_open (Open tag book) = 1
+is_open None = 0
+is_open (Some p) = 1
 
 abbrev pub tag_of : Run → ℕ
-tag_of Closed = 0
-tag_of (Open tag book) = tag
+tag_of None = 0
+tag_of (Some p) = p.tag
 
 abbrev pub run_book : Run → Book
-run_book Closed = no_book
-run_book (Open tag book) = book
+run_book None = no_book
+run_book (Some p) = p.book
 
 abbrev pub is_dated : Last → ℕ
-is_dated Never = 0
-is_dated (At second) = 1
+is_dated None = 0
+is_dated (Some second) = 1
 
 abbrev pub second_of : Last → ℕ
-second_of Never = 0
-second_of (At second) = second
+second_of None = 0
+second_of (Some second) = second
 
 unfoldable pub desk_of : Desk → List ℕ
 desk_of desk =

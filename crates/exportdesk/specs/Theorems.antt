@@ -1,14 +1,13 @@
 -- Theorems on a desk as thirteen numbers. A number out of its range makes a desk unsound; numbers that a flag makes meaningless do not count. A sound desk
 -- that is written and read again is the same desk, so calls in a row are what they are to `desk`. Proved; assumes nothing.
-use Rattle.std.specs.Prelude.{◌≡◌, Bool, ◌&&◌, List, [], ◌∷◌, ℕ, ◌-◌, ◌≤◌, ◌<◌, get_or}
+use Rattle.std.specs.Prelude.{◌≡◌, Bool, ◌&&◌, List, [], ◌∷◌, ℕ, ◌-◌, ◌≤◌, ◌<◌, get_or, Ok, Err, Some, None}
 use Rattle.std.proofs.Math.Path.{refl, ap, sym}
 use Rattle.std.proofs.Common.{◌∙◌, arith}
 use Rattle.std.proofs.Math.Bool.{true, false, cond}
 use Rattle.std.proofs.Math.Dec.{ltb, leb, eqb}
 use borrow.Author.Tests.{le-ltb, ltb-true, le-leb, lt-leb, ne_eqb}
 use Rattle.answer.specs.declared.Fault.{Fault}
-use Rattle.desk.specs.declared.Said.{Said}
-use Rattle.desk.specs.declared.Said.TheVariants as saying
+use Rattle.desk.specs.Results.{Said}
 use Rattle.desk.specs.declared.Taken.{Taken}
 use Rattle.area.specs.Laws.{both_left, both_right}
 use Rattle.codes.specs.Tables.{row_of}
@@ -24,10 +23,8 @@ use Rattle.desk.specs.Fits.{sound-source, sound-live, sound-run, Fits, new-areas
 use Rattle.desk.specs.History.{Held, Given, frame_with, kept_book, verdict_on, handled}
 use Rattle.desk.specs.Theorems.{fits_on, sound-by}
 use Rattle.desk.specs.declared.Desk.{Desk}
-use Rattle.desk.specs.declared.Last.{Last}
-use Rattle.desk.specs.declared.Last.TheVariants.{Never, At}
-use Rattle.desk.specs.declared.Run.{Run}
-use Rattle.desk.specs.declared.Run.TheVariants.{Closed, Open}
+use Rattle.desk.specs.Results.{Last}
+use Rattle.desk.specs.Results.{Run}
 use Rattle.export.specs.Numbers.{laid, at_most}
 use Rattle.export.specs.Books.{book_in}
 use Rattle.export.specs.Back.{most-under, book-back}
@@ -237,23 +234,23 @@ solution-back solution c run last h =
     row Qzss = omega arith
 
     flag : (run : Run) → is_open run ≤ 1
-    flag Closed = omega arith
-    flag (Open tag book) = omega arith
+    flag None = omega arith
+    flag (Some p) = omega arith
 
     dated : (last : Last) → is_dated last ≤ 1
-    dated Never = omega arith
-    dated (At second) = omega arith
+    dated None = omega arith
+    dated (Some second) = omega arith
 
 last-back : (last : Last) → last_in (is_dated last) (second_of last) ≡ last
 unfolding last_in
-last-back Never = refl
-last-back (At second) = refl
+last-back None = refl
+last-back (Some second) = refl
 
 run-back : (run : Run) (bytes : List ℕ) → run_sound run bytes ≡ true
     → run_in (is_open run) (tag_of run) ((run_book run).aiou_plus_one - 1) (run_book run).siou_plus_one (run_book run).count ≡ run
 unfolding run_in
-run-back Closed bytes e = refl
-run-back (Open tag book) bytes e = ap (λ (b : Book). Open tag b) (book-back book (sound-head book bytes (both_right (ltb tag tags) (sound book bytes) e)))
+run-back None bytes e = refl
+run-back (Some p) bytes e = ap (λ (b : Book). Some (record { tag = p.tag; book = b })) (book-back p.book (sound-head p.book bytes (both_right (ltb p.tag tags) (sound p.book bytes) e)))
 
 -- whatever lies behind the thirteen numbers
 pub reads-back : (desk : Desk) (live run lent : List ℕ) → desk_sound desk live run ≡ true → desk_in (laid (desk_of desk) lent) ≡ desk
@@ -297,8 +294,8 @@ next-desk frame second desk live run log =
 -- the desk's numbers are told of a book as of a frame
 numbers-alike : (s : Said) (desk : Desk) → (told_said s desk).numbers ≡ (told_book_said s desk).numbers
 unfolding told_said told_book_said
-numbers-alike (saying.Accepted log) desk = refl
-numbers-alike (saying.Refused fault) desk = refl
+numbers-alike (Ok log) desk = refl
+numbers-alike (Err fault) desk = refl
 
 book-told : (t : Taken) → (told_taken t).numbers ≡ (told_book_taken t).numbers
 unfolding told_taken told_book_taken

@@ -21,11 +21,11 @@ fn tell_new(answer: NewDesk, desk: &mut [u64]) -> u8
     ensures desk_after { desk.new ≡ laid (told_new answer).numbers desk.old }
 {
     match answer {
-        NewDesk::Made(made) => {
+        Ok(made) => {
             put_desk(made, desk);
             0
         }
-        NewDesk::Refused(refusal) => answer::number(refusal),
+        Err(refusal) => answer::number(refusal),
     }
 }
 
@@ -67,11 +67,11 @@ fn tell_taken(answer: Taken, desk: &mut [u64]) -> u64
 {
     let said = answer.said;
     match said {
-        Said::Accepted { log: _ } => {
+        Ok(_) => {
             put_desk(answer.desk, desk);
             0
         }
-        Said::Refused(fault) => answer_of(fault),
+        Err(fault) => answer_of(fault),
     }
 }
 
@@ -83,11 +83,11 @@ fn tell_book(answer: Taken, desk: &mut [u64]) -> u8
 {
     let said = answer.said;
     match said {
-        Said::Accepted { log: _ } => {
+        Ok(_) => {
             put_desk(answer.desk, desk);
             0
         }
-        Said::Refused(fault) => {
+        Err(fault) => {
             let refusal = fault.refusal;
             answer::number(refusal)
         }
@@ -100,11 +100,11 @@ fn tell_log(said: Said, written: &mut [u64])
     ensures { written.new ≡ laid (log_told said) written.old }
 {
     match said {
-        Said::Accepted { log } => {
+        Ok(log) => {
             let numbers = [count(log)];
             put(&numbers, written);
         }
-        Said::Refused(_) => {}
+        Err(_) => {}
     }
 }
 

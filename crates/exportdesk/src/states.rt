@@ -3,6 +3,7 @@ ghost use Rattle.std.specs.Prelude.{◌≡◌, get_or};
 ghost use Rattle.export.specs.Numbers.{stored, at_most};
 ghost use Rattle.exportdesk.specs.States.{constellation_in, solution_in, run_in, last_in, desk_in, is_open, tag_of, run_book, is_dated, second_of, desk_of};
 
+use desk::OpenRun;
 use book::Book;
 use codes::Constellation;
 use desk::{Desk, Last, Run};
@@ -32,8 +33,8 @@ fn constellation_in(x: u64) -> Constellation
     ensures { result ≡ constellation_in x }
 {
     match message::constellation_of(at_most(5, x)) {
-        Subtype::Known(constellation) => constellation,
-        Subtype::Unknown => Constellation::Gps,
+        Some(constellation) => constellation,
+        None => Constellation::Gps,
     }
 }
 
@@ -63,13 +64,13 @@ fn run_in(flag: u64, tag: u64, aiou: u64, siou_plus_one: u64, areas: u64) -> Run
     ensures { result ≡ run_in flag tag aiou siou_plus_one areas }
 {
     if flag == 0 {
-        return Run::Closed;
+        return None;
     }
     let numbers = [aiou, siou_plus_one, areas];
-    Run::Open {
+    Some(OpenRun {
         tag: tag,
         book: book_in(&numbers),
-    }
+    })
 }
 
 fn run_at(desk: &[u64]) -> Run
@@ -88,9 +89,9 @@ fn last_in(dated: u64, second: u64) -> Last
     ensures { result ≡ last_in dated second }
 {
     if dated == 0 {
-        return Last::Never;
+        return None;
     }
-    Last::At(second)
+    Some(second)
 }
 
 fn last_at(desk: &[u64]) -> Last
@@ -118,8 +119,8 @@ fn is_open(run: Run) -> u64
     ensures { result ≡ is_open run }
 {
     match run {
-        Run::Closed => 0,
-        Run::Open { tag: _, book: _ } => 1,
+        None => 0,
+        Some(OpenRun { tag: _, book: _ }) => 1,
     }
 }
 
@@ -127,8 +128,8 @@ fn tag_of(run: Run) -> u64
     ensures { result ≡ tag_of run }
 {
     match run {
-        Run::Closed => 0,
-        Run::Open { tag, book: _ } => tag,
+        None => 0,
+        Some(OpenRun { tag, book: _ }) => tag,
     }
 }
 
@@ -136,8 +137,8 @@ fn run_book(run: Run) -> Book
     ensures { result ≡ run_book run }
 {
     match run {
-        Run::Closed => book::no_book(),
-        Run::Open { tag: _, book } => book,
+        None => book::no_book(),
+        Some(OpenRun { tag: _, book }) => book,
     }
 }
 
@@ -145,8 +146,8 @@ fn is_dated(last: Last) -> u64
     ensures { result ≡ is_dated last }
 {
     match last {
-        Last::Never => 0,
-        Last::At(_) => 1,
+        None => 0,
+        Some(_) => 1,
     }
 }
 
@@ -154,8 +155,8 @@ fn second_of(last: Last) -> u64
     ensures { result ≡ second_of last }
 {
     match last {
-        Last::Never => 0,
-        Last::At(second) => second,
+        None => 0,
+        Some(second) => second,
     }
 }
 

@@ -1,4 +1,5 @@
 -- Laws: an arm of a `match` on what was read, and what was read is small. Assumes nothing.
+use Rattle.std.specs.Prelude.{Ok, Some}
 use mathlib.Core.Path.{◌≡◌, refl, ap, ap₂, sym, ◌∙◌, subst}
 use mathlib.Core.List.{List, [], ◌∷◌}
 use Prim.Native.Nat.{ℕ, ◌+◌, ◌^◌, ◌≤◌, ◌<◌}
@@ -11,15 +12,13 @@ use Rattle.area.specs.Area.{nodes}
 use Rattle.values.specs.declared.Residual.{Residual}
 use Rattle.entries.specs.Read.{read_entry}
 use Rattle.entries.specs.Answers.{read_answer}
-use Rattle.entries.specs.declared.Aiou.{Aiou}
-use Rattle.entries.specs.declared.Aiou.TheVariants as aiou
+use Rattle.entries.specs.Results.{Aiou}
 use Rattle.entries.specs.declared.Opened.{Opened}
 use Rattle.entries.specs.declared.Placed.{Placed}
 use Rattle.entries.specs.declared.LeftOut.{LeftOut}
 use Rattle.entries.specs.declared.Entry.{Entry}
 use Rattle.entries.specs.declared.Entry.TheVariants as entry
-use Rattle.entries.specs.declared.EntryRead.{EntryRead}
-use Rattle.entries.specs.declared.EntryRead.TheVariants as read
+use Rattle.entries.specs.Results.{EntryRead}
 use Rattle.export.specs.Numbers.{laid, stored}
 use Rattle.export.specs.Stored.{stored_there}
 use Rattle.export.proofs.Laws.{arm}
@@ -28,10 +27,10 @@ use Rattle.exportentries.specs.Ranges.{AiouIn, EntryIn, AnswerIn, read-in}
 
 -- ---- AIOU + 1
 
-pub aiou-fits : (a : Aiou) (n : ℕ) → AiouIn a → a ≡ aiou.Is n → n + 1 < 2 ^ 64
+pub aiou-fits : (a : Aiou) (n : ℕ) → AiouIn a → a ≡ Some n → n + 1 < 2 ^ 64
 aiou-fits a n h e = let k : n < 16 = subst AiouIn e h in omega arith
 
-pub aiou-is : (a : Aiou) (n : ℕ) → a ≡ aiou.Is n → n + 1 ≡ aiou_plus_one a
+pub aiou-is : (a : Aiou) (n : ℕ) → a ≡ Some n → n + 1 ≡ aiou_plus_one a
 aiou-is a n e = sym (subst (λ a. aiou_plus_one a ≡ n + 1) (sym e) refl)
 
 -- ---- what is small
@@ -39,7 +38,7 @@ aiou-is a n e = sym (subst (λ a. aiou_plus_one a ≡ n + 1) (sym e) refl)
 pub opened_in : (a : Entry) (run : Opened) → EntryIn a → a ≡ entry.Opened run → AiouIn run.aiou
 opened_in a run h e = subst EntryIn e h
 
-pub answer-in : (a : EntryRead) (told : Entry) (used : ℕ) → AnswerIn a → a ≡ read.Is told used → EntryIn told
+pub answer-in : (a : EntryRead) (told : Entry) (used : ℕ) → AnswerIn a → a ≡ Ok (told, used) → EntryIn told
 answer-in a told used h e = subst AnswerIn e h
 
 -- of the bytes that the call was lent

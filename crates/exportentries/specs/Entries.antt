@@ -1,23 +1,18 @@
 -- Definitions to believe: how the calls for C say in numbers and floats what the calls of crate entries answer.
-use Rattle.std.specs.Prelude.{List, [], ◌∷◌, ℕ, ◌+◌, Float}
+use Rattle.std.specs.Prelude.{List, [], ◌∷◌, ℕ, ◌+◌, Float, Ok, Err, Some, None}
 use Rattle.area.specs.Area.{nodes}
 use Rattle.values.specs.declared.Residual.{Residual}
 use Rattle.values.specs.declared.Residual.TheVariants as residual
-use Rattle.entries.specs.declared.Aiou.{Aiou}
-use Rattle.entries.specs.declared.Aiou.TheVariants as aiou
-use Rattle.entries.specs.declared.Troposphere.{Troposphere}
-use Rattle.entries.specs.declared.Troposphere.TheVariants as troposphere
+use Rattle.entries.specs.Results.{Aiou}
+use Rattle.entries.specs.Results.{Troposphere}
 use Rattle.entries.specs.declared.Opened.{Opened}
 use Rattle.entries.specs.declared.Placed.{Placed}
 use Rattle.entries.specs.declared.LeftOut.{LeftOut}
 use Rattle.entries.specs.declared.Entry.{Entry}
 use Rattle.entries.specs.declared.Entry.TheVariants as entry
-use Rattle.entries.specs.declared.EntryRead.{EntryRead}
-use Rattle.entries.specs.declared.EntryRead.TheVariants as read
-use Rattle.entries.specs.declared.ResidualRead.{ResidualRead}
-use Rattle.entries.specs.declared.ResidualRead.TheVariants as residual_read
-use Rattle.entries.specs.declared.SatelliteRead.{SatelliteRead}
-use Rattle.entries.specs.declared.SatelliteRead.TheVariants as satellite_read
+use Rattle.entries.specs.Results.{EntryRead}
+use Rattle.entries.specs.Results.{ResidualRead}
+use Rattle.entries.specs.Results.{SatelliteRead}
 use Rattle.export.specs.Numbers as export
 use Rattle.exportviews.specs.Views.{Told, refused}
 
@@ -28,17 +23,17 @@ entry_room = 8
 
 -- "AIOU + 1 (0 without a book)"
 abbrev pub aiou_plus_one : Aiou → ℕ
-aiou_plus_one aiou.None = 0
-aiou_plus_one (aiou.Is n) = n + 1
+aiou_plus_one None = 0
+aiou_plus_one (Some n) = n + 1
 
 -- T and the SF051 code, 0 where T is 0
 abbrev pub count_in : Troposphere → ℕ
-count_in troposphere.None = 0
-count_in (troposphere.Grid t size) = t
+count_in None = 0
+count_in (Some p) = p.count
 
 abbrev pub size_in : Troposphere → ℕ
-size_in troposphere.None = 0
-size_in (troposphere.Grid t size) = size
+size_in None = 0
+size_in (Some p) = p.size
 
 -- the entry's kind, 1 to 3, and the bytes used; then of a run opened tag, AIOU + 1 and count,
 unfoldable pub numbers_of_opened : Opened → (used : ℕ) → List ℕ
@@ -59,8 +54,8 @@ numbers_of_entry (entry.Placed area) used = numbers_of_placed area used
 numbers_of_entry (entry.LeftOut area) used = numbers_of_left_out area used
 
 unfoldable pub told_entry : EntryRead → export.Told
-told_entry (read.Is told used) = record { number = 0; numbers = numbers_of_entry told used }
-told_entry (read.Refused refusal) = export.refused refusal
+told_entry (Ok (told, used)) = record { number = 0; numbers = numbers_of_entry told used }
+told_entry (Err refusal) = export.refused refusal
 
 -- ---- a residual: a unit, as `homralgyu_value` has it (0 invalid, 1 metres, 3 TECU), with the code, and a float if it is not invalid
 
@@ -75,8 +70,8 @@ floats_of_residual (residual.Metres x) = x ∷ []
 floats_of_residual (residual.Tecu x) = x ∷ []
 
 unfoldable pub told_residual : ResidualRead → Told
-told_residual (residual_read.Is code value) = record { number = 0; numbers = numbers_of_residual code value; floats = floats_of_residual value }
-told_residual (residual_read.Refused refusal) = refused refusal
+told_residual (Ok (code, value)) = record { number = 0; numbers = numbers_of_residual code value; floats = floats_of_residual value }
+told_residual (Err refusal) = refused refusal
 
 -- ---- a satellite: its number and its SF063 code
 
@@ -84,5 +79,5 @@ abbrev pub satellite_room : ℕ
 satellite_room = 2
 
 unfoldable pub told_satellite : SatelliteRead → export.Told
-told_satellite (satellite_read.Is number size) = record { number = 0; numbers = number ∷ size ∷ [] }
-told_satellite (satellite_read.Refused refusal) = export.refused refusal
+told_satellite (Ok (number, size)) = record { number = 0; numbers = number ∷ size ∷ [] }
+told_satellite (Err refusal) = export.refused refusal

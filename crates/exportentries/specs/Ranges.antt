@@ -1,5 +1,5 @@
 -- Serves proofs, and is proved: of an entry that was read, AIOU + 1 is at most 16, and T with a size code is not 0. Assumes nothing.
-use Rattle.std.specs.Prelude.{◌≡◌, refl, List, ℕ, zero, suc, ◌≤◌, ◌<◌}
+use Rattle.std.specs.Prelude.{◌≡◌, refl, List, ℕ, zero, suc, ◌≤◌, ◌<◌, Ok, Err, Some, None}
 use Rattle.std.proofs.Common.{arith}
 use Rattle.layout.specs.Parts.{Part, absent, present}
 use Rattle.bits.specs.Bits.{Bytes}
@@ -11,22 +11,19 @@ use Rattle.entries.specs.Numbers.{Outcome, accepted, refused}
 use Rattle.entries.specs.Read.{read_entry}
 use Rattle.entries.specs.Theorems.{was}
 use Rattle.entries.specs.Answers.{aiou_of, troposphere_of, told_of, read_answer}
-use Rattle.entries.specs.declared.Aiou.{Aiou}
-use Rattle.entries.specs.declared.Aiou.TheVariants as aiou
-use Rattle.entries.specs.declared.Troposphere.{Troposphere}
-use Rattle.entries.specs.declared.Troposphere.TheVariants as troposphere
+use Rattle.entries.specs.Results.{Aiou}
+use Rattle.entries.specs.Results.{Troposphere}
 use Rattle.entries.specs.declared.Entry.{Entry}
 use Rattle.entries.specs.declared.Entry.TheVariants as entry
-use Rattle.entries.specs.declared.EntryRead.{EntryRead}
-use Rattle.entries.specs.declared.EntryRead.TheVariants as read
+use Rattle.entries.specs.Results.{EntryRead}
 
 abbrev pub AiouIn : Aiou → Type 0
-AiouIn aiou.None = Unit {0}
-AiouIn (aiou.Is n) = n < most_aiou_plus_one
+AiouIn None = Unit {0}
+AiouIn (Some n) = n < most_aiou_plus_one
 
 abbrev pub TroposphereIn : Troposphere → Type 0
-TroposphereIn troposphere.None = Unit {0}
-TroposphereIn (troposphere.Grid t size) = 1 ≤ t
+TroposphereIn None = Unit {0}
+TroposphereIn (Some p) = 1 ≤ p.count
 
 abbrev pub EntryIn : Entry → Type 0
 EntryIn (entry.Opened run) = AiouIn run.aiou
@@ -34,8 +31,8 @@ EntryIn (entry.Placed area) = TroposphereIn area.troposphere
 EntryIn (entry.LeftOut area) = Unit {0}
 
 abbrev pub AnswerIn : EntryRead → Type 0
-AnswerIn (read.Is told used) = EntryIn told
-AnswerIn (read.Refused refusal) = Unit {0}
+AnswerIn (Ok (told, used)) = EntryIn told
+AnswerIn (Err refusal) = Unit {0}
 
 aiou-in : (aiou_plus_one : ℕ) → aiou_plus_one ≤ most_aiou_plus_one → AiouIn (aiou_of aiou_plus_one)
 aiou-in zero h = tt

@@ -2,7 +2,7 @@
 -- same; and S and the count of nodes say which residuals of satellites there are. Proved; assumes nothing.
 use Rattle.std.proofs.Math.Path.{◌≡◌, refl, ap, subst}
 use Rattle.std.proofs.Common.{sym, arith}
-use Rattle.std.specs.Prelude.{Bool, ◌⊎◌, ℕ, ◌≤◌, ◌<◌}
+use Rattle.std.specs.Prelude.{Bool, ◌⊎◌, ℕ, ◌≤◌, ◌<◌, Ok, Err, Some, None}
 use Rattle.std.proofs.Math.Bool.{true, false}
 use Rattle.std.proofs.Math.Logic.{⊎_elim}
 use mathlib.Core.List.{List, [], ◌∷◌}
@@ -21,21 +21,16 @@ use Rattle.entries.specs.Read.{read_entry}
 use Rattle.entries.specs.Answers.{told_of, read_answer, satellite_in, satellites_of, slant_by, slant_answer}
 use Rattle.entries.specs.Theorems.{was}
 use Rattle.entries.specs.Handed.{past-list, slant-handed, slant-outside}
-use Rattle.entries.specs.declared.Aiou.{Aiou}
-use Rattle.entries.specs.declared.Aiou.TheVariants as aiou
-use Rattle.entries.specs.declared.Troposphere.{Troposphere}
-use Rattle.entries.specs.declared.Troposphere.TheVariants as troposphere
+use Rattle.entries.specs.Results.{Aiou}
+use Rattle.entries.specs.Results.{Troposphere}
 use Rattle.entries.specs.declared.Opened.{Opened}
 use Rattle.entries.specs.declared.Placed.{Placed}
 use Rattle.entries.specs.declared.LeftOut.{LeftOut}
 use Rattle.entries.specs.declared.Entry.{Entry}
 use Rattle.entries.specs.declared.Entry.TheVariants as entry
-use Rattle.entries.specs.declared.EntryRead.{EntryRead}
-use Rattle.entries.specs.declared.EntryRead.TheVariants as read
-use Rattle.entries.specs.declared.ResidualRead.{ResidualRead}
-use Rattle.entries.specs.declared.ResidualRead.TheVariants as residual_read
-use Rattle.entries.specs.declared.SatelliteRead.{SatelliteRead}
-use Rattle.entries.specs.declared.SatelliteRead.TheVariants as satellite_read
+use Rattle.entries.specs.Results.{EntryRead}
+use Rattle.entries.specs.Results.{ResidualRead}
+use Rattle.entries.specs.Results.{SatelliteRead}
 use Rattle.exportviews.specs.Theorems.{Quiet, QuietNumbers, at, float_at}
 use Rattle.exportentries.specs.Entries.{aiou_plus_one, count_in, size_in, numbers_of_opened, numbers_of_placed, numbers_of_left_out, numbers_of_entry, told_entry, numbers_of_residual, floats_of_residual, told_residual, told_satellite}
 use Rattle.exportentries.specs.Ranges.{TroposphereIn, EntryIn, AnswerIn, read-in}
@@ -44,33 +39,33 @@ use Rattle.exportentries.specs.Ranges.{TroposphereIn, EntryIn, AnswerIn, read-in
 
 pub entry-quiet : (a : EntryRead) → QuietNumbers (told_entry a)
 unfolding told_entry
-entry-quiet (read.Is told used) h = absurd (h refl)
-entry-quiet (read.Refused why) h = refl
+entry-quiet (Ok (told, used)) h = absurd (h refl)
+entry-quiet (Err why) h = refl
 
 pub residual-quiet : (a : ResidualRead) → Quiet (told_residual a)
 unfolding told_residual
-residual-quiet (residual_read.Is code value) h = absurd (h refl)
-residual-quiet (residual_read.Refused why) h = (refl, refl)
+residual-quiet (Ok (code, value)) h = absurd (h refl)
+residual-quiet (Err why) h = (refl, refl)
 
 pub satellite-quiet : (a : SatelliteRead) → QuietNumbers (told_satellite a)
 unfolding told_satellite
-satellite-quiet (satellite_read.Is number size) h = absurd (h refl)
-satellite-quiet (satellite_read.Refused why) h = refl
+satellite-quiet (Ok (number, size)) h = absurd (h refl)
+satellite-quiet (Err why) h = refl
 
 -- ---- two entries that are told alike are the same
 
 aiou-whole : (a b : Aiou) → aiou_plus_one a ≡ aiou_plus_one b → a ≡ b
-aiou-whole aiou.None aiou.None e = refl
-aiou-whole aiou.None (aiou.Is n) e = absurd (omega arith)
-aiou-whole (aiou.Is m) aiou.None e = absurd (omega arith)
-aiou-whole (aiou.Is m) (aiou.Is n) e = ap aiou.Is (omega arith)
+aiou-whole None None e = refl
+aiou-whole None (Some n) e = absurd (omega arith)
+aiou-whole (Some m) None e = absurd (omega arith)
+aiou-whole (Some m) (Some n) e = ap Some (omega arith)
 
 -- T of 0 says that there is no size code
 troposphere-whole : (a b : Troposphere) → TroposphereIn a → TroposphereIn b → count_in a ≡ count_in b → size_in a ≡ size_in b → a ≡ b
-troposphere-whole troposphere.None troposphere.None p q e f = refl
-troposphere-whole troposphere.None (troposphere.Grid t size) p q e f = absurd (omega arith)
-troposphere-whole (troposphere.Grid t size) troposphere.None p q e f = absurd (omega arith)
-troposphere-whole (troposphere.Grid t size) (troposphere.Grid u other) p q e f = cc
+troposphere-whole None None p q e f = refl
+troposphere-whole None (Some r₀) p q e f = absurd (omega arith)
+troposphere-whole (Some r₀) None p q e f = absurd (omega arith)
+troposphere-whole (Some r₀) (Some z₀) p q e f = cc
 
 opened-same : {m m' n n' : ℕ} {a a' : Aiou} → m ≡ m' → a ≡ a' → n ≡ n' → ◌≡◌ {A = Opened} (record { tag = m; aiou = a; count = n }) (record { tag = m'; aiou = a'; count = n' })
 opened-same p q r = cc
@@ -100,7 +95,7 @@ entry_whole (entry.LeftOut a) (entry.Opened b) i j p q e = let z : ◌≡◌ {A 
 entry_whole (entry.LeftOut a) (entry.Placed b) i j p q e = let z : ◌≡◌ {A = ℕ} 3 2 = at e 0 in absurd (omega arith)
 
 -- Bytes whose entries are told by the same numbers have the same entry in front, of as many bytes.
-pub read_whole : (s t : List ℕ) (a b : Entry) (i j : ℕ) → Bytes s → Bytes t → read_answer (read_entry s) ≡ read.Is a i → read_answer (read_entry t) ≡ read.Is b j
+pub read_whole : (s t : List ℕ) (a b : Entry) (i j : ℕ) → Bytes s → Bytes t → read_answer (read_entry s) ≡ Ok (a, i) → read_answer (read_entry t) ≡ Ok (b, j)
     → numbers_of_entry a i ≡ numbers_of_entry b j → (a ≡ b) × (i ≡ j)
 read_whole s t a b i j bs bt p q e = entry_whole a b i j (subst AnswerIn p (read-in s bs)) (subst AnswerIn q (read-in t bt)) e
 
@@ -120,7 +115,7 @@ residual-whole c d (residual.Tecu x) (residual.Metres y) e f = let z : ◌≡◌
 
 -- ---- and two satellites
 
-pub satellite-whole : (i j m n : ℕ) → (told_satellite (satellite_read.Is i m)).numbers ≡ (told_satellite (satellite_read.Is j n)).numbers → (i ≡ j) × (m ≡ n)
+pub satellite-whole : (i j m n : ℕ) → (told_satellite (Ok (i, m))).numbers ≡ (told_satellite (Ok (j, n))).numbers → (i ≡ j) × (m ≡ n)
 unfolding told_satellite
 satellite-whole i j m n e = (at e 0, at e 1)
 

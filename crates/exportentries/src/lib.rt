@@ -10,6 +10,7 @@ ghost use Rattle.exportviews.specs.Views.{number_told, view_after, floats_after}
 ghost use Rattle.exportentries.specs.Entries.{entry_room, satellite_room, aiou_plus_one, count_in, size_in, numbers_of_opened, numbers_of_placed, numbers_of_left_out, numbers_of_entry, told_entry, numbers_of_residual, floats_of_residual, told_residual, told_satellite};
 ghost use Rattle.exportentries.specs.Ranges.{AiouIn, EntryIn, AnswerIn};
 
+use entries::Grid;
 use entries::{
     Aiou, Entry, EntryRead, LeftOut, Opened, Placed, ResidualRead, SatelliteRead, Troposphere,
 };
@@ -32,8 +33,8 @@ fn aiou_plus_one(aiou: Aiou) -> u64
     ensures { result ≡ aiou_plus_one aiou }
 {
     match aiou {
-        Aiou::None => 0,
-        Aiou::Is(n) => n + 1,
+        None => 0,
+        Some(n) => n + 1,
     }
 }
 
@@ -41,8 +42,8 @@ fn count_in(troposphere: Troposphere) -> u64
     ensures { result ≡ count_in troposphere }
 {
     match troposphere {
-        Troposphere::None => 0,
-        Troposphere::Grid(t, _) => t,
+        None => 0,
+        Some(Grid {t, _}) => t,
     }
 }
 
@@ -50,8 +51,8 @@ fn size_in(troposphere: Troposphere) -> u64
     ensures { result ≡ size_in troposphere }
 {
     match troposphere {
-        Troposphere::None => 0,
-        Troposphere::Grid(_, size) => size,
+        None => 0,
+        Some(Grid {_, size}) => size,
     }
 }
 
@@ -110,11 +111,11 @@ fn tell_entry(answer: EntryRead, entry: &mut [u64]) -> u8
     ensures after { entry.new ≡ laid (told_entry answer).numbers entry.old }
 {
     match answer {
-        EntryRead::Is(told, used) => {
+        Ok((told, used)) => {
             put_entry(told, used, entry);
             0
         }
-        EntryRead::Refused(refusal) => answer::number(refusal),
+        Err(refusal) => answer::number(refusal),
     }
 }
 
@@ -171,11 +172,11 @@ fn tell_residual(answer: ResidualRead, what: &mut [u64], value: &mut [f64]) -> u
     ensures value_after { value.new ≡ laid (told_residual answer).floats value.old }
 {
     match answer {
-        ResidualRead::Is(code, residual) => {
+        Ok((code, residual)) => {
             put_residual(code, residual, what, value);
             0
         }
-        ResidualRead::Refused(refusal) => answer::number(refusal),
+        Err(refusal) => answer::number(refusal),
     }
 }
 
@@ -205,11 +206,11 @@ fn tell_satellite(answer: SatelliteRead, satellite: &mut [u64]) -> u8
     ensures satellite_after { satellite.new ≡ laid (told_satellite answer).numbers satellite.old }
 {
     match answer {
-        SatelliteRead::Is(number, size) => {
+        Ok((number, size)) => {
             put_code(number, size, satellite);
             0
         }
-        SatelliteRead::Refused(refusal) => answer::number(refusal),
+        Err(refusal) => answer::number(refusal),
     }
 }
 

@@ -1,4 +1,5 @@
 -- Laws: what the calls of `prepare` tell and leave, worded as the code makes it.
+use Rattle.std.specs.Prelude.{Option}
 use mathlib.Core.Path.{◌≡◌, sym, ap₂, ◌∙◌}
 use mathlib.Core.Bool.{Bool, true, false}
 use mathlib.Core.List.{List, [], ◌∷◌}
@@ -51,7 +52,7 @@ puts a s tray desk told header tray' desk' told' header' n e p t d q h =
     record { number_is = rw e p; tray-is = rw e t; desk-is = rw e d; told_is = rw e q; header_is = rw e h }
 
 -- the seven numbers of an event, as the code makes them
-pub told-made : (event used noise number log u w l s a b : ℕ) (place : Place) → u ≡ used → w ≡ number → l ≡ log → s ≡ sf_in place → a ≡ at_in place → b ≡ a
+pub told-made : (event used noise number log u w l s a b : ℕ) (place : (Option Place)) → u ≡ used → w ≡ number → l ≡ log → s ≡ sf_in place → a ≡ at_in place → b ≡ a
     → event ∷ u ∷ noise ∷ w ∷ l ∷ s ∷ b ∷ [] ≡ event ∷ used ∷ noise ∷ number ∷ log ∷ sf_in place ∷ at_in place ∷ []
 told-made event used noise number log u w l s a b place p q r t x y = rw (p, q, r, t, y, x)
 

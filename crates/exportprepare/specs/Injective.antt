@@ -1,6 +1,6 @@
 -- Theorems: what is heard says what was told: no two things told are heard alike, and no two rows of them, where each place told has a field's number (`Named`), as each has that a desk
 -- gives (`named_by`). Proved; assumes nothing.
-use Rattle.std.specs.Prelude.{◌≡◌, refl, true, ◌&&◌, List, [], ◌∷◌, ℕ, ◌-◌, ◌*◌, ◌^◌, ◌<◌, ltb, leb, get_or}
+use Rattle.std.specs.Prelude.{◌≡◌, refl, true, ◌&&◌, List, [], ◌∷◌, ℕ, ◌-◌, ◌*◌, ◌^◌, ◌<◌, ltb, leb, get_or, Option, Some, None}
 use Rattle.std.proofs.Common.{sym, ap, ap₂, ◌∙◌, arith, ltb-true}
 use Rattle.sizes.specs.Sizes.{longest_payload}
 use Rattle.area.specs.Laws.{both_left, both_right}
@@ -8,13 +8,11 @@ use Rattle.answer.specs.Number.{number_of}
 use Rattle.answer.specs.Place.{has_place, sf_in, at_in}
 use Rattle.desk.specs.Answers.{answers_at, answers}
 use Rattle.answer.specs.declared.Place.{Place}
-use Rattle.answer.specs.declared.Place.TheVariants.{Nowhere, At}
 use Rattle.answer.specs.declared.Fault.{Fault}
 use Rattle.answer.specs.declared.Refusal.{Refusal}
 use Rattle.answer.specs.declared.Refusal.TheVariants as refusal
 use Rattle.frame.specs.declared.Frame.{Frame}
-use Rattle.frame.specs.declared.Seal.{Seal}
-use Rattle.frame.specs.declared.Seal.TheVariants.{Plain, Sealed}
+use Rattle.frame.specs.Results.{Seal}
 use Rattle.prepare.specs.Uncut as uncut
 use Rattle.export.specs.Frames.{is_sealed, sealing_of, header_of}
 use Rattle.exportprepare.specs.Driver.{heard_of, heard_all}
@@ -69,33 +67,33 @@ number-injective why other e = sym (refusal-at why) ∙ ap (λ n. get_or refusal
 
 -- ---- a place by its two numbers, where a field's number is not 0
 
-abbrev pub Named : Place → Type 0
-Named Nowhere = Unit {0}
-Named (At sf at) = 0 < sf
+abbrev pub Named : (Option Place) → Type 0
+Named None = Unit {0}
+Named (Some p) = 0 < p.sf
 
 -- it is not 0 in what a desk refuses (`refusals` of crate desk)
 pub named_by : (why : Fault) → answers why ≡ true → Named why.place
 named_by why e = go why.place e
   where
-    go : (p : Place) → answers_at p why.refusal ≡ true → Named p
-    go Nowhere e = tt
-    go (At sf at) e =
-        let rest : (ltb 0 sf && (ltb sf (2 ^ 24) && leb at (8 * longest_payload))) ≡ true = both_right (has_place why.refusal) _ e in
-        ltb-true 0 sf (both_left (ltb 0 sf) _ rest)
+    go : (p : (Option Place)) → answers_at p why.refusal ≡ true → Named p
+    go None e = tt
+    go (Some p) e =
+        let rest : (ltb 0 p.sf && (ltb p.sf (2 ^ 24) && leb p.at (8 * longest_payload))) ≡ true = both_right (has_place why.refusal) _ e in
+        ltb-true 0 p.sf (both_left (ltb 0 p.sf) _ rest)
 
-place-injective : (p q : Place) → Named p → Named q → sf_in p ≡ sf_in q → at_in p ≡ at_in q → p ≡ q
-place-injective Nowhere Nowhere n m e f = refl
-place-injective Nowhere (At sf at) n m e f = absurd (omega arith)
-place-injective (At sf at) Nowhere n m e f = absurd (omega arith)
-place-injective (At sf at) (At sf' at') n m e f = ap₂ (λ (s a : ℕ). At s a) e f
+place-injective : (p q : (Option Place)) → Named p → Named q → sf_in p ≡ sf_in q → at_in p ≡ at_in q → p ≡ q
+place-injective None None n m e f = refl
+place-injective None (Some p) n m e f = absurd (omega arith)
+place-injective (Some p) None n m e f = absurd (omega arith)
+place-injective (Some p) (Some q) n m e f = ap₂ (λ (s a : ℕ). Some (record { sf = s; at = a })) e f
 
 -- ---- a header by its numbers
 
 seal-injective : (s u : Seal) → is_sealed s ≡ is_sealed u → sealing_of s ≡ sealing_of u → s ≡ u
-seal-injective Plain Plain e q = refl
-seal-injective Plain (Sealed sealing) e q = absurd (omega arith)
-seal-injective (Sealed sealing) Plain e q = absurd (omega arith)
-seal-injective (Sealed sealing) (Sealed other) e q = ap Sealed q
+seal-injective None None e q = refl
+seal-injective None (Some sealing) e q = absurd (omega arith)
+seal-injective (Some sealing) None e q = absurd (omega arith)
+seal-injective (Some sealing) (Some other) e q = ap Some q
 
 pub header-injective : (f g : Frame) → header_of f ≡ header_of g → f ≡ g
 unfolding header_of

@@ -1,7 +1,7 @@
 -- The theorems of crate prepare for calls of `prepare` for other languages in a row, on what is lent and as it is heard: "A byte stream cut into portions anywhere, some
 -- empty, gives the frames, noise counts, run log and closing state that document 01 lays down for the uncut stream. Each residual is placed by the area definition in
 -- force when its run opened", "for equal frames with equal seconds". They are about the definitions that the contracts of homralgyu_prepare_call and homralgyu_prepare_finish cite. Proved; assumes nothing.
-use Rattle.std.specs.Prelude.{◌≡◌, refl, false, ℕ, ◌≤◌, ltb, length, take}
+use Rattle.std.specs.Prelude.{◌≡◌, refl, false, ℕ, ◌≤◌, ltb, length, take, Ok, Err}
 use Rattle.std.proofs.Common.{sym, ◌∙◌, subst, arith, ltb-false}
 use Rattle.std.proofs.Math.Path.{ap, ap₂}
 use mathlib.Core.List.{List, [], ◌∷◌, ◌++◌, flatten}
@@ -12,8 +12,7 @@ use Rattle.sizes.specs.Sizes.{book_bytes}
 use Rattle.stream.specs.Scan.{scan}
 use Rattle.stream.specs.Driver.{Clear, Caller, waits, hurries}
 use Rattle.desk.specs.declared.Desk.{Desk}
-use Rattle.desk.specs.declared.NewDesk.{NewDesk}
-use Rattle.desk.specs.declared.NewDesk.TheVariants.{Made, Refused}
+use Rattle.desk.specs.Results.{NewDesk}
 use Rattle.desk.specs.Desk.{new_desk, desk_sound}
 use Rattle.desk.specs.History.{Held, Snapshot, KeptOn}
 use Rattle.desk.specs.Theorems.{new-sound}
@@ -293,16 +292,16 @@ module _ (solution processor constellation : ℕ) (numbers live run : List ℕ) 
   abbrev pub new_numbers : List ℕ
   new_numbers = lent_after desk_room numbers (told_new (new_desk solution processor constellation))
 
-  is_made : (n : NewDesk) → new_desk solution processor constellation ≡ n → (told_new n).number ≡ 0 → (desk : Desk) × (new_desk solution processor constellation ≡ Made desk)
+  is_made : (n : NewDesk) → new_desk solution processor constellation ≡ n → (told_new n).number ≡ 0 → (desk : Desk) × (new_desk solution processor constellation ≡ Ok desk)
   unfolding told_new
-  is_made (Made desk) q z = (desk, q)
-  is_made (Refused why) q z = absurd (omega (arith, counts why))
+  is_made (Ok desk) q z = (desk, q)
+  is_made (Err why) q z = absurd (omega (arith, counts why))
 
   parts : (ltb (length numbers) desk_room ≡ false) × ((told_new (new_desk solution processor constellation)).number ≡ 0)
   unfolding answered room_for
   parts = no_number (ltb (length numbers) desk_room) _ e
 
-  made : (desk : Desk) × (new_desk solution processor constellation ≡ Made desk)
+  made : (desk : Desk) × (new_desk solution processor constellation ≡ Ok desk)
   made = is_made (new_desk solution processor constellation) refl parts.1
 
   numbers-are : new_numbers ≡ laid (desk_of made.0) numbers

@@ -35,7 +35,7 @@ fn lacks_room(tray: &[u64], desk: &[u64], told: &[u64], header: &[u64]) -> bool
 }
 
 // What was said, the bytes used, the noise told, the desk's number for a frame, the bytes of log, the place of a refusal.
-fn put_told(answer: Answer, event: u64, noise: u64, number: u8, place: Place, told: &mut [u64])
+fn put_told(answer: Answer, event: u64, noise: u64, number: u8, place: Option<Place>, told: &mut [u64])
     requires { told_room ≤ length told.old }
     ensures { told.new ≡ laid (event_of event answer.used noise number answer.log (sf_in place) (at_in place)) told.old }
 {
@@ -57,7 +57,7 @@ fn put_event(
     event: u64,
     noise: u64,
     number: u8,
-    place: Place,
+    place: Option<Place>,
     tray: &mut [u64],
     desk: &mut [u64],
     told: &mut [u64],
@@ -85,11 +85,11 @@ fn tell(
     let said = answer.said;
     match said {
         Said::Hungry => {
-            put_event(answer, 0, 0, 0, Place::Nowhere, tray, desk, told);
+            put_event(answer, 0, 0, 0, None, tray, desk, told);
             0
         }
         Said::Accepted(frame) => {
-            put_event(answer, 1, 0, 0, Place::Nowhere, tray, desk, told);
+            put_event(answer, 1, 0, 0, None, tray, desk, told);
             put_header(frame, header);
             0
         }
@@ -115,7 +115,7 @@ fn tell(
                 2,
                 noise_count(noise),
                 0,
-                Place::Nowhere,
+                None,
                 tray,
                 desk,
                 told,
@@ -123,7 +123,7 @@ fn tell(
             0
         }
         Said::Done => {
-            put_event(answer, 3, 0, 0, Place::Nowhere, tray, desk, told);
+            put_event(answer, 3, 0, 0, None, tray, desk, told);
             0
         }
         Said::Refused(why) => answer::number(why),

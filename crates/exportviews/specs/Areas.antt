@@ -1,14 +1,11 @@
 -- Definitions to believe: the views of areas in numbers and floats. The first number is 1 if a block has the ID, else 0.
-use Rattle.std.specs.Prelude.{List, [], ◌∷◌, ℕ, Float}
+use Rattle.std.specs.Prelude.{List, [], ◌∷◌, ℕ, Float, Ok, Err, Some, None}
 use Rattle.views.specs.declared.gadarea.GadArea.{GadArea}
-use Rattle.views.specs.declared.gadarea.GadAnswer.{GadAnswer}
-use Rattle.views.specs.declared.gadarea.GadAnswer.TheVariants as gad_answer
+use Rattle.views.specs.Results.{GadAnswer}
 use Rattle.views.specs.declared.hpacarea.HpacArea.{HpacArea}
-use Rattle.views.specs.declared.hpacarea.HpacAnswer.{HpacAnswer}
-use Rattle.views.specs.declared.hpacarea.HpacAnswer.TheVariants as hpac_answer
+use Rattle.views.specs.Results.{HpacAnswer}
 use Rattle.views.specs.declared.bpacarea.BpacArea.{BpacArea}
-use Rattle.views.specs.declared.bpacarea.BpacAnswer.{BpacAnswer}
-use Rattle.views.specs.declared.bpacarea.BpacAnswer.TheVariants as bpac_answer
+use Rattle.views.specs.Results.{BpacAnswer}
 use Rattle.export.specs.Numbers as export
 use Rattle.exportviews.specs.Views.{Told, refused_at, absent}
 
@@ -29,9 +26,9 @@ unfoldable pub gad_floats_of : GadArea → List Float
 gad_floats_of a = a.latitude ∷ a.longitude ∷ a.latitude_spacing ∷ a.longitude_spacing ∷ []
 
 unfoldable pub told_gad : GadAnswer → Told
-told_gad (gad_answer.Is area) = record { number = 0; numbers = gad_numbers_of area; floats = gad_floats_of area }
-told_gad gad_answer.Absent = absent
-told_gad (gad_answer.Refused fault) = refused_at fault
+told_gad (Ok (Some area)) = record { number = 0; numbers = gad_numbers_of area; floats = gad_floats_of area }
+told_gad (Ok None) = absent
+told_gad (Err fault) = refused_at fault
 
 -- ---- HPAC: five numbers
 
@@ -43,9 +40,9 @@ unfoldable pub hpac_numbers_of : HpacArea → List ℕ
 hpac_numbers_of a = 1 ∷ a.start ∷ a.points ∷ a.troposphere_blocks ∷ a.ionosphere_blocks ∷ []
 
 unfoldable pub told_hpac : HpacAnswer → export.Told
-told_hpac (hpac_answer.Is area) = record { number = 0; numbers = hpac_numbers_of area }
-told_hpac hpac_answer.Absent = record { number = 0; numbers = 0 ∷ [] }
-told_hpac (hpac_answer.Refused fault) = export.refused_at fault
+told_hpac (Ok (Some area)) = record { number = 0; numbers = hpac_numbers_of area }
+told_hpac (Ok None) = record { number = 0; numbers = 0 ∷ [] }
+told_hpac (Err fault) = export.refused_at fault
 
 -- ---- BPAC: four numbers and five floats
 
@@ -64,6 +61,6 @@ unfoldable pub bpac_floats_of : BpacArea → List Float
 bpac_floats_of a = a.latitude ∷ a.longitude ∷ a.latitude_spacing ∷ a.longitude_spacing ∷ a.average ∷ []
 
 unfoldable pub told_bpac : BpacAnswer → Told
-told_bpac (bpac_answer.Is area) = record { number = 0; numbers = bpac_numbers_of area; floats = bpac_floats_of area }
-told_bpac bpac_answer.Absent = absent
-told_bpac (bpac_answer.Refused fault) = refused_at fault
+told_bpac (Ok (Some area)) = record { number = 0; numbers = bpac_numbers_of area; floats = bpac_floats_of area }
+told_bpac (Ok None) = absent
+told_bpac (Err fault) = refused_at fault

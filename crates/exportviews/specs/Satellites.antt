@@ -1,20 +1,16 @@
 -- Definitions to believe: the view of a satellite in numbers and floats. What a block that is not there would say is written as 0.
-use Rattle.std.specs.Prelude.{List, [], ◌∷◌, ℕ, Float}
+use Rattle.std.specs.Prelude.{List, [], ◌∷◌, ℕ, Float, Ok, Err, Some, None}
 use Rattle.values.specs.declared.Orbit.{Orbit}
 use Rattle.values.specs.declared.Yaw.{Yaw}
 use Rattle.values.specs.declared.Yaw.TheVariants as yaw
-use Rattle.views.specs.declared.satellites.OrbitBlock.{OrbitBlock}
-use Rattle.views.specs.declared.satellites.OrbitBlock.TheVariants as orbit
-use Rattle.views.specs.declared.satellites.ClockBlock.{ClockBlock}
-use Rattle.views.specs.declared.satellites.ClockBlock.TheVariants as clock
-use Rattle.views.specs.declared.satellites.BiasBlock.{BiasBlock}
-use Rattle.views.specs.declared.satellites.BiasBlock.TheVariants as bias
+use Rattle.views.specs.Results.{OrbitBlock}
+use Rattle.views.specs.Results.{ClockBlock}
+use Rattle.views.specs.Results.{BiasBlock}
 use Rattle.views.specs.declared.satellites.Biases.{Biases}
 use Rattle.views.specs.declared.satellites.Blocks.{Blocks}
 use Rattle.views.specs.declared.satellites.Satellite.{Satellite}
 use Rattle.views.specs.declared.satellites.Satellite.TheVariants.{OutOfUse, InUse}
-use Rattle.views.specs.declared.satellites.SatelliteAnswer.{SatelliteAnswer}
-use Rattle.views.specs.declared.satellites.SatelliteAnswer.TheVariants as answer
+use Rattle.views.specs.Results.{SatelliteAnswer}
 use Rattle.exportviews.specs.Views.{Told, refused_at, none}
 
 -- fourteen numbers and five floats
@@ -27,16 +23,16 @@ satellite_floats = 5
 -- ---- the orbit block: whether it is there, IODE, the three corrections in metres
 
 abbrev pub has_orbit : OrbitBlock → ℕ
-has_orbit orbit.Absent = 0
-has_orbit (orbit.Present iode corrections) = 1
+has_orbit None = 0
+has_orbit (Some (iode, corrections)) = 1
 
 abbrev pub iode_of : OrbitBlock → ℕ
-iode_of orbit.Absent = 0
-iode_of (orbit.Present iode corrections) = iode
+iode_of None = 0
+iode_of (Some (iode, corrections)) = iode
 
 abbrev pub orbit_of : OrbitBlock → Orbit
-orbit_of orbit.Absent = record { radial = none; along_track = none; cross_track = none }
-orbit_of (orbit.Present iode corrections) = corrections
+orbit_of None = record { radial = none; along_track = none; cross_track = none }
+orbit_of (Some (iode, corrections)) = corrections
 
 -- ---- "its yaw is absent, invalid or an angle", numbered as the units of `homralgyu_value`: 6 absent, 0 invalid, 2 degrees
 
@@ -53,30 +49,30 @@ yaw_of (yaw.Degrees x) = x
 -- ---- the clock block: whether it is there, SF022, the correction in metres, SF024
 
 abbrev pub has_clock : ClockBlock → ℕ
-has_clock clock.Absent = 0
-has_clock (clock.Present continuity correction error) = 1
+has_clock None = 0
+has_clock (Some (continuity, correction, error)) = 1
 
 abbrev pub clock_continuity : ClockBlock → ℕ
-clock_continuity clock.Absent = 0
-clock_continuity (clock.Present continuity correction error) = continuity
+clock_continuity None = 0
+clock_continuity (Some (continuity, correction, error)) = continuity
 
 abbrev pub clock_of : ClockBlock → Float
-clock_of clock.Absent = none
-clock_of (clock.Present continuity correction error) = correction
+clock_of None = none
+clock_of (Some (continuity, correction, error)) = correction
 
 abbrev pub clock_error : ClockBlock → ℕ
-clock_error clock.Absent = 0
-clock_error (clock.Present continuity correction error) = error
+clock_error None = 0
+clock_error (Some (continuity, correction, error)) = error
 
 -- ---- the bias block: whether it is there, and where its biases are on the sheet
 
 abbrev pub has_biases : BiasBlock → ℕ
-has_biases bias.Absent = 0
-has_biases (bias.Present biases) = 1
+has_biases None = 0
+has_biases (Some biases) = 1
 
 abbrev pub biases_of : BiasBlock → Biases
-biases_of bias.Absent = record { phases_at = 0; phases = 0; codes_at = 0; codes = 0 }
-biases_of (bias.Present biases) = biases
+biases_of None = record { phases_at = 0; phases = 0; codes_at = 0; codes = 0 }
+biases_of (Some biases) = biases
 
 -- ---- the satellite: its number, and 0 out of use, or 1, SF015 and the blocks
 
@@ -117,5 +113,5 @@ use_floats OutOfUse = []
 use_floats (InUse blocks) = blocks_floats blocks
 
 unfoldable pub told_satellite : SatelliteAnswer → Told
-told_satellite (answer.Is number satellite) = record { number = 0; numbers = use_numbers number satellite; floats = use_floats satellite }
-told_satellite (answer.Refused fault) = refused_at fault
+told_satellite (Ok (number, satellite)) = record { number = 0; numbers = use_numbers number satellite; floats = use_floats satellite }
+told_satellite (Err fault) = refused_at fault

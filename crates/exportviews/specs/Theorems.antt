@@ -1,31 +1,24 @@
 -- Theorems on views as numbers and floats: a refusal writes nothing; and nothing of a view is lost, since two areas or two satellites that are told alike are the
 -- same. Proved; assumes nothing.
-use Rattle.std.specs.Prelude.{◌≡◌, refl, Bool, true, false, cond, List, [], ℕ, ltb, Float, length, get_or}
+use Rattle.std.specs.Prelude.{◌≡◌, refl, Bool, true, false, cond, List, [], ℕ, ltb, Float, length, get_or, Ok, Err, Some, None}
 use Rattle.std.proofs.Common.{ap, arith}
 use Rattle.values.specs.declared.Orbit.{Orbit}
 use Rattle.values.specs.declared.Yaw.{Yaw}
 use Rattle.values.specs.declared.Yaw.TheVariants as yaw
 use Rattle.views.specs.declared.gadarea.GadArea.{GadArea}
-use Rattle.views.specs.declared.gadarea.GadAnswer.{GadAnswer}
-use Rattle.views.specs.declared.gadarea.GadAnswer.TheVariants as gad_answer
+use Rattle.views.specs.Results.{GadAnswer}
 use Rattle.views.specs.declared.hpacarea.HpacArea.{HpacArea}
-use Rattle.views.specs.declared.hpacarea.HpacAnswer.{HpacAnswer}
-use Rattle.views.specs.declared.hpacarea.HpacAnswer.TheVariants as hpac_answer
+use Rattle.views.specs.Results.{HpacAnswer}
 use Rattle.views.specs.declared.bpacarea.BpacArea.{BpacArea}
-use Rattle.views.specs.declared.bpacarea.BpacAnswer.{BpacAnswer}
-use Rattle.views.specs.declared.bpacarea.BpacAnswer.TheVariants as bpac_answer
-use Rattle.views.specs.declared.satellites.OrbitBlock.{OrbitBlock}
-use Rattle.views.specs.declared.satellites.OrbitBlock.TheVariants as orbit
-use Rattle.views.specs.declared.satellites.ClockBlock.{ClockBlock}
-use Rattle.views.specs.declared.satellites.ClockBlock.TheVariants as clock
-use Rattle.views.specs.declared.satellites.BiasBlock.{BiasBlock}
-use Rattle.views.specs.declared.satellites.BiasBlock.TheVariants as bias
+use Rattle.views.specs.Results.{BpacAnswer}
+use Rattle.views.specs.Results.{OrbitBlock}
+use Rattle.views.specs.Results.{ClockBlock}
+use Rattle.views.specs.Results.{BiasBlock}
 use Rattle.views.specs.declared.satellites.Biases.{Biases}
 use Rattle.views.specs.declared.satellites.Blocks.{Blocks}
 use Rattle.views.specs.declared.satellites.Satellite.{Satellite}
 use Rattle.views.specs.declared.satellites.Satellite.TheVariants.{OutOfUse, InUse}
-use Rattle.views.specs.declared.satellites.SatelliteAnswer.{SatelliteAnswer}
-use Rattle.views.specs.declared.satellites.SatelliteAnswer.TheVariants as satellite_answer
+use Rattle.views.specs.Results.{SatelliteAnswer}
 use Rattle.export.specs.Numbers as export
 use Rattle.export.specs.Numbers.{room, room_for, laid, answered, lent_after}
 use Rattle.exportviews.specs.Views.{Told, none, rooms, number_told, view_after, floats_after}
@@ -40,20 +33,20 @@ Quiet told = (told.number ≡ 0 → ⊥) → (told.numbers ≡ []) × (told.floa
 
 pub gad-quiet : (a : GadAnswer) → Quiet (told_gad a)
 unfolding told_gad
-gad-quiet (gad_answer.Is area) h = absurd (h refl)
-gad-quiet gad_answer.Absent h = absurd (h refl)
-gad-quiet (gad_answer.Refused why) h = (refl, refl)
+gad-quiet (Ok (Some area)) h = absurd (h refl)
+gad-quiet (Ok None) h = absurd (h refl)
+gad-quiet (Err why) h = (refl, refl)
 
 pub bpac-quiet : (a : BpacAnswer) → Quiet (told_bpac a)
 unfolding told_bpac
-bpac-quiet (bpac_answer.Is area) h = absurd (h refl)
-bpac-quiet bpac_answer.Absent h = absurd (h refl)
-bpac-quiet (bpac_answer.Refused why) h = (refl, refl)
+bpac-quiet (Ok (Some area)) h = absurd (h refl)
+bpac-quiet (Ok None) h = absurd (h refl)
+bpac-quiet (Err why) h = (refl, refl)
 
 pub satellite-quiet : (a : SatelliteAnswer) → Quiet (told_satellite a)
 unfolding told_satellite
-satellite-quiet (satellite_answer.Is number satellite) h = absurd (h refl)
-satellite-quiet (satellite_answer.Refused why) h = (refl, refl)
+satellite-quiet (Ok (number, satellite)) h = absurd (h refl)
+satellite-quiet (Err why) h = (refl, refl)
 
 pub refusal-leaves : (m : ℕ) (view : List ℕ) (n : ℕ) (floats : List Float) (told : Told) → Quiet told
     → (number_told m view n floats told ≡ 0 → ⊥) → (view_after m view n floats told ≡ view) × (floats_after m view n floats told ≡ floats)
@@ -75,9 +68,9 @@ QuietNumbers told = (told.number ≡ 0 → ⊥) → told.numbers ≡ []
 
 pub hpac-quiet : (a : HpacAnswer) → QuietNumbers (told_hpac a)
 unfolding told_hpac
-hpac-quiet (hpac_answer.Is area) h = absurd (h refl)
-hpac-quiet hpac_answer.Absent h = absurd (h refl)
-hpac-quiet (hpac_answer.Refused why) h = refl
+hpac-quiet (Ok (Some area)) h = absurd (h refl)
+hpac-quiet (Ok None) h = absurd (h refl)
+hpac-quiet (Err why) h = refl
 
 pub lent-leaves : (m : ℕ) (lent : List ℕ) (told : export.Told) → QuietNumbers told → (answered m lent told ≡ 0 → ⊥) → lent_after m lent told ≡ lent
 unfolding answered lent_after room_for laid
@@ -128,10 +121,10 @@ bpac-whole a b e f = bpac-same (at e 1) (float_at f 0) (float_at f 1) (at e 2) (
 -- ---- two satellites that are told alike are the same
 
 orbit-whole : (a b : OrbitBlock) → has_orbit a ≡ has_orbit b → iode_of a ≡ iode_of b → orbit_of a ≡ orbit_of b → a ≡ b
-orbit-whole orbit.Absent orbit.Absent h e f = refl
-orbit-whole orbit.Absent (orbit.Present j y) h e f = absurd (omega arith)
-orbit-whole (orbit.Present i x) orbit.Absent h e f = absurd (omega arith)
-orbit-whole (orbit.Present i x) (orbit.Present j y) h e f = cc
+orbit-whole None None h e f = refl
+orbit-whole None (Some (j, y)) h e f = absurd (omega arith)
+orbit-whole (Some (i, x)) None h e f = absurd (omega arith)
+orbit-whole (Some (i, x)) (Some (j, y)) h e f = cc
 
 yaw-whole : (a b : Yaw) → yaw_is a ≡ yaw_is b → yaw_of a ≡ yaw_of b → a ≡ b
 yaw-whole yaw.Absent yaw.Absent h e = refl
@@ -145,16 +138,16 @@ yaw-whole (yaw.Degrees x) yaw.Invalid h e = absurd (omega arith)
 yaw-whole (yaw.Degrees x) (yaw.Degrees y) h e = cc
 
 clock-whole : (a b : ClockBlock) → has_clock a ≡ has_clock b → clock_continuity a ≡ clock_continuity b → clock_of a ≡ clock_of b → clock_error a ≡ clock_error b → a ≡ b
-clock-whole clock.Absent clock.Absent h e f g = refl
-clock-whole clock.Absent (clock.Present k y n) h e f g = absurd (omega arith)
-clock-whole (clock.Present c x m) clock.Absent h e f g = absurd (omega arith)
-clock-whole (clock.Present c x m) (clock.Present k y n) h e f g = cc
+clock-whole None None h e f g = refl
+clock-whole None (Some (k, y, n)) h e f g = absurd (omega arith)
+clock-whole (Some (c, x, m)) None h e f g = absurd (omega arith)
+clock-whole (Some (c, x, m)) (Some (k, y, n)) h e f g = cc
 
 bias-whole : (a b : BiasBlock) → has_biases a ≡ has_biases b → biases_of a ≡ biases_of b → a ≡ b
-bias-whole bias.Absent bias.Absent h e = refl
-bias-whole bias.Absent (bias.Present y) h e = absurd (omega arith)
-bias-whole (bias.Present x) bias.Absent h e = absurd (omega arith)
-bias-whole (bias.Present x) (bias.Present y) h e = cc
+bias-whole None None h e = refl
+bias-whole None (Some y) h e = absurd (omega arith)
+bias-whole (Some x) None h e = absurd (omega arith)
+bias-whole (Some x) (Some y) h e = cc
 
 corrections-same : {a a' b b' c c' : Float} → a ≡ a' → b ≡ b' → c ≡ c'
     → ◌≡◌ {A = Orbit} (record { radial = a; along_track = b; cross_track = c }) (record { radial = a'; along_track = b'; cross_track = c' })

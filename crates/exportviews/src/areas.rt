@@ -58,15 +58,15 @@ fn tell_gad(answer: GadAnswer, view: &mut [u64], floats: &mut [f64]) -> u64
     ensures floats_after { floats.new ≡ laid (told_gad answer).floats floats.old }
 {
     match answer {
-        GadAnswer::Is(area) => {
+        Ok(Some(area)) => {
             put_gad(area, view, floats);
             0
         }
-        GadAnswer::Absent => {
+        Ok(None) => {
             put_none(view);
             0
         }
-        GadAnswer::Refused(fault) => answer_of(fault),
+        Err(fault) => answer_of(fault),
     }
 }
 
@@ -105,15 +105,15 @@ fn tell_hpac(answer: HpacAnswer, view: &mut [u64]) -> u64
     ensures view_after { view.new ≡ laid (told_hpac answer).numbers view.old }
 {
     match answer {
-        HpacAnswer::Is(area) => {
+        Ok(Some(area)) => {
             put_hpac(area, view);
             0
         }
-        HpacAnswer::Absent => {
+        Ok(None) => {
             put_none(view);
             0
         }
-        HpacAnswer::Refused(fault) => answer_of(fault),
+        Err(fault) => answer_of(fault),
     }
 }
 
@@ -152,15 +152,15 @@ fn tell_bpac(answer: BpacAnswer, view: &mut [u64], floats: &mut [f64]) -> u64
     ensures floats_after { floats.new ≡ laid (told_bpac answer).floats floats.old }
 {
     match answer {
-        BpacAnswer::Is(area) => {
+        Ok(Some(area)) => {
             put_bpac(area, view, floats);
             0
         }
-        BpacAnswer::Absent => {
+        Ok(None) => {
             put_none(view);
             0
         }
-        BpacAnswer::Refused(fault) => answer_of(fault),
+        Err(fault) => answer_of(fault),
     }
 }
 

@@ -28,8 +28,8 @@ fn has_orbit(orbit: OrbitBlock) -> u64
     ensures { result ≡ has_orbit orbit }
 {
     match orbit {
-        OrbitBlock::Absent => 0,
-        OrbitBlock::Present(_, _) => 1,
+        None => 0,
+        Some((_, _)) => 1,
     }
 }
 
@@ -37,8 +37,8 @@ fn iode_of(orbit: OrbitBlock) -> u64
     ensures { result ≡ iode_of orbit }
 {
     match orbit {
-        OrbitBlock::Absent => 0,
-        OrbitBlock::Present(iode, _) => iode,
+        None => 0,
+        Some((iode, _)) => iode,
     }
 }
 
@@ -46,12 +46,12 @@ fn orbit_of(orbit: OrbitBlock) -> Orbit
     ensures { result ≡ orbit_of orbit }
 {
     match orbit {
-        OrbitBlock::Absent => Orbit {
+        None => Orbit {
             radial: none(),
             along_track: none(),
             cross_track: none(),
         },
-        OrbitBlock::Present(_, corrections) => corrections,
+        Some((_, corrections)) => corrections,
     }
 }
 
@@ -79,8 +79,8 @@ fn has_clock(clock: ClockBlock) -> u64
     ensures { result ≡ has_clock clock }
 {
     match clock {
-        ClockBlock::Absent => 0,
-        ClockBlock::Present(_, _, _) => 1,
+        None => 0,
+        Some((_, _, _)) => 1,
     }
 }
 
@@ -88,8 +88,8 @@ fn clock_continuity(clock: ClockBlock) -> u64
     ensures { result ≡ clock_continuity clock }
 {
     match clock {
-        ClockBlock::Absent => 0,
-        ClockBlock::Present(continuity, _, _) => continuity,
+        None => 0,
+        Some((continuity, _, _)) => continuity,
     }
 }
 
@@ -97,8 +97,8 @@ fn clock_of(clock: ClockBlock) -> f64
     ensures { result ≡ clock_of clock }
 {
     match clock {
-        ClockBlock::Absent => none(),
-        ClockBlock::Present(_, correction, _) => correction,
+        None => none(),
+        Some((_, correction, _)) => correction,
     }
 }
 
@@ -106,8 +106,8 @@ fn clock_error(clock: ClockBlock) -> u64
     ensures { result ≡ clock_error clock }
 {
     match clock {
-        ClockBlock::Absent => 0,
-        ClockBlock::Present(_, _, error) => error,
+        None => 0,
+        Some((_, _, error)) => error,
     }
 }
 
@@ -115,8 +115,8 @@ fn has_biases(bias: BiasBlock) -> u64
     ensures { result ≡ has_biases bias }
 {
     match bias {
-        BiasBlock::Absent => 0,
-        BiasBlock::Present(_) => 1,
+        None => 0,
+        Some(_) => 1,
     }
 }
 
@@ -124,13 +124,13 @@ fn biases_of(bias: BiasBlock) -> Biases
     ensures { result ≡ biases_of bias }
 {
     match bias {
-        BiasBlock::Absent => Biases {
+        None => Biases {
             phases_at: 0,
             phases: 0,
             codes_at: 0,
             codes: 0,
         },
-        BiasBlock::Present(biases) => biases,
+        Some(biases) => biases,
     }
 }
 
@@ -213,11 +213,11 @@ fn tell_satellite(answer: SatelliteAnswer, view: &mut [u64], floats: &mut [f64])
     ensures floats_after { floats.new ≡ laid (told_satellite answer).floats floats.old }
 {
     match answer {
-        SatelliteAnswer::Is(number, satellite) => {
+        Ok((number, satellite)) => {
             tell_use(number, satellite, view, floats);
             0
         }
-        SatelliteAnswer::Refused(fault) => answer_of(fault),
+        Err(fault) => answer_of(fault),
     }
 }
 

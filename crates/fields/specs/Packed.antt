@@ -1,12 +1,11 @@
 -- Mirror of src/packed.rt, over the table of Fields.antt: a field's bits and the codes that it takes in one number; and the law that the number refuses what the field refuses.
-use Rattle.std.specs.Prelude.{◌≡◌, List, [], ◌∷◌, Bool, ◌&&◌, not, ℕ, zero, suc, ◌+◌, ◌*◌, ◌/◌, ◌%◌, ◌≤◌, ◌<◌, T, eqb, ltb, leb}
+use Rattle.std.specs.Prelude.{◌≡◌, List, [], ◌∷◌, Bool, ◌&&◌, not, ℕ, zero, suc, ◌+◌, ◌*◌, ◌/◌, ◌%◌, ◌≤◌, ◌<◌, T, eqb, ltb, leb, Ok, Err}
 use Rattle.std.proofs.Math.Path.{refl}
 use Rattle.std.proofs.Common.{sym, ap, ◌∙◌, arith, leb→le, le-ltb, lt-ltb}
 use Rattle.std.proofs.Math.Bool.{true, false}
 use Rattle.std.specs.Float.Ieee.Fits.{and_l, and_r}
 use Rattle.answer.specs.declared.Refusal.TheVariants as refusal
 use Rattle.layout.specs.declared.Field.{Field}
-use Rattle.layout.specs.declared.Verdict.TheVariants.{Taken, Fault}
 use Rattle.layout.specs.Layout.{pick, judge}
 use Rattle.fields.specs.Fields.{Line, table, no_line, or_else, find, line_of, field_of, sf}
 use Rattle.fields.specs.Columns.{no_field}
@@ -88,7 +87,7 @@ module _ (number width most invalid code : ℕ) (small : width < 256) (low : mos
   by_parts = rw (most-in, invalid-in) refl
 
   judged-by : (x y : Bool) → ltb most code ≡ x → eqb code invalid ≡ y → ltb code 0 ≡ false
-      → judge (field_of number width most invalid) code ≡ pick (x && not y) (Fault refusal.Field) Taken
+      → judge (field_of number width most invalid) code ≡ pick (x && not y) (Err refusal.Field) (Ok tt)
   unfolding judge
   judged-by true true p q z = rw q
   judged-by false true p q z = rw q
@@ -96,5 +95,5 @@ module _ (number width most invalid code : ℕ) (small : width < 256) (low : mos
   judged-by false false p q z = rw (q, z, p)
 
   -- the field's verdict
-  pub packed-judges : judge (field_of number width most invalid) code ≡ pick (refuses (packed width most invalid) code) (Fault refusal.Field) Taken
+  pub packed-judges : judge (field_of number width most invalid) code ≡ pick (refuses (packed width most invalid) code) (Err refusal.Field) (Ok tt)
   packed-judges = rw by_parts (judged-by (ltb most code) (eqb code invalid) refl refl (le-ltb code 0 (omega arith)))

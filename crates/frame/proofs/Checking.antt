@@ -1,4 +1,5 @@
 -- One lemma for each answer of the functions that check, in plain variables, its premises worded as the code makes them. Assumes nothing.
+use Rattle.std.specs.Prelude.{Some, None}
 use mathlib.Core.Path.{◌≡◌, refl, sym, ap, ap₂, subst, ◌∙◌}
 use mathlib.Core.List.{List, []}
 use mathlib.Core.Bool.{Bool, true, false, not, ◌&&◌}
@@ -15,7 +16,6 @@ use Rattle.frame.specs.Fields.{tf003, tf004, tf005, tf006, tf008, tf015, payload
 use Rattle.frame.specs.Check.{seal_of, frame_of, bad_message_crc, bad_frame_crc, checked, fits_in, payload_in, place_in, payload_of, place_of}
 use Rattle.frame.specs.Laws.{sealed-if}
 use Rattle.frame.specs.Stages.{whole, described, starting}
-use Rattle.frame.specs.declared.Seal.TheVariants.{Plain, Sealed}
 use Rattle.frame.specs.declared.Frame.{Frame}
 use Rattle.frame.specs.declared.Checked.{Checked}
 use Rattle.frame.specs.declared.Checked.TheVariants.{Accepted, Short, Refused}
@@ -67,12 +67,12 @@ bytes_4 (suc (suc (suc (suc k)))) a b c d = refl
 
 -- ---- the header
 
-pub is_plain : (s : List ℕ) (x : ℕ) → x ≡ tf004 s → x ≡ 0 → Plain ≡ seal_of s
+pub is_plain : (s : List ℕ) (x : ℕ) → x ≡ tf004 s → x ≡ 0 → None ≡ seal_of s
 is_plain s x e h = let a : eqb (tf004 s) 0 ≡ true = eq-eqb (tf004 s) 0 (sym e ∙ h) in rw a
 
 pub is-sealed : (s : List ℕ) (x k a b c d : ℕ) → x ≡ tf004 s → (x ≡ 0 → ⊥) → k ≡ tf008 s
     → a ≡ field s (48 + (16 + 16 * k)) 4 → b ≡ field s (52 + (16 + 16 * k)) 6 → c ≡ field s (58 + (16 + 16 * k)) 3 → d ≡ field s (61 + (16 + 16 * k)) 3
-    → Sealed (record { id = a; sequence = b; authentication = c; authentication_length = d }) ≡ seal_of s
+    → Some (record { id = a; sequence = b; authentication = c; authentication_length = d }) ≡ seal_of s
 is-sealed s x k a b c d e h q ea eb ec ed = let z : eqb (tf004 s) 0 ≡ false = ne_eqb (tf004 s) 0 (λ w. h (e ∙ w)) in rw (z, ea, eb, ec, ed, q)
 
 -- ---- the tests

@@ -1,4 +1,5 @@
 -- One lemma for each answer of the functions that write, in plain variables, its premises worded as the code makes them. Assumes nothing.
+use Rattle.std.specs.Prelude.{Ok, Err}
 use mathlib.Core.Path.{◌≡◌, refl, sym, ap, ap₂, subst, ◌∙◌}
 use mathlib.Core.List.{List, [], ◌∷◌, ◌++◌, append_assoc}
 use mathlib.Core.Bool.{Bool, true, false, not}
@@ -22,8 +23,7 @@ use Rattle.frame.specs.WriteLaws.{length-bytes_of, four_bytes, put-bytes, over}
 use Rattle.frame.specs.Header.{InRange, in-range, start-code, description-code}
 use Rattle.answer.specs.declared.Refusal.TheVariants.{Room, Field, Length}
 use Rattle.frame.specs.declared.Parts.{Parts}
-use Rattle.frame.specs.declared.Written.{Written}
-use Rattle.frame.specs.declared.Written.TheVariants.{Frame, Refused}
+use Rattle.frame.specs.Results.{Written}
 
 -- ---- ranges
 
@@ -180,7 +180,7 @@ pub both : {p : Parts} {payload out : List ℕ} {r : Written} {out' : List ℕ} 
     → (r ≡ written p payload out) × (out' ≡ out_after p payload out)
 both w = (w.says, w.leaves)
 
-pub write-room : (p : Parts) (payload out : List ℕ) → length out < longest_frame → Wrote p payload out (Refused Room) out
+pub write-room : (p : Parts) (payload out : List ℕ) → length out < longest_frame → Wrote p payload out (Err Room) out
 unfolding written out_after
 write-room p payload out h = let z : ltb (length out) longest_frame ≡ true = lt-ltb (length out) longest_frame h in record { says = rw z; leaves = rw (written, z) }
 
@@ -188,7 +188,7 @@ module _ (p : Parts) (payload out : List ℕ) (room : longest_frame ≤ length o
   room-is : ltb (length out) longest_frame ≡ false
   room-is = le-ltb (length out) longest_frame room
 
-  pub write-field : not b ≡ true → Wrote p payload out (Refused Field) out
+  pub write-field : not b ≡ true → Wrote p payload out (Err Field) out
   unfolding written out_after
   write-field h = let z : in_range p ≡ false = sym is ∙ not-true b h in record { says = rw (room-is, z); leaves = rw (written, room-is, z) }
 
@@ -199,7 +199,7 @@ module _ (p : Parts) (payload out : List ℕ) (room : longest_frame ≤ length o
     pub range-holds : InRange p
     range-holds = in-range p range-is
 
-    pub write-empty : length payload ≡ 0 → Wrote p payload out (Refused Length) out
+    pub write-empty : length payload ≡ 0 → Wrote p payload out (Err Length) out
     unfolding written out_after
     write-empty e = let z : eqb (length payload) 0 ≡ true = eq-eqb (length payload) 0 e in record { says = rw (room-is, range-is, z); leaves = rw (written, room-is, range-is, z) }
 
@@ -207,7 +207,7 @@ module _ (p : Parts) (payload out : List ℕ) (room : longest_frame ≤ length o
       some_is : eqb (length payload) 0 ≡ false
       some_is = ne_eqb (length payload) 0 some
 
-      pub write-long : longest_payload < length payload → Wrote p payload out (Refused Length) out
+      pub write-long : longest_payload < length payload → Wrote p payload out (Err Length) out
       unfolding written out_after
       write-long l =
           let z : ltb longest_payload (length payload) ≡ true = lt-ltb longest_payload (length payload) l in
@@ -281,7 +281,7 @@ module _ (p : Parts) (payload out : List ℕ) (room : longest_frame ≤ length o
               length-append (body p payload) (check_over p.check_type (drop 1 (body p payload)))
               ∙ omega (arith, check-size (drop 1 (body p payload)), body-size)
 
-          pub write-frame : Wrote p payload out (Frame fin) o₄
+          pub write-frame : Wrote p payload out (Ok fin) o₄
           unfolding written out_after
           write-frame =
               let z : ltb longest_payload (length payload) ≡ false = le-ltb longest_payload (length payload) fits in

@@ -1,5 +1,5 @@
 -- Definitions to believe: document 01, "The frame", second and third paragraph. When a frame is accepted, and what is handed back.
-use Rattle.std.specs.Prelude.{List, [], Bool, cond, not, ◌&&◌, ℕ, ◌+◌, ◌-◌, ◌*◌, leb, ltb, eqb, length, get_or, take, drop}
+use Rattle.std.specs.Prelude.{List, [], Bool, cond, not, ◌&&◌, ℕ, ◌+◌, ◌-◌, ◌*◌, leb, ltb, eqb, length, get_or, take, drop, Some, None}
 use Rattle.answer.specs.Stop.{stop}
 use Rattle.answer.specs.Number.{number_of}
 use Rattle.answer.specs.declared.Refusal.TheVariants.{Preamble, FrameCrc, Length, MessageCrc}
@@ -8,8 +8,7 @@ use Rattle.checks.specs.Crc.{frame_crc, message_crc}
 use Rattle.frame.specs.Fields.{preamble, tf002, tf003, tf004, tf005, tf006, tf007, tf008, tf009, tf010, tf011, tf012, tf013, tf014, tf015, payload_at, authenticated, check_bytes, check_at, frame_bytes}
 use Rattle.frame.specs.declared.Frame.{Frame}
 use Rattle.frame.specs.declared.Sealing.{Sealing}
-use Rattle.frame.specs.declared.Seal.{Seal}
-use Rattle.frame.specs.declared.Seal.TheVariants.{Plain, Sealed}
+use Rattle.frame.specs.Results.{Seal}
 use Rattle.frame.specs.declared.Checked.{Checked}
 use Rattle.frame.specs.declared.Checked.TheVariants.{Accepted, Short, Refused}
 
@@ -18,7 +17,7 @@ abbrev pub sealing_of : List ℕ → Sealing
 sealing_of s = record { id = tf012 s; sequence = tf013 s; authentication = tf014 s; authentication_length = tf015 s }
 
 abbrev pub seal_of : List ℕ → Seal
-seal_of s = cond (eqb (tf004 s) 0) Plain (Sealed (sealing_of s))
+seal_of s = cond (eqb (tf004 s) 0) None (Some (sealing_of s))
 
 unfoldable pub frame_of : List ℕ → Frame
 frame_of s =

@@ -7,7 +7,7 @@ use Rattle.frame.specs.Write.{number_of_written, out_after, written}
 use Rattle.frame.specs.declared.Checked.{Checked}
 use Rattle.frame.specs.declared.Frame.{Frame}
 use Rattle.frame.specs.declared.Parts.{Parts}
-use Rattle.frame.specs.declared.Written.{Written}
+use Rattle.frame.specs.Results.{Written}
 use Rattle.std.specs.Borrow.{Bor}
 use Rattle.std.proofs.Common.{◌∙◌, sym}
 

@@ -1,6 +1,6 @@
 -- Laws of `checked`, for the layers above: what an accepted frame is, that an answer other than SHORT stays when bytes are appended,
 -- and how long SHORT stays. They serve proofs and are proved.
-use Rattle.std.specs.Prelude.{◌≡◌, List, [], ◌++◌, Bool, true, false, cond, ◌&&◌, eqb, length, get_or, drop}
+use Rattle.std.specs.Prelude.{◌≡◌, List, [], ◌++◌, Bool, true, false, cond, ◌&&◌, eqb, length, get_or, drop, Some, None}
 use Rattle.std.proofs.Math.Path.{refl, ap, ap₂}
 use Rattle.std.proofs.Common.{sym, subst, ◌∙◌, true≢false, arith, length-append, take-append-drop, length-take-le, lt-ltb, le-ltb, le-leb, ltb-true, ltb-false, eqb-true, eq-eqb, ne_eqb}
 use Rattle.std.proofs.Math.Bool.{not}
@@ -19,7 +19,6 @@ use Rattle.bits.specs.Laws.{field_lt, field-append, field_out}
 use Rattle.frame.specs.Fields.{preamble, tf003, tf004, tf005, tf006, tf008, tf009, tf014, tf015, tag_bits, payload_at, authenticated, authentication_bytes, authentication, check_bytes, check_at, frame_bytes}
 use Rattle.answer.specs.Stop.{stop}
 use Rattle.frame.specs.Check.{sealing_of, seal_of, frame_of, bad_frame_crc, bad_message_crc, want, checked, payload_in, payload_of}
-use Rattle.frame.specs.declared.Seal.TheVariants.{Plain, Sealed}
 use Rattle.frame.specs.declared.Frame.{Frame}
 use Rattle.frame.specs.declared.Checked.{Checked}
 use Rattle.frame.specs.declared.Checked.TheVariants.{Accepted, Short, Refused}
@@ -198,7 +197,7 @@ module _ (s t : List ℕ) (h : 4 ≤ length s) where
       seal_of-same : seal_of (s ++ t) ≡ seal_of s
       seal_of-same = rw (start-same 25 1 (omega arith)) (go (tf004 s) refl)
         where
-          go : (x : ℕ) → tf004 s ≡ x → cond (eqb x 0) Plain (Sealed (sealing_of (s ++ t))) ≡ cond (eqb x 0) Plain (Sealed (sealing_of s))
+          go : (x : ℕ) → tf004 s ≡ x → cond (eqb x 0) None (Some (sealing_of (s ++ t))) ≡ cond (eqb x 0) None (Some (sealing_of s))
           go zero e = refl
           go (suc x) e =
               let a = described-same 48 4 (omega arith) in

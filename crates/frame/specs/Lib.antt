@@ -1,3 +1,4 @@
+pub mod Results
 pub mod Fields
 pub mod Check
 pub mod Stages

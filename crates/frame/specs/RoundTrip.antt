@@ -1,6 +1,6 @@
 -- Demand 2 for frames: a written plain frame is accepted with exactly its parts and its payload, and the writer on the parts and the
 -- payload of an accepted plain frame gives back its bytes. The two theorems stand last; what is before them serves their proofs.
-use Rattle.std.specs.Prelude.{◌≡◌, Bool, true, false, cond, not, ◌||◌, ltb, eqb, get_or, drop}
+use Rattle.std.specs.Prelude.{◌≡◌, Bool, true, false, cond, not, ◌||◌, ltb, eqb, get_or, drop, Ok, Err, Some, None}
 use Rattle.std.proofs.Math.Path.{refl, sym, ap, ap₂, subst}
 use Rattle.std.proofs.Common.{◌∙◌, true≢false, drop_at, take-add, drop-drop, eqb-true, ltb-false, le-ltb, ne_eqb}
 use mathlib.Core.List.{List, [], ◌∷◌, ◌++◌, append_assoc, append-nil}
@@ -24,9 +24,7 @@ use Rattle.frame.specs.Header.{InRange, in-range, range-in, start-code, descript
 use Rattle.answer.specs.declared.Refusal.{Refusal}
 use Rattle.answer.specs.declared.Refusal.TheVariants.{Room, Field, Length}
 use Rattle.frame.specs.declared.Parts.{Parts}
-use Rattle.frame.specs.declared.Written.{Written}
-use Rattle.frame.specs.declared.Written.TheVariants as W
-use Rattle.frame.specs.declared.Seal.TheVariants.{Plain, Sealed}
+use Rattle.frame.specs.Results.{Written}
 use Rattle.frame.specs.declared.Frame.{Frame}
 use Rattle.frame.specs.declared.Checked.TheVariants.{Accepted}
 
@@ -302,7 +300,7 @@ module _ (p : Parts) (r : InRange p) (payload : List ℕ) (some : 1 ≤ length p
   header_is =
       let a = its-start in
       let b = its-description in
-      let seal : seal_of s ≡ Plain = rw a.plain-is in
+      let seal : seal_of s ≡ None = rw a.plain-is in
       let at : payload_at s ≡ 4 + (4 + 2 * p.tag_kind + 2 * 0) = omega (arith, payload_at-is) in
       let size = frame_bytes-is in
       cc
@@ -366,14 +364,14 @@ pieces s x y z =
     (take-add x (y + z) s
     ∙ ap (λ (l : List ℕ). take x s ++ l) (take-add y z (drop x s) ∙ ap (λ (l : List ℕ). take y (drop x s) ++ take z l) (drop-drop y x s)))
 
-module _ (s : List ℕ) (b : Bytes s) (a : Acceptance s (frame_of s)) (plain-seal : seal_of s ≡ Plain) where
+module _ (s : List ℕ) (b : Bytes s) (a : Acceptance s (frame_of s)) (plain-seal : seal_of s ≡ None) where
   abbrev again : Parts
   again = parts_of (frame_of s)
 
   not-sealed : tf004 s ≡ 0
   not-sealed = go (eqb (tf004 s) 0) refl plain-seal
     where
-      go : (t : Bool) → eqb (tf004 s) 0 ≡ t → cond t Plain (Sealed (sealing_of s)) ≡ Plain → tf004 s ≡ 0
+      go : (t : Bool) → eqb (tf004 s) 0 ≡ t → cond t None (Some (sealing_of s)) ≡ None → tf004 s ≡ 0
       go true q e = eqb-true (tf004 s) 0 q
       go false q e = let z : ◌≡◌ {A = ℕ} 0 1 = cc in absurd (omega arith)
 
@@ -483,7 +481,7 @@ module _ (s : List ℕ) (f : Frame) (e : checked s ≡ Accepted f) where
       (subst (λ (x : Frame). InRange (parts_of x)) (sym is-frame) (parts-fit s), omega (arith, a.some-payload), omega (arith, field_lt s 15 10))
 
   -- The writer on the parts and the payload of an accepted plain frame gives back its bytes.
-  pub accepted-written : Bytes s → f.seal ≡ Plain → plain (parts_of f) (payload_of s) ≡ take f.length s
+  pub accepted-written : Bytes s → f.seal ≡ None → plain (parts_of f) (payload_of s) ≡ take f.length s
   unfolding frame_of
   accepted-written b p =
       let own : Acceptance s (frame_of s) = subst (λ (x : Frame). Acceptance s x) is-frame (accepted s f e) in
@@ -493,19 +491,19 @@ module _ (s : List ℕ) (f : Frame) (e : checked s ≡ Accepted f) where
 
 -- ---- the two, of the calls' own definitions
 
-refuse-on : (b : Bool) (r : Refusal) (rest : Written) {n : ℕ} → refuse b (W.Refused r) rest ≡ W.Frame n → (b ≡ false) × (rest ≡ W.Frame n)
+refuse-on : (b : Bool) (r : Refusal) (rest : Written) {n : ℕ} → refuse b (Err r) rest ≡ Ok n → (b ≡ false) × (rest ≡ Ok n)
 refuse-on true r rest e = let z : ◌≡◌ {A = ℕ} 0 1 = cc in absurd (omega arith)
 refuse-on false r rest e = (refl, e)
 
 -- What `write` wrote, `check` accepts with those parts, and `payload` hands back that payload.
-pub write-check : (p : Parts) (payload out : List ℕ) (n : ℕ) → written p payload out ≡ W.Frame n
+pub write-check : (p : Parts) (payload out : List ℕ) (n : ℕ) → written p payload out ≡ Ok n
     → (checked (out_after p payload out) ≡ Accepted (header_of p payload)) × (payload_of (out_after p payload out) ≡ payload)
 unfolding out_after written
 write-check p payload out n e =
     let some-test : Bool = eqb (length payload) 0 || ltb longest_payload (length payload) in
-    let last : Written = W.Frame (length (plain p payload)) in
-    let third : Written = refuse some-test (W.Refused Length) last in
-    let a = refuse-on (ltb (length out) longest_frame) Room (refuse (not (in_range p)) (W.Refused Field) third) e in
+    let last : Written = Ok (length (plain p payload)) in
+    let third : Written = refuse some-test (Err Length) last in
+    let a = refuse-on (ltb (length out) longest_frame) Room (refuse (not (in_range p)) (Err Field) third) e in
     let b = refuse-on (not (in_range p)) Field third a.1 in
     let c = refuse-on some-test Length last b.1 in
     let r : InRange p = in-range p (not-false _ b.0) in
@@ -524,8 +522,8 @@ write-check p payload out n e =
     one (suc n) h = omega arith
 
 -- Of each accepted plain frame, `write` on its parts and its payload writes its bytes again.
-pub check-write : (s out : List ℕ) (f : Frame) → Bytes s → longest_frame ≤ length out → checked s ≡ Accepted f → f.seal ≡ Plain
-    → (written (parts_of f) (payload_of s) out ≡ W.Frame f.length) × (out_after (parts_of f) (payload_of s) out ≡ take f.length s ++ drop f.length out)
+pub check-write : (s out : List ℕ) (f : Frame) → Bytes s → longest_frame ≤ length out → checked s ≡ Accepted f → f.seal ≡ None
+    → (written (parts_of f) (payload_of s) out ≡ Ok f.length) × (out_after (parts_of f) (payload_of s) out ≡ take f.length s ++ drop f.length out)
 unfolding out_after written
 check-write s out f b room e p =
     let r = accepted-parts s f e in

@@ -1,6 +1,6 @@
 -- Definitions to believe: document 01, "The frame", the plain-frame writer.
 -- "The plain-frame writer (TF004 zero) gives back the bytes of any accepted plain frame from its parts."
-use Rattle.std.specs.Prelude.{List, [], ◌∷◌, ◌++◌, Bool, true, false, not, ◌&&◌, ◌||◌, ℕ, zero, suc, ◌+◌, ◌*◌, ◌^◌, ltb, eqb, length, get_or, take, drop}
+use Rattle.std.specs.Prelude.{List, [], ◌∷◌, ◌++◌, Bool, true, false, not, ◌&&◌, ◌||◌, ℕ, zero, suc, ◌+◌, ◌*◌, ◌^◌, ltb, eqb, length, get_or, take, drop, Ok, Err, None}
 use Rattle.sizes.specs.Sizes.{longest_frame, longest_payload}
 use Rattle.answer.specs.Number.{number_of}
 use Rattle.answer.specs.declared.Refusal.TheVariants.{Room, Field, Length}
@@ -8,10 +8,8 @@ use Rattle.bits.specs.Bits.{bits_of, number}
 use Rattle.checks.specs.Crc.{frame_crc, message_crc}
 use Rattle.frame.specs.Fields.{preamble, tag_bits, description_bytes}
 use Rattle.frame.specs.declared.Frame as F
-use Rattle.frame.specs.declared.Seal.TheVariants.{Plain}
 use Rattle.frame.specs.declared.Parts.{Parts}
-use Rattle.frame.specs.declared.Written.{Written}
-use Rattle.frame.specs.declared.Written.TheVariants.{Frame, Refused}
+use Rattle.frame.specs.Results.{Written}
 
 -- n bytes, each of the next eight bits
 unfoldable pub bytes_of : ℕ → List ℕ → List ℕ
@@ -60,23 +58,23 @@ refuse false answer rest = rest
 -- "It wants 1,103 bytes of room and checks ROOM, FIELD, LENGTH."
 unfoldable pub written : Parts → List ℕ → List ℕ → Written
 written p payload out =
-    refuse (ltb (length out) longest_frame) (Refused Room)
-    (refuse (not (in_range p)) (Refused Field)
-    (refuse (eqb (length payload) 0 || ltb longest_payload (length payload)) (Refused Length)
-    (Frame (length (plain p payload)))))
+    refuse (ltb (length out) longest_frame) (Err Room)
+    (refuse (not (in_range p)) (Err Field)
+    (refuse (eqb (length payload) 0 || ltb longest_payload (length payload)) (Err Length)
+    (Ok (length (plain p payload)))))
 
 -- what the buffer holds then: the frame and, past it, what was lent; a refusal writes nothing
 abbrev pub left_by : Written → Parts → List ℕ → List ℕ → List ℕ
-left_by (Frame n) p payload out = plain p payload ++ drop n out
-left_by (Refused refusal) p payload out = out
+left_by (Ok n) p payload out = plain p payload ++ drop n out
+left_by (Err refusal) p payload out = out
 
 unfoldable pub out_after : Parts → List ℕ → List ℕ → List ℕ
 out_after p payload out = left_by (written p payload out) p payload out
 
 -- the answer's number in document 01
 abbrev pub number_of_written : Written → ℕ
-number_of_written (Frame n) = 0
-number_of_written (Refused refusal) = number_of refusal
+number_of_written (Ok n) = 0
+number_of_written (Err refusal) = number_of refusal
 
 -- the parts that a frame's header has, and the header that a written frame has
 abbrev pub parts_of : F.Frame → Parts
@@ -96,7 +94,7 @@ header_of p payload =
     record {
       message_type = p.message_type;
       payload_length = length payload;
-      seal = Plain;
+      seal = None;
       check_type = p.check_type;
       subtype = p.subtype;
       tag_kind = p.tag_kind;

@@ -22,11 +22,7 @@ pub struct Sealing {
 }
 
 // TF004: 0 is plain, 1 is sealed.
-#[derive(Clone, Copy)]
-pub enum Seal {
-    Plain,
-    Sealed(Sealing),
-}
+pub type Seal = Option<Sealing>;
 
 // The header of an accepted frame, where its payload starts and how many bytes the whole frame has.
 #[derive(Clone, Copy)]
@@ -207,10 +203,10 @@ fn seal_of(bytes: &[u8]) -> Seal
     ensures { result ≡ seal_of bytes.now }
 {
     if sealed(bytes) == 0 {
-        return Seal::Plain;
+        return None;
     }
     let tag_bits = 16 + 16 * tag_kind(bytes);
-    Seal::Sealed(Sealing {
+    Some(Sealing {
         id: small_at(bytes, 48 + tag_bits, 4),
         sequence: small_at(bytes, 52 + tag_bits, 6),
         authentication: small_at(bytes, 58 + tag_bits, 3),
@@ -368,11 +364,7 @@ pub struct Parts {
 }
 
 // A frame of so many bytes was written, or nothing was.
-#[derive(Clone, Copy)]
-pub enum Written {
-    Frame(usize),
-    Refused(Refusal),
-}
+pub type Written = Result<usize, Refusal>;
 
 fn code_of(x: u8) -> u64
     ensures { (result ≡ x) × (result < 256) }
@@ -508,22 +500,22 @@ pub fn write(parts: Parts, payload: &[u8], out: &mut [u8]) -> Written
     ensures out_after { out.new ≡ out_after parts payload.now out.old }
 {
     if out.len() < sizes::LONGEST_FRAME {
-        return Written::Refused(Refusal::Room);
+        return Err(Refusal::Room);
     }
     if !in_range(parts) {
-        return Written::Refused(Refusal::Field);
+        return Err(Refusal::Field);
     }
     let size = payload.len();
     if size == 0 {
-        return Written::Refused(Refusal::Length);
+        return Err(Refusal::Length);
     }
     if sizes::LONGEST_PAYLOAD < size {
-        return Written::Refused(Refusal::Length);
+        return Err(Refusal::Length);
     }
     put_start(parts, size, out);
     let at = put_description(parts, out);
     let end = put_payload(payload, out, at);
-    Written::Frame(put_check(parts.check_type, out, end))
+    Ok(put_check(parts.check_type, out, end))
 }
 
 // The writer's answer as a number of document 01.
@@ -531,7 +523,7 @@ pub fn number_written(answer: Written) -> u8
     ensures { result ≡ number_of_written answer }
 {
     match answer {
-        Written::Frame(_) => 0,
-        Written::Refused(refusal) => answer::number(refusal),
+        Ok(_) => 0,
+        Err(refusal) => answer::number(refusal),
     }
 }

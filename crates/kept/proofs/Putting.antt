@@ -1,4 +1,5 @@
 -- One lemma for each turn and each answer of the functions that write, in plain variables, premises worded as the code makes them. Assumes nothing.
+use Rattle.std.specs.Prelude.{Ok, Err}
 use mathlib.Core.Path.{◌≡◌, refl, ap, ap₂, sym, ◌∙◌, subst}
 use mathlib.Core.Bool.{Bool, true, false, not}
 use mathlib.Core.List.{List, [], ◌∷◌, ◌++◌, append_assoc, append-nil}
@@ -24,7 +25,6 @@ use Rattle.groups.proofs.Behind.{room-behind, lay-behind, lay-on, lay-to}
 use Rattle.groups.specs.Laws.{groups-all-append, length-le, length_last, put_some, left-some}
 use Rattle.kept.specs.Walk.{issue_bytes, head_bytes}
 use Rattle.kept.specs.Kept.{newest_form, numbers_in, kept_bytes, written, out_after}
-use Rattle.kept.specs.declared.Written.TheVariants.{Bytes, Refused}
 
 -- a number put behind at bytes
 module _ (x at : ℕ) (out : List ℕ) (h : at + length (groups_of x) ≤ length out) where
@@ -125,7 +125,7 @@ module _ (book : Book) (s out : List ℕ) where
     no-book : ltb (length s) book_bytes ≡ true
     no-book = lt-ltb _ _ h
 
-    pub write-no-book : Refused Room ≡ written book s out
+    pub write-no-book : Err Room ≡ written book s out
     unfolding written
     write-no-book = rw no-book
 
@@ -141,7 +141,7 @@ module _ (book : Book) (s out : List ℕ) where
       no_room : ltb (length out) kept_room ≡ true
       no_room = lt-ltb _ _ k
 
-      pub write-no-room : Refused Room ≡ written book s out
+      pub write-no-room : Err Room ≡ written book s out
       unfolding written
       write-no-room = rw (has-book, no_room)
 
@@ -157,7 +157,7 @@ module _ (book : Book) (s out : List ℕ) where
         unsound : sound book s ≡ false
         unsound = sym eb ∙ not-true b l
 
-        pub write-state : Refused State ≡ written book s out
+        pub write-state : Err State ≡ written book s out
         unfolding written
         write-state = rw (has-book, has_room, unsound)
 
@@ -179,9 +179,9 @@ module _ (book : Book) (s out : List ℕ) where
               q₄ ∙ ap (λ k. k + length (groups_of_all (areas_in book.count s))) q₃
               ∙ sym (length-append (head_bytes book) (groups_of_all (areas_in book.count s))) ∙ ap length kept-is
 
-          pub write-book : Bytes e₄ ≡ written book s out
+          pub write-book : Ok e₄ ≡ written book s out
           unfolding written
-          write-book = rw (has-book, has_room, is-sound) (ap Bytes kept-ends)
+          write-book = rw (has-book, has_room, is-sound) (ap Ok kept-ends)
 
           pub left-book : (o₃ o₄ : List ℕ) → o₃ ≡ head_bytes book ++ drop e₃ out
               → o₄ ≡ take e₃ o₃ ++ (groups_of_all (areas_in book.count s) ++ drop e₄ o₃) → o₄ ≡ out_after book s out

@@ -1,4 +1,5 @@
 -- One lemma for each turn and each answer of the functions that read, in plain variables, premises worded as the code makes them. Assumes nothing.
+use Rattle.std.specs.Prelude.{Ok, Err}
 use mathlib.Core.Path.{◌≡◌, refl, ap, ap₂, sym, ◌∙◌, subst}
 use mathlib.Core.Bool.{Bool, true, false, not}
 use mathlib.Core.List.{List, [], ◌∷◌, ◌++◌, append_assoc, append-nil}
@@ -19,18 +20,14 @@ use Rattle.book.proofs.Taking.{put-image}
 use Rattle.book.specs.declared.Book.{Book}
 use Rattle.groups.specs.Groups.{next_of}
 use Rattle.groups.specs.Rows.{next_le}
-use Rattle.groups.specs.declared.Next.{Next}
-use Rattle.groups.specs.declared.Next.TheVariants as next
+use Rattle.groups.specs.Results.{Next}
 use Rattle.kept.specs.Kept.{newest_form, is_form, head_in, Said, said, refused, number, whole, not-kept, answer_of, left_by, read_kept, fits, with_area, read_areas, read_count, read_siou, read_aiou, read_head}
 use Rattle.kept.specs.RoundTrip.{past-none}
 use Rattle.kept.specs.ReadLaws.{head-sound}
 use Rattle.kept.specs.Walk.{HeadIs, Areas, EndIs, stored_by, is_said, step-on, step-off, step-form, step_past}
-use Rattle.kept.specs.declared.Head.{Head}
-use Rattle.kept.specs.declared.Head.TheVariants as head
-use Rattle.kept.specs.declared.Ended.{Ended}
-use Rattle.kept.specs.declared.Ended.TheVariants as ended
-use Rattle.kept.specs.declared.ReadKept.{ReadKept}
-use Rattle.kept.specs.declared.ReadKept.TheVariants as answering
+use Rattle.kept.specs.Results.{Head}
+use Rattle.kept.specs.Results.{Ended}
+use Rattle.kept.specs.Results.{ReadKept}
 
 -- ---- the forms
 
@@ -61,19 +58,19 @@ module _ (f : ℕ) where
 -- ---- the head
 
 module _ (s : List ℕ) (at : ℕ) (h : at ≤ length s) (v : Next) (e : v ≡ next_of s at) (f : ℕ) where
-  pub count-refused : (aiou siou : ℕ) (r : Refusal) → v ≡ next.Refused r → read_count f aiou siou (drop at s) ≡ refused r
+  pub count-refused : (aiou siou : ℕ) (r : Refusal) → v ≡ Err r → read_count f aiou siou (drop at s) ≡ refused r
   unfolding read_count
   count-refused aiou siou r q = step-off s at v e _ r q
 
-  pub siou-refused : (aiou : ℕ) → 2 ≤ f → (r : Refusal) → v ≡ next.Refused r → read_siou f aiou (drop at s) ≡ refused r
+  pub siou-refused : (aiou : ℕ) → 2 ≤ f → (r : Refusal) → v ≡ Err r → read_siou f aiou (drop at s) ≡ refused r
   unfolding read_siou
   siou-refused aiou k r q = let z : leb 2 f ≡ true = le-leb 2 f k in rw z (step-off s at v e _ r q)
 
-  pub aiou-refused : (r : Refusal) → v ≡ next.Refused r → read_aiou f (drop at s) ≡ refused r
+  pub aiou-refused : (r : Refusal) → v ≡ Err r → read_aiou f (drop at s) ≡ refused r
   unfolding read_aiou
   aiou-refused r q = step-off s at v e _ r q
 
-  module _ (x end : ℕ) (q : v ≡ next.Number x end) where
+  module _ (x end : ℕ) (q : v ≡ Ok (x, end)) where
     module _ (aiou siou : ℕ) (book : Book) (eo : book ≡ book_of aiou siou x) (b : Bool) (eb : b ≡ head_in f book) where
       is-in : not (head_in f (book_of aiou siou x)) ≡ not b
       is-in = ap not (sym (eb ∙ ap (head_in f) eo))
@@ -117,7 +114,7 @@ module _ (s : List ℕ) (at : ℕ) (h : at ≤ length s) (v : Next) (e : v ≡ n
         subst (λ o. HeadIs s o r) (ap (λ d. read_siou f d (drop end s)) ed ∙ sym (step_past s at v e (ltb 16) (read_siou f) x end q (le-ltb 16 x k)))
 
 -- a number that was read ends inside
-pub end-there : (s : List ℕ) (at : ℕ) → at ≤ length s → (v : Next) → v ≡ next_of s at → (x end : ℕ) → v ≡ next.Number x end → end ≤ length s
+pub end-there : (s : List ℕ) (at : ℕ) → at ≤ length s → (v : Next) → v ≡ next_of s at → (x end : ℕ) → v ≡ Ok (x, end) → end ≤ length s
 end-there s at h v e x end q = next_le s at v h e x end q
 
 -- form 1 says no SIOU: it is unknown
@@ -127,11 +124,11 @@ siou-unsaid s at f aiou h r =
     subst (λ o. HeadIs s o r) (sym (past-none f aiou (drop at s) z))
 
 module _ (s : List ℕ) (v : Next) (e : v ≡ next_of s 0) where
-  pub head-refused : (r : Refusal) → v ≡ next.Refused r → read_head s ≡ refused r
+  pub head-refused : (r : Refusal) → v ≡ Err r → read_head s ≡ refused r
   unfolding read_head
   head-refused r q = step-off s 0 v e _ r q
 
-  module _ (x end : ℕ) (q : v ≡ next.Number x end) (b : Bool) (eb : b ≡ is_form x) where
+  module _ (x end : ℕ) (q : v ≡ Ok (x, end)) (b : Bool) (eb : b ≡ is_form x) where
     pub head-other : not b ≡ true → read_head s ≡ refused Form
     unfolding read_head
     head-other k = step-form s 0 v e (λ f. not (is_form f)) read_aiou x end q (ap not (sym eb) ∙ k)
@@ -192,10 +189,10 @@ module _ (s : List ℕ) (n at i least end : ℕ) (p : Walking s n at i least end
       ap (λ k. read_areas k least (drop end s)) {x = n - i} {y = suc (n - (i + 1))} (omega arith)
       ∙ ap (λ m. number (drop end s) (λ a rest. stop (not (fits m least a)) (refused Form) (with_area a (read_areas (n - (i + 1)) (suc (sf031 a)) rest)))) (sym m)
 
-  pub walk_refused : (r : Refusal) → v ≡ next.Refused r → read_areas n 0 (drop at s) ≡ refused r
+  pub walk_refused : (r : Refusal) → v ≡ Err r → read_areas n 0 (drop at s) ≡ refused r
   walk_refused r q = p.off r (first ∙ step-off s end v e _ r q)
 
-  module _ (x to : ℕ) (q : v ≡ next.Number x to) (b : Bool) (eb : b ≡ fits (n - i - 1) least x) where
+  module _ (x to : ℕ) (q : v ≡ Ok (x, to)) (b : Bool) (eb : b ≡ fits (n - i - 1) least x) where
     abbrev further : ℕ → List ℕ → Said (List ℕ)
     further a rest = with_area a (read_areas (n - (i + 1)) (suc (sf031 a)) rest)
 
@@ -281,10 +278,10 @@ module _ (s bytes₀ : List ℕ) (n at i end : ℕ) (bytes : List ℕ) (fits₀ 
     unfolding read_areas
     opened = ap (λ k. read_areas k p.least (drop end s)) {x = suc (n - (i + 1))} {y = n - i} (omega arith) ∙ p.reads
 
-    pub store-never : (r : Refusal) → v ≡ next.Refused r → ⊥
+    pub store-never : (r : Refusal) → v ≡ Err r → ⊥
     store-never r q = let z : refused r ≡ said p.left p.all.rest = sym (step-off s end v e _ r q) ∙ opened in let w : ◌≡◌ {A = ℕ} 0 1 = cc in omega arith
 
-    pub store-turn : (x to : ℕ) → v ≡ next.Number x to → (z : List ℕ) → z ≡ put_at bytes (6 * i) x → Storing s bytes₀ n at (i + 1) to z
+    pub store-turn : (x to : ℕ) → v ≡ Ok (x, to) → (z : List ℕ) → z ≡ put_at bytes (6 * i) x → Storing s bytes₀ n at (i + 1) to z
     store-turn x to q z ez =
         go (not (fits (n - (i + 1)) p.least x)) (read_areas (n - (i + 1)) (suc (sf031 x)) (drop to s)) refl
         (sym (step-on s end v e (λ a rest. stop (not (fits (n - (i + 1)) p.least a)) (refused Form) (with_area a (read_areas (n - (i + 1)) (suc (sf031 a)) rest))) x to q) ∙ opened)
@@ -312,17 +309,17 @@ module _ (s bytes₀ : List ℕ) (n at i end : ℕ) (bytes : List ℕ) (fits₀ 
 -- ---- the whole book
 
 module _ (s : List ℕ) (book : Book) (at : ℕ) (v : Ended) (p : EndIs s (read_areas book.count 0 (drop at s)) v) where
-  module _ (r : Refusal) (q : v ≡ ended.Refused r) where
+  module _ (r : Refusal) (q : v ≡ Err r) where
     areas-off : whole book (read_areas book.count 0 (drop at s)) ≡ not-kept r
     areas-off = ap (whole book) (subst (λ v. EndIs s (read_areas book.count 0 (drop at s)) v) q p)
 
-    pub areas-refused : answering.Refused r ≡ answer_of (whole book (read_areas book.count 0 (drop at s)))
+    pub areas-refused : Err r ≡ answer_of (whole book (read_areas book.count 0 (drop at s)))
     areas-refused = ap answer_of (sym areas-off)
 
     pub left-refused : (bytes : List ℕ) → bytes ≡ left_by (whole book (read_areas book.count 0 (drop at s))) bytes
     left-refused bytes = ap (λ o. left_by o bytes) (sym areas-off)
 
-  module _ (end : ℕ) (q : v ≡ ended.At end) where
+  module _ (end : ℕ) (q : v ≡ Ok end) where
     areas-end : Areas s (read_areas book.count 0 (drop at s)) end
     areas-end = subst (λ v. EndIs s (read_areas book.count 0 (drop at s)) v) q p
 
@@ -333,7 +330,7 @@ module _ (s : List ℕ) (book : Book) (at : ℕ) (v : Ended) (p : EndIs s (read_
       areas-over : whole book (read_areas book.count 0 (drop at s)) ≡ not-kept Leftover
       areas-over = ap (whole book) (areas-end.is ∙ ap (said areas-end.list) (drop-cons s end 0 h))
 
-      pub areas-left : answering.Refused Leftover ≡ answer_of (whole book (read_areas book.count 0 (drop at s)))
+      pub areas-left : Err Leftover ≡ answer_of (whole book (read_areas book.count 0 (drop at s)))
       areas-left = ap answer_of (sym areas-over)
 
       pub left_over : (bytes : List ℕ) → bytes ≡ left_by (whole book (read_areas book.count 0 (drop at s))) bytes
@@ -343,7 +340,7 @@ module _ (s : List ℕ) (book : Book) (at : ℕ) (v : Ended) (p : EndIs s (read_
       areas-all : read_areas book.count 0 (drop at s) ≡ said areas-end.list []
       areas-all = areas-end.is ∙ ap (said areas-end.list) (drop_of_length-le s {i = end} h)
 
-      pub areas-whole : answering.Holds book ≡ answer_of (whole book (read_areas book.count 0 (drop at s)))
+      pub areas-whole : Ok book ≡ answer_of (whole book (read_areas book.count 0 (drop at s)))
       areas-whole = ap (λ o. answer_of (whole book o)) (sym areas-all)
 
       pub left-whole : (bytes z : List ℕ) → z ≡ stored_by (read_areas book.count 0 (drop at s)) bytes
@@ -355,7 +352,7 @@ module _ (s bytes : List ℕ) where
     no_room : ltb (length bytes) book_bytes ≡ true
     no_room = lt-ltb _ _ h
 
-    pub kept-room : answering.Refused Room ≡ answer_of (read_kept s bytes)
+    pub kept-room : Err Room ≡ answer_of (read_kept s bytes)
     unfolding read_kept
     kept-room = rw no_room
 
@@ -367,11 +364,11 @@ module _ (s bytes : List ℕ) where
     has_room : ltb (length bytes) book_bytes ≡ false
     has_room = le-ltb _ _ h
 
-    module _ (r : Refusal) (q : v ≡ head.Refused r) where
+    module _ (r : Refusal) (q : v ≡ Err r) where
       head-off : read_head s ≡ refused r
       head-off = subst (λ v. HeadIs s (read_head s) v) q p
 
-      pub kept-refused : answering.Refused r ≡ answer_of (read_kept s bytes)
+      pub kept-refused : Err r ≡ answer_of (read_kept s bytes)
       unfolding read_kept
       kept-refused = rw (has_room, head-off)
 
@@ -379,7 +376,7 @@ module _ (s bytes : List ℕ) where
       unfolding read_kept
       left-head = rw (has_room, head-off)
 
-    module _ (book : Book) (at : ℕ) (q : v ≡ head.Is book at) where
+    module _ (book : Book) (at : ℕ) (q : v ≡ Ok (book, at)) where
       head-is : read_head s ≡ said book (drop at s)
       head-is = (subst (λ v. HeadIs s (read_head s) v) q p).0
 
@@ -391,7 +388,7 @@ module _ (s bytes : List ℕ) where
       unfolding read_kept
       left-on z ez = rw (has_room, head-is) ez
 
-module _ (s : List ℕ) (v : Head) (p : HeadIs s (read_head s) v) (book : Book) (at : ℕ) (q : v ≡ head.Is book at) where
+module _ (s : List ℕ) (v : Head) (p : HeadIs s (read_head s) v) (book : Book) (at : ℕ) (q : v ≡ Ok (book, at)) where
   pub kept_at : at ≤ length s
   kept_at = (subst (λ v. HeadIs s (read_head s) v) q p).1
 

@@ -3,8 +3,8 @@
 use Rattle.std.specs.Prelude.{ℕ, List, ◌≡◌}
 use Rattle.book.specs.declared.Book.{Book}
 use Rattle.kept.specs.Kept.{answer_of, left_by, number_of_read, number_of_written, out_after, read_kept, written}
-use Rattle.kept.specs.declared.ReadKept.{ReadKept}
-use Rattle.kept.specs.declared.Written.{Written}
+use Rattle.kept.specs.Results.{ReadKept}
+use Rattle.kept.specs.Results.{Written}
 use Rattle.std.proofs.Common.{◌∙◌, sym}
 
 pub write-kept-determined : (book : Book) (bytes out : List ℕ) (r₁ r₂ : Written) (out₁ out₂ : List ℕ)

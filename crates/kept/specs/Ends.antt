@@ -1,11 +1,10 @@
 -- Definitions to believe: bytes that are a kept book, that go on after its end, that end before it does, that break its form (document 01, "Log and kept book"; document 02, request 5).
-use Rattle.std.specs.Prelude.{◌≡◌, true, List, [], ◌∷◌, ◌++◌, ℕ}
+use Rattle.std.specs.Prelude.{◌≡◌, true, List, [], ◌∷◌, ◌++◌, ℕ, Ok, Err}
 use Rattle.answer.specs.declared.Refusal.TheVariants.{Form}
 use Rattle.bits.specs.Bits.{Bytes}
 use Rattle.book.specs.Book.{areas_in, sound}
 use Rattle.book.specs.declared.Book.{Book}
 use Rattle.groups.specs.Groups.{groups_of, groups_of_all, size, read_groups}
-use Rattle.groups.specs.declared.Read.TheVariants as reading
 use Rattle.kept.specs.Kept.{is_form, head_in, numbers_in, kept_in}
 
 -- Bytes of a form: they begin with its number.
@@ -73,8 +72,8 @@ pub record CanFollow (numbers : List ℕ) : Type 0 where
 
 -- The first number of the rest is one of those (as `read_groups` has it, "not in shortest form" takes in a number beyond 64 bits).
 pub data Breaks (numbers rest : List ℕ) : Type 0 where
-  ill-formed : read_groups rest ≡ reading.Refused Form → Breaks numbers rest
-  no-book : (x n : ℕ) → read_groups rest ≡ reading.Number x n → (CanFollow (numbers ++ (x ∷ [])) → ⊥) → Breaks numbers rest
+  ill-formed : read_groups rest ≡ Err Form → Breaks numbers rest
+  no-book : (x n : ℕ) → read_groups rest ≡ Ok (x, n) → (CanFollow (numbers ++ (x ∷ [])) → ⊥) → Breaks numbers rest
 
 -- Some bytes begin well, and then comes such a number.
 pub record BreaksForm (s : List ℕ) : Type 0 where

@@ -1,5 +1,5 @@
 -- Definitions to believe: the kept book (document 01, "Log and kept book"; document 02, request 5, "One solution update per book").
-use Rattle.std.specs.Prelude.{Bool, cond, not, ◌&&◌, ◌||◌, List, [], ◌∷◌, ◌++◌, ℕ, zero, suc, ◌+◌, ◌*◌, leb, ltb, eqb, length, drop}
+use Rattle.std.specs.Prelude.{Bool, cond, not, ◌&&◌, ◌||◌, List, [], ◌∷◌, ◌++◌, ℕ, zero, suc, ◌+◌, ◌*◌, leb, ltb, eqb, length, drop, Ok, Err}
 use Rattle.answer.specs.Number.{number_of}
 use Rattle.answer.specs.Stop.{stop}
 use Rattle.answer.specs.declared.Refusal.{Refusal}
@@ -9,12 +9,9 @@ use Rattle.sizes.specs.Sizes.{book_bytes, kept_room}
 use Rattle.book.specs.Book.{book_of, areas_in, bytes_of_all, siou_sound, head_sound, sound}
 use Rattle.book.specs.declared.Book.{Book}
 use Rattle.groups.specs.Groups.{groups_of_all, read_groups}
-use Rattle.groups.specs.declared.Read.{Read}
-use Rattle.groups.specs.declared.Read.TheVariants as reading
-use Rattle.kept.specs.declared.Written.{Written}
-use Rattle.kept.specs.declared.Written.TheVariants as writing
-use Rattle.kept.specs.declared.ReadKept.{ReadKept}
-use Rattle.kept.specs.declared.ReadKept.TheVariants as answering
+use Rattle.groups.specs.Results.{Read}
+use Rattle.kept.specs.Results.{Written}
+use Rattle.kept.specs.Results.{ReadKept}
 
 -- ---- the forms of a kept book, by their numbers
 
@@ -51,9 +48,9 @@ lacks_room s out = ltb (length s) book_bytes || ltb (length out) kept_room
 
 unfoldable pub written : Book → List ℕ → List ℕ → Written
 written book s out =
-    stop (lacks_room s out) (writing.Refused Room)
-    (stop (not (sound book s)) (writing.Refused State)
-    (writing.Bytes (length (kept_bytes book s))))
+    stop (lacks_room s out) (Err Room)
+    (stop (not (sound book s)) (Err State)
+    (Ok (length (kept_bytes book s))))
 
 unfoldable pub out_after : Book → List ℕ → List ℕ → List ℕ
 out_after book s out =
@@ -62,8 +59,8 @@ out_after book s out =
     (kept_bytes book s ++ drop (length (kept_bytes book s)) out))
 
 abbrev pub number_of_written : Written → ℕ
-number_of_written (writing.Bytes bytes) = 0
-number_of_written (writing.Refused refusal) = number_of refusal
+number_of_written (Ok bytes) = 0
+number_of_written (Err refusal) = number_of refusal
 
 -- ---- reading
 
@@ -74,8 +71,8 @@ pub data Said (A : Type 0) : Type 0 where
 
 -- the first number, and what is to be read behind it: "SHORT or FORM (a number not in shortest form, ..)"
 abbrev pub behind : {A : Type 0} → Read → List ℕ → (ℕ → List ℕ → Said A) → Said A
-behind (reading.Number x n) s next = next x (drop n s)
-behind (reading.Refused r) s next = refused r
+behind (Ok (x, n)) s next = next x (drop n s)
+behind (Err r) s next = refused r
 
 abbrev pub number : {A : Type 0} → List ℕ → (ℕ → List ℕ → Said A) → Said A
 number s next = behind (read_groups s) s next
@@ -130,13 +127,13 @@ read_kept s bytes = stop (ltb (length bytes) book_bytes) (not-kept Room) (behind
 
 -- what `read_kept` answers, and what it leaves of the lent bytes: six bytes an area
 abbrev pub answer_of : Outcome → ReadKept
-answer_of (kept book l) = answering.Holds book
-answer_of (not-kept r) = answering.Refused r
+answer_of (kept book l) = Ok book
+answer_of (not-kept r) = Err r
 
 abbrev pub left_by : Outcome → List ℕ → List ℕ
 left_by (kept book l) bytes = bytes_of_all l ++ drop (6 * length l) bytes
 left_by (not-kept r) bytes = bytes
 
 abbrev pub number_of_read : ReadKept → ℕ
-number_of_read (answering.Holds book) = 0
-number_of_read (answering.Refused refusal) = number_of refusal
+number_of_read (Ok book) = 0
+number_of_read (Err refusal) = number_of refusal

@@ -1,3 +1,4 @@
+pub mod Results
 pub mod Kept
 pub mod Ends
 pub mod Walk

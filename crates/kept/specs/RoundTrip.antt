@@ -1,6 +1,6 @@
 -- The two round trips of the kept book, over the form's number: what a form says of a book reads back as that book (`written-reads`), and bytes that read are what the form whose number
 -- they begin with says of the book (`read-writes`). Proved; assumes nothing.
-use Rattle.std.specs.Prelude.{◌≡◌, Bool, true, false, not, ◌||◌, List, [], ◌∷◌, ◌++◌, ℕ, zero, suc, ◌^◌, ◌≤◌, ◌<◌, leb, ltb, length, drop}
+use Rattle.std.specs.Prelude.{◌≡◌, Bool, true, false, not, ◌||◌, List, [], ◌∷◌, ◌++◌, ℕ, zero, suc, ◌^◌, ◌≤◌, ◌<◌, leb, ltb, length, drop, Ok, Err}
 use Rattle.std.proofs.Math.Path.{refl, ap}
 use Rattle.std.proofs.Common.{ap₂, sym, ◌∙◌, subst, append_assoc, append-nil, arith, leb-true, le-ltb, lt-ltb, ltb-true, ltb-false, eqb-true}
 use Rattle.std.proofs.Math.Bool.{cond}
@@ -20,8 +20,7 @@ use Rattle.book.specs.declared.Book.{Book}
 use Rattle.groups.specs.Groups.{groups_of, groups_of_all, read_groups}
 use Rattle.groups.specs.Laws.{read-written, written_read}
 use Rattle.groups.specs.Rows.{all_more}
-use Rattle.groups.specs.declared.Read.{Read}
-use Rattle.groups.specs.declared.Read.TheVariants as reading
+use Rattle.groups.specs.Results.{Read}
 use Rattle.kept.specs.Kept.{newest_form, is_form, has_siou, head_in, numbers_in, kept_in, Said, said, refused, behind, number, fits, with_area, read_areas, read_count, read_siou, read_aiou, read_head, Outcome, kept, not-kept, whole, behind_head, read_kept}
 use Rattle.kept.specs.AreaRows.{Row, fits-small, row-none, row_more, row_fits, row-tail, sound-row}
 
@@ -179,10 +178,10 @@ first : {A : Type 0} (s : List ℕ) (test : ℕ → Bool) (k : ℕ → List ℕ 
 first {A} s test k v rest = go (read_groups s) refl
   where
     go : (r : Read) → read_groups s ≡ r → behind r s (λ x t. stop (test x) (refused Form) (k x t)) ≡ said v rest → First s test k v rest
-    go (reading.Number x n) p e =
+    go (Ok (x, n)) p e =
         let w = passed (test x) (k x (drop n s)) v rest e in
         record { x = x; behind-it = drop n s; passes = w.0; reads = w.1; bytes = λ b. bytes_drop n b; is = λ b. written_read s x n b p }
-    go (reading.Refused r) p e = let w : ◌≡◌ {A = ℕ} 0 1 = cc in absurd (omega arith)
+    go (Err r) p e = let w : ◌≡◌ {A = ℕ} 0 1 = cc in absurd (omega arith)
 
 -- areas were read: they are so many, ascending, and the bytes begin with them
 pub record AreasWere (n least : ℕ) (s l rest : List ℕ) : Type 0 where

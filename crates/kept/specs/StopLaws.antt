@@ -1,7 +1,7 @@
 -- Laws: where reading a kept book stops, with SHORT at a number that does not end and with FORM at one that breaks the form; and that there is no other refusal but LEFTOVER. Proved; assumes nothing.
 use Rattle.std.proofs.Math.Path.{◌≡◌, refl, ap, subst}
 use Rattle.std.proofs.Common.{ap₂, sym, ◌∙◌, inl, inr, arith}
-use Rattle.std.specs.Prelude.{◌⊎◌, Bool, ◌||◌, ltb, length, drop}
+use Rattle.std.specs.Prelude.{◌⊎◌, Bool, ◌||◌, ltb, length, drop, Ok, Err}
 use Rattle.std.proofs.Math.Bool.{true, false, cond, not}
 use Rattle.std.proofs.lemmas.Bool.{false≢true}
 use mathlib.Core.List.{List, [], ◌∷◌, ◌++◌, append_assoc, append-nil}
@@ -22,8 +22,7 @@ use Rattle.book.specs.declared.Book.{Book}
 use Rattle.groups.specs.Groups.{groups_of, groups_of_all, size, read_groups}
 use Rattle.groups.specs.Laws.{written_read, groups-all-append}
 use Rattle.groups.specs.Rows.{unended-short, short-unended, read-refusals}
-use Rattle.groups.specs.declared.Read.{Read}
-use Rattle.groups.specs.declared.Read.TheVariants as reading
+use Rattle.groups.specs.Results.{Read}
 use Rattle.kept.specs.Kept.{is_form, has_siou, head_in, numbers_in, kept_in, Said, said, refused, behind, number, fits, with_area, read_areas, read_count, read_siou, read_aiou, read_head, Outcome, kept, not-kept, whole, behind_head}
 use Rattle.kept.specs.AreaRows.{Row, row_more, row_fits, row-tail, sound-row, following, following-row, fits-parts}
 use Rattle.kept.specs.RoundTrip.{Says, in-sound, in-siou, unsaid, area-past, past-form, past-aiou, past-siou, past-none, past-count, areas-were, HeadWas, head-was}
@@ -34,8 +33,8 @@ use Rattle.kept.specs.EndsLaws.{head_of, numbers-head, numbers_more, numbers-sam
 
 -- at a number that is refused, or, with FORM, at one after which no sound book can follow
 pub data Stopped (numbers rest : List ℕ) (r : Refusal) : Type 0 where
-  ill-formed : read_groups rest ≡ reading.Refused r → Stopped numbers rest r
-  no-book : r ≡ Form → (x n : ℕ) → read_groups rest ≡ reading.Number x n → (CanFollow (numbers ++ (x ∷ [])) → ⊥) → Stopped numbers rest r
+  ill-formed : read_groups rest ≡ Err r → Stopped numbers rest r
+  no-book : r ≡ Form → (x n : ℕ) → read_groups rest ≡ Ok (x, n) → (CanFollow (numbers ++ (x ∷ [])) → ⊥) → Stopped numbers rest r
 
 -- some bytes begin well, and then comes such a number
 pub record Stops (s : List ℕ) (r : Refusal) : Type 0 where
@@ -150,17 +149,17 @@ module _ (s : List ℕ) (r : Refusal) where
           is ∙ ap (λ u. groups_of_all numbers ++ u) (e ∙ ap (λ g. g ++ t) (sym (append-nil (groups_of x))))
           ∙ sym (append_assoc (groups_of_all numbers) (groups_of x ++ []) t) ∙ ap (λ l. l ++ t) (sym (groups-all-append numbers (x ∷ [])))
 
-      tested : (x n : ℕ) → read_groups u ≡ reading.Number x n → (z : Bool) → test x ≡ z → stop z (refused Form) (k x (drop n u)) ≡ refused r → Stops s r
+      tested : (x n : ℕ) → read_groups u ≡ Ok (x, n) → (z : Bool) → test x ≡ z → stop z (refused Form) (k x (drop n u)) ≡ refused r → Stops s r
       tested x n p true z e =
           let er : r ≡ Form = cc in
           here (Stopped.no-book er x n p (λ c. false≢true (sym (passes x c) ∙ z)))
       tested x n p false z e = on x (drop n u) z (more x (drop n u) (written_read u x n b p)) (bytes_drop n b) e
 
       go : (v : Read) → read_groups u ≡ v → behind v u (λ x t. stop (test x) (refused Form) (k x t)) ≡ refused r → Stops s r
-      go (reading.Number x n) p e = tested x n p (test x) refl e
-      go (reading.Refused w) p e =
+      go (Ok (x, n)) p e = tested x n p (test x) refl e
+      go (Err w) p e =
           let q : w ≡ r = cc in
-          here (Stopped.ill-formed (p ∙ ap reading.Refused q))
+          here (Stopped.ill-formed (p ∙ ap Err q))
 
   -- the areas, behind those before them
   areas-stop : (f : ℕ) (book : Book) (says : Says f book) (n least : ℕ) (before u : List ℕ) → least + n ≤ 256 → s ≡ groups_of_all (numbers_in f book before) ++ u → Bytes u

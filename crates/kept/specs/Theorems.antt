@@ -6,7 +6,7 @@
 -- form reads as the same book (`no_second`).
 -- Reading is SHORT exactly when, with room lent, the finished numbers properly begin a kept book of a sound book (`short-only`, `short-if`); it reads, is LEFTOVER, is FORM exactly when
 -- Ends.antt says so (`holds-`, `leftover-`, `form-`). Proved; assumes nothing.
-use Rattle.std.specs.Prelude.{◌≡◌, refl, ◌⊎◌, Bool, true, false, not, ◌&&◌, ◌||◌, ltb, length, take, drop}
+use Rattle.std.specs.Prelude.{◌≡◌, refl, ◌⊎◌, Bool, true, false, not, ◌&&◌, ◌||◌, ltb, length, take, drop, Ok, Err}
 use Rattle.std.proofs.Math.Path.{ap, ap₂, sym}
 use Rattle.std.proofs.Common.{◌∙◌, subst, inl, inr, ⊎_elim, arith, take_at, le-ltb, eq-eqb}
 use mathlib.Core.List.{List, [], ◌∷◌, ◌++◌}
@@ -29,8 +29,6 @@ use Rattle.kept.specs.RoundTrip.{in-sound, in-siou, unsaid, form-says, no_room, 
 use Rattle.kept.specs.ReadLaws.{IsKept, kept-sound, kept-areas, left-length}
 use Rattle.kept.specs.EndsLaws.{bytes-areas, book-reads, over-leftover}
 use Rattle.kept.specs.StopLaws.{Stops, stops-early, early-stops, stops-breaks, breaks-stops, Fault, stops-fault, stops-only, stops-if, Ending, ending}
-use Rattle.kept.specs.declared.Written.TheVariants as writing
-use Rattle.kept.specs.declared.ReadKept.TheVariants as answering
 
 -- ---- what reads
 
@@ -41,10 +39,10 @@ record Was (s bytes : List ℕ) (book : Book) : Type 0 where
   from : ReadWas s bytes book areas
   good : IsKept book areas
 
-was : (s bytes : List ℕ) (book : Book) → answer_of (read_kept s bytes) ≡ answering.Holds book → Was s bytes book
+was : (s bytes : List ℕ) (book : Book) → answer_of (read_kept s bytes) ≡ Ok book → Was s bytes book
 was s bytes book = go (read_kept s bytes) refl
   where
-    go : (o : Outcome) → read_kept s bytes ≡ o → answer_of o ≡ answering.Holds book → Was s bytes book
+    go : (o : Outcome) → read_kept s bytes ≡ o → answer_of o ≡ Ok book → Was s bytes book
     go (kept b l) p q =
         let e : b ≡ book = cc in
         let is : read_kept s bytes ≡ kept book l = p ∙ ap (λ b. kept b l) e in
@@ -52,7 +50,7 @@ was s bytes book = go (read_kept s bytes) refl
         record { areas = l; is = is; from = w; good = record { head = in-sound w.number book w.says.in-form; row = w.row } }
     go (not-kept r) p q = let w : ◌≡◌ {A = ℕ} 0 1 = cc in absurd (omega arith)
 
-module _ (s bytes : List ℕ) (book : Book) (e : answer_of (read_kept s bytes) ≡ answering.Holds book) where
+module _ (s bytes : List ℕ) (book : Book) (e : answer_of (read_kept s bytes) ≡ Ok book) where
   abbrev read : Was s bytes book
   read = was s bytes book e
 
@@ -89,7 +87,7 @@ pub record OfSomeForm (s : List ℕ) : Type 0 where
   pub is-form : is_form number ≡ true
   pub of-form : OfForm number s
 
-module _ (s bytes : List ℕ) (book : Book) (b : Bytes s) (e : answer_of (read_kept s bytes) ≡ answering.Holds book) where
+module _ (s bytes : List ℕ) (book : Book) (b : Bytes s) (e : answer_of (read_kept s bytes) ≡ Ok book) where
   begins-form : OfForm (read s bytes book e).from.number s
   unfolding numbers_in groups_of_all
   begins-form = record { rest = _; is = sym ((read s bytes book e).from.is b) }
@@ -123,7 +121,7 @@ has_room s out h k =
     ap₂ (λ x y. x || y) y z
 
 module _ (book : Book) (s out : List ℕ) (r : lacks_room s out ≡ false) (e : sound book s ≡ true) where
-  written_is : written book s out ≡ writing.Bytes (length (kept_bytes book s))
+  written_is : written book s out ≡ Ok (length (kept_bytes book s))
   unfolding written
   written_is = rw (r, e)
 
@@ -132,11 +130,11 @@ module _ (book : Book) (s out : List ℕ) (r : lacks_room s out ≡ false) (e : 
   out-is = rw (r, e)
 
 -- only a sound book is written
-wrote : (book : Book) (s out : List ℕ) (n : ℕ) → written book s out ≡ writing.Bytes n → (lacks_room s out ≡ false) × (sound book s ≡ true)
+wrote : (book : Book) (s out : List ℕ) (n : ℕ) → written book s out ≡ Ok n → (lacks_room s out ≡ false) × (sound book s ≡ true)
 unfolding written
 wrote book s out n = go (lacks_room s out) (sound book s)
   where
-    go : (a b : Bool) → stop a (writing.Refused Room) (stop (not b) (writing.Refused State) (writing.Bytes (length (kept_bytes book s)))) ≡ writing.Bytes n → (a ≡ false) × (b ≡ true)
+    go : (a b : Bool) → stop a (Err Room) (stop (not b) (Err State) (Ok (length (kept_bytes book s)))) ≡ Ok n → (a ≡ false) × (b ≡ true)
     go true b q = let w : ◌≡◌ {A = ℕ} 0 1 = cc in absurd (omega arith)
     go false false q = let w : ◌≡◌ {A = ℕ} 0 1 = cc in absurd (omega arith)
     go false true q = (refl, refl)
@@ -148,7 +146,7 @@ module _ (f : ℕ) (book : Book) (s bytes : List ℕ) (i : is_form f ≡ true) (
   said-again = sound-reads f book s bytes e (record { is-form = i; in-form = k }) h
 
   -- What a form says of a sound book that it can say reads back as the book, whatever bytes it is read into,
-  pub kept-reads : answer_of (read_kept (kept_in f book (areas_in book.count s)) bytes) ≡ answering.Holds book
+  pub kept-reads : answer_of (read_kept (kept_in f book (areas_in book.count s)) bytes) ≡ Ok book
   kept-reads = ap answer_of said-again
 
   -- and into these come the bytes of its areas; the others stay as lent.
@@ -160,18 +158,18 @@ module _ (f : ℕ) (book : Book) (s bytes : List ℕ) (i : is_form f ≡ true) (
 
 -- So form 1 is still read, of every sound book whose SIOU is unknown.
 pub form-1-reads : (book : Book) (s bytes : List ℕ) → sound book s ≡ true → book.siou_plus_one ≡ 0 → book_bytes ≤ length bytes
-    → answer_of (read_kept (kept_in 1 book (areas_in book.count s)) bytes) ≡ answering.Holds book
+    → answer_of (read_kept (kept_in 1 book (areas_in book.count s)) bytes) ≡ Ok book
 unfolding head_in
 form-1-reads book s bytes e u h =
     kept-reads 1 book s bytes refl (ap₂ (λ x y. x && y) (sound-head book s e) (eq-eqb book.siou_plus_one 0 u)) e h
 
 -- ---- written, then read
 
-module _ (book : Book) (s out : List ℕ) (n : ℕ) (e : written book s out ≡ writing.Bytes n) where
+module _ (book : Book) (s out : List ℕ) (n : ℕ) (e : written book s out ≡ Ok n) where
   wrote_kept : take n (out_after book s out) ≡ kept_bytes book s
   wrote_kept =
       let w = wrote book s out n e in
-      let z : writing.Bytes (length (kept_bytes book s)) ≡ writing.Bytes n = sym (written_is book s out w.0 w.1) ∙ e in
+      let z : Ok (length (kept_bytes book s)) ≡ Ok n = sym (written_is book s out w.0 w.1) ∙ e in
       let size : length (kept_bytes book s) ≡ n = cc in
       ap (take n) (out-is book s out w.0 w.1) ∙ take_at (kept_bytes book s) _ n size
 
@@ -180,7 +178,7 @@ module _ (book : Book) (s out : List ℕ) (n : ℕ) (e : written book s out ≡ 
   unfolding numbers_in groups_of_all
   write-form = record { rest = _; is = wrote_kept }
 
-module _ (book : Book) (s out bytes : List ℕ) (b : Bytes s) (n : ℕ) (e : written book s out ≡ writing.Bytes n) (h : book_bytes ≤ length bytes) where
+module _ (book : Book) (s out bytes : List ℕ) (b : Bytes s) (n : ℕ) (e : written book s out ≡ Ok n) (h : book_bytes ≤ length bytes) where
   abbrev was-sound : sound book s ≡ true
   was-sound = (wrote book s out n e).1
 
@@ -188,7 +186,7 @@ module _ (book : Book) (s out bytes : List ℕ) (b : Bytes s) (n : ℕ) (e : wri
   can-say = (form-says book (sound-head book s was-sound)).in-form
 
   -- they read back as the book, whatever bytes it is read into,
-  pub write_read : answer_of (read_kept (take n (out_after book s out)) bytes) ≡ answering.Holds book
+  pub write_read : answer_of (read_kept (take n (out_after book s out)) bytes) ≡ Ok book
   write_read = ap (λ t. answer_of (read_kept t bytes)) (wrote_kept book s out n e) ∙ kept-reads newest_form book s bytes refl can-say was-sound h
 
   -- and into these come the bytes of its areas; the others stay as lent.
@@ -204,7 +202,7 @@ pub record Raised (s t : List ℕ) : Type 0 where
   pub was : s ≡ 1 ∷ aiou ∷ others
   pub is : t ≡ newest_form ∷ aiou ∷ 0 ∷ others
 
-module _ (s bytes : List ℕ) (book : Book) (b : Bytes s) (e : answer_of (read_kept s bytes) ≡ answering.Holds book) where
+module _ (s bytes : List ℕ) (book : Book) (b : Bytes s) (e : answer_of (read_kept s bytes) ≡ Ok book) where
   abbrev left : List ℕ
   left = left_by (read_kept s bytes) bytes
 
@@ -230,7 +228,7 @@ module _ (s bytes : List ℕ) (book : Book) (b : Bytes s) (e : answer_of (read_k
     room-left : lacks_room left out ≡ false
     room-left = has_room left out (sound-room book left (reads-sound s bytes book e)) h
 
-    rewritten : written book left out ≡ writing.Bytes (length (kept_bytes book left))
+    rewritten : written book left out ≡ Ok (length (kept_bytes book left))
     rewritten = written_is book left out room-left (reads-sound s bytes book e)
 
     rewritten-bytes : out_after book left out ≡ kept_bytes book left ++ drop (length (kept_bytes book left)) out
@@ -238,8 +236,8 @@ module _ (s bytes : List ℕ) (book : Book) (b : Bytes s) (e : answer_of (read_k
 
     module _ (o : OfForm newest_form s) where
       -- Bytes of form 2: what was read is written in as many bytes,
-      pub read-write : written book (left_by (read_kept s bytes) bytes) out ≡ writing.Bytes (length s)
-      read-write = rewritten ∙ ap (λ t. writing.Bytes (length t)) (same_bytes o)
+      pub read-write : written book (left_by (read_kept s bytes) bytes) out ≡ Ok (length s)
+      read-write = rewritten ∙ ap (λ t. Ok (length t)) (same_bytes o)
 
       -- and they are the bytes that were read.
       pub read-write-bytes : out_after book (left_by (read_kept s bytes) bytes) out ≡ s ++ drop (length s) out
@@ -250,16 +248,16 @@ module _ (s bytes : List ℕ) (book : Book) (b : Bytes s) (e : answer_of (read_k
       one_more = let w : Raised s (kept_bytes book left) = raised o in ap length w.is ∙ ap (λ t. suc (length t)) (sym w.was)
 
       -- Bytes of form 1: what was read is written in one byte more,
-      pub form-1-write : written book (left_by (read_kept s bytes) bytes) out ≡ writing.Bytes (suc (length s))
-      form-1-write = rewritten ∙ ap writing.Bytes one_more
+      pub form-1-write : written book (left_by (read_kept s bytes) bytes) out ≡ Ok (suc (length s))
+      form-1-write = rewritten ∙ ap Ok one_more
 
       -- and they are the bytes that were read, raised to form 2.
       pub form-1-write-bytes : Raised s (take (suc (length s)) (out_after book (left_by (read_kept s bytes) bytes) out))
       form-1-write-bytes = subst (λ t. Raised s t) (sym (wrote_kept book left out (suc (length s)) form-1-write)) (raised o)
 
     -- Bytes of either form: what is then written, in n bytes, reads back as the same book, whatever bytes it is read into,
-    module _ (n : ℕ) (w : written book (left_by (read_kept s bytes) bytes) out ≡ writing.Bytes n) (lent : List ℕ) (c : Bytes bytes) (k : book_bytes ≤ length lent) where
-      pub read_again : answer_of (read_kept (take n (out_after book (left_by (read_kept s bytes) bytes) out)) lent) ≡ answering.Holds book
+    module _ (n : ℕ) (w : written book (left_by (read_kept s bytes) bytes) out ≡ Ok n) (lent : List ℕ) (c : Bytes bytes) (k : book_bytes ≤ length lent) where
+      pub read_again : answer_of (read_kept (take n (out_after book (left_by (read_kept s bytes) bytes) out)) lent) ≡ Ok book
       read_again = write_read book left out lent (left-bytes s bytes book e c) n w k
 
       -- with the same areas.
@@ -269,7 +267,7 @@ module _ (s bytes : List ℕ) (book : Book) (b : Bytes s) (e : answer_of (read_k
 
 -- No second byte string of the same form reads as the same book with the same areas.
 pub no_second : (f : ℕ) (s t bytes lent : List ℕ) (book : Book) → OfForm f s → OfForm f t → Bytes s → Bytes t
-    → answer_of (read_kept s bytes) ≡ answering.Holds book → answer_of (read_kept t lent) ≡ answering.Holds book
+    → answer_of (read_kept s bytes) ≡ Ok book → answer_of (read_kept t lent) ≡ Ok book
     → take (6 * book.count) (left_by (read_kept s bytes) bytes) ≡ take (6 * book.count) (left_by (read_kept t lent) lent) → s ≡ t
 no_second f s t bytes lent book o p b c e g q =
     let l : List ℕ = (read s bytes book e).areas in
@@ -282,10 +280,10 @@ no_second f s t bytes lent book o p b c e g q =
 -- ---- SHORT
 
 -- a refusal other than ROOM is what was read
-refused-by : (s bytes : List ℕ) (r : Refusal) → answer_of (read_kept s bytes) ≡ answering.Refused r → (r ≡ Room → ⊥) → (book_bytes ≤ length bytes) × (behind_head (read_head s) ≡ not-kept r)
+refused-by : (s bytes : List ℕ) (r : Refusal) → answer_of (read_kept s bytes) ≡ Err r → (r ≡ Room → ⊥) → (book_bytes ≤ length bytes) × (behind_head (read_head s) ≡ not-kept r)
 refused-by s bytes r e n = go (read_kept s bytes) refl e
   where
-    go : (o : Outcome) → read_kept s bytes ≡ o → answer_of o ≡ answering.Refused r → (book_bytes ≤ length bytes) × (behind_head (read_head s) ≡ not-kept r)
+    go : (o : Outcome) → read_kept s bytes ≡ o → answer_of o ≡ Err r → (book_bytes ≤ length bytes) × (behind_head (read_head s) ≡ not-kept r)
     go (kept book l) p q = let w : ◌≡◌ {A = ℕ} 0 1 = cc in absurd (omega arith)
     go (not-kept v) p q =
         let same : v ≡ r = cc in
@@ -296,28 +294,28 @@ pub finished-once : (s m n t u : List ℕ) → Finished s m t → Finished s n u
 finished-once s m n t u f g = once m n t u f.unended g.unended (sym f.is ∙ g.is)
 
 -- Only with room lent, and where the finished numbers properly begin a kept book of a sound book, is it SHORT,
-pub short-only : (s bytes : List ℕ) → Bytes s → answer_of (read_kept s bytes) ≡ answering.Refused Short → (book_bytes ≤ length bytes) × EndsEarly s
+pub short-only : (s bytes : List ℕ) → Bytes s → answer_of (read_kept s bytes) ≡ Err Short → (book_bytes ≤ length bytes) × EndsEarly s
 short-only s bytes b e =
     let r = refused-by s bytes Short e (λ q. let w : ◌≡◌ {A = ℕ} 0 1 = cc in absurd (omega arith)) in
     (r.0, stops-early s (stops-only s b Short r.1 (λ q. let w : ◌≡◌ {A = ℕ} 0 1 = cc in omega arith)))
 
 -- and there it is.
-pub short-if : (s bytes : List ℕ) → book_bytes ≤ length bytes → EndsEarly s → answer_of (read_kept s bytes) ≡ answering.Refused Short
+pub short-if : (s bytes : List ℕ) → book_bytes ≤ length bytes → EndsEarly s → answer_of (read_kept s bytes) ≡ Err Short
 short-if s bytes h early = ap answer_of (with-room s bytes h ∙ stops-if s Short (early-stops s early))
 
 -- ---- the other answers
 
 -- It reads exactly where, with room lent, it is the kept book of a sound book,
-pub holds-only : (s bytes : List ℕ) (book : Book) → Bytes s → answer_of (read_kept s bytes) ≡ answering.Holds book → (book_bytes ≤ length bytes) × IsBook s
+pub holds-only : (s bytes : List ℕ) (book : Book) → Bytes s → answer_of (read_kept s bytes) ≡ Ok book → (book_bytes ≤ length bytes) × IsBook s
 holds-only s bytes book b e =
     let w : Was s bytes book = was s bytes book e in
     (w.from.room, subst (λ o. Ending s o) (sym (with-room s bytes w.from.room) ∙ w.is) (ending s b))
 
-pub holds-if : (s bytes : List ℕ) → book_bytes ≤ length bytes → (k : IsBook s) → answer_of (read_kept s bytes) ≡ answering.Holds k.of.book
+pub holds-if : (s bytes : List ℕ) → book_bytes ≤ length bytes → (k : IsBook s) → answer_of (read_kept s bytes) ≡ Ok k.of.book
 holds-if s bytes h k = ap answer_of (with-room s bytes h ∙ book-reads s k)
 
 -- it is LEFTOVER exactly where that goes on,
-pub leftover-only : (s bytes : List ℕ) → Bytes s → answer_of (read_kept s bytes) ≡ answering.Refused Leftover → (book_bytes ≤ length bytes) × GoesOn s
+pub leftover-only : (s bytes : List ℕ) → Bytes s → answer_of (read_kept s bytes) ≡ Err Leftover → (book_bytes ≤ length bytes) × GoesOn s
 leftover-only s bytes b e =
     let r = refused-by s bytes Leftover e (λ q. let w : ◌≡◌ {A = ℕ} 0 1 = cc in absurd (omega arith)) in
     (r.0, ⊎_elim (λ w. w.1) (λ f. absurd (other (stops-fault s Leftover f))) (subst (λ o. Ending s o) r.1 (ending s b)))
@@ -326,20 +324,20 @@ leftover-only s bytes b e =
     other (inl q) = let w : ◌≡◌ {A = ℕ} 0 1 = cc in omega arith
     other (inr q) = let w : ◌≡◌ {A = ℕ} 0 1 = cc in omega arith
 
-pub leftover-if : (s bytes : List ℕ) → book_bytes ≤ length bytes → GoesOn s → answer_of (read_kept s bytes) ≡ answering.Refused Leftover
+pub leftover-if : (s bytes : List ℕ) → book_bytes ≤ length bytes → GoesOn s → answer_of (read_kept s bytes) ≡ Err Leftover
 leftover-if s bytes h g = ap answer_of (with-room s bytes h ∙ over-leftover s g)
 
 -- it is FORM exactly where, with room lent, there is "a number not in shortest form, or one after which no sound book can follow", and such a book could follow the numbers before it,
-pub form-only : (s bytes : List ℕ) → Bytes s → answer_of (read_kept s bytes) ≡ answering.Refused Form → (book_bytes ≤ length bytes) × BreaksForm s
+pub form-only : (s bytes : List ℕ) → Bytes s → answer_of (read_kept s bytes) ≡ Err Form → (book_bytes ≤ length bytes) × BreaksForm s
 form-only s bytes b e =
     let r = refused-by s bytes Form e (λ q. let w : ◌≡◌ {A = ℕ} 0 1 = cc in absurd (omega arith)) in
     (r.0, stops-breaks s (stops-only s b Form r.1 (λ q. let w : ◌≡◌ {A = ℕ} 0 1 = cc in omega arith)))
 
-pub form-if : (s bytes : List ℕ) → book_bytes ≤ length bytes → BreaksForm s → answer_of (read_kept s bytes) ≡ answering.Refused Form
+pub form-if : (s bytes : List ℕ) → book_bytes ≤ length bytes → BreaksForm s → answer_of (read_kept s bytes) ≡ Err Form
 form-if s bytes h w = ap answer_of (with-room s bytes h ∙ stops-if s Form (breaks-stops s w))
 
 -- and ROOM without room. There is no other answer: all bytes are one of these four.
-pub room-if : (s bytes : List ℕ) → length bytes < book_bytes → answer_of (read_kept s bytes) ≡ answering.Refused Room
+pub room-if : (s bytes : List ℕ) → length bytes < book_bytes → answer_of (read_kept s bytes) ≡ Err Room
 room-if s bytes h = ap answer_of (no_room s bytes h)
 
 pub one_of : (s : List ℕ) → Bytes s → IsBook s ⊎ (GoesOn s ⊎ (EndsEarly s ⊎ BreaksForm s))

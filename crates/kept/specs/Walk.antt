@@ -1,7 +1,7 @@
 -- Serves proofs, and is proved: what the functions that read answer, by places in the bytes. Assumes nothing.
 use Rattle.std.proofs.Math.Path.{◌≡◌, ap, ap₂}
 use Rattle.std.proofs.Common.{sym, ◌∙◌, arith, drop-drop}
-use Rattle.std.specs.Prelude.{List, [], ◌∷◌, ◌++◌, ℕ, ◌+◌, ◌*◌, ◌≤◌, length, Bool, true, false}
+use Rattle.std.specs.Prelude.{List, [], ◌∷◌, ◌++◌, ℕ, ◌+◌, ◌*◌, ◌≤◌, length, Bool, true, false, Ok, Err}
 use Rattle.std.proofs.Math.ListN.{drop}
 use Rattle.answer.specs.Stop.{stop}
 use Rattle.answer.specs.declared.Refusal.{Refusal}
@@ -9,15 +9,11 @@ use Rattle.answer.specs.declared.Refusal.TheVariants.{Form}
 use Rattle.book.specs.Book.{bytes_of_all}
 use Rattle.book.specs.declared.Book.{Book}
 use Rattle.groups.specs.Groups.{groups_of_all, read_groups, next_by, next_of}
-use Rattle.groups.specs.declared.Read.{Read}
-use Rattle.groups.specs.declared.Read.TheVariants as reading
-use Rattle.groups.specs.declared.Next.{Next}
-use Rattle.groups.specs.declared.Next.TheVariants as next
+use Rattle.groups.specs.Results.{Read}
+use Rattle.groups.specs.Results.{Next}
 use Rattle.kept.specs.Kept.{newest_form, Said, said, refused, behind, number}
-use Rattle.kept.specs.declared.Head.{Head}
-use Rattle.kept.specs.declared.Head.TheVariants as head
-use Rattle.kept.specs.declared.Ended.{Ended}
-use Rattle.kept.specs.declared.Ended.TheVariants as ended
+use Rattle.kept.specs.Results.{Head}
+use Rattle.kept.specs.Results.{Ended}
 
 -- what is written before the count, and before the areas
 abbrev pub issue_bytes : Book → List ℕ
@@ -28,8 +24,8 @@ head_bytes book = groups_of_all (newest_form ∷ book.aiou_plus_one ∷ book.sio
 
 -- the head was read up to a place, or refused
 abbrev pub HeadIs : List ℕ → Said Book → Head → Type 0
-HeadIs s o (head.Is book at) = (o ≡ said book (drop at s)) × (at ≤ length s)
-HeadIs s o (head.Refused r) = o ≡ refused r
+HeadIs s o (Ok (book, at)) = (o ≡ said book (drop at s)) × (at ≤ length s)
+HeadIs s o (Err r) = o ≡ refused r
 
 -- areas were read up to a place
 pub record Areas (s : List ℕ) (o : Said (List ℕ)) (end : ℕ) : Type 0 where
@@ -38,8 +34,8 @@ pub record Areas (s : List ℕ) (o : Said (List ℕ)) (end : ℕ) : Type 0 where
   pub there : end ≤ length s
 
 abbrev pub EndIs : List ℕ → Said (List ℕ) → Ended → Type 0
-EndIs s o (ended.At end) = Areas s o end
-EndIs s o (ended.Refused r) = o ≡ refused r
+EndIs s o (Ok end) = Areas s o end
+EndIs s o (Err r) = o ≡ refused r
 
 -- what is to lie in the bytes
 abbrev pub stored_by : Said (List ℕ) → List ℕ → List ℕ
@@ -51,27 +47,27 @@ is_said (said l rest) = true
 is_said (refused r) = false
 
 module _ {A : Type 0} (s : List ℕ) (at : ℕ) (v : Next) (e : v ≡ next_of s at) (k : ℕ → List ℕ → Said A) where
-  pub step-on : (x end : ℕ) → v ≡ next.Number x end → number (drop at s) k ≡ k x (drop end s)
+  pub step-on : (x end : ℕ) → v ≡ Ok (x, end) → number (drop at s) k ≡ k x (drop end s)
   unfolding next_of
   step-on x end q = go (read_groups (drop at s)) (sym e ∙ q)
     where
-      go : (r : Read) → next_by r at ≡ next.Number x end → behind r (drop at s) k ≡ k x (drop end s)
-      go (reading.Number y n) z =
+      go : (r : Read) → next_by r at ≡ Ok (x, end) → behind r (drop at s) k ≡ k x (drop end s)
+      go (Ok (y, n)) z =
           let a : y ≡ x = cc in
           let b : at + n ≡ end = cc in
           ap₂ k a (drop-drop n at s ∙ ap (λ j. drop j s) b)
-      go (reading.Refused r) z = let w : ◌≡◌ {A = ℕ} 0 1 = cc in absurd (omega arith)
+      go (Err r) z = let w : ◌≡◌ {A = ℕ} 0 1 = cc in absurd (omega arith)
 
-  pub step-off : (r : Refusal) → v ≡ next.Refused r → number (drop at s) k ≡ refused r
+  pub step-off : (r : Refusal) → v ≡ Err r → number (drop at s) k ≡ refused r
   unfolding next_of
   step-off r q = go (read_groups (drop at s)) (sym e ∙ q)
     where
-      go : (w : Read) → next_by w at ≡ next.Refused r → behind w (drop at s) k ≡ refused r
-      go (reading.Number y n) z = let w : ◌≡◌ {A = ℕ} 0 1 = cc in absurd (omega arith)
-      go (reading.Refused t) z = let w : t ≡ r = cc in ap refused w
+      go : (w : Read) → next_by w at ≡ Err r → behind w (drop at s) k ≡ refused r
+      go (Ok (y, n)) z = let w : ◌≡◌ {A = ℕ} 0 1 = cc in absurd (omega arith)
+      go (Err t) z = let w : t ≡ r = cc in ap refused w
 
 -- a number that is to pass a test
-module _ {A : Type 0} (s : List ℕ) (at : ℕ) (v : Next) (e : v ≡ next_of s at) (test : ℕ → Bool) (k : ℕ → List ℕ → Said A) (x end : ℕ) (q : v ≡ next.Number x end) where
+module _ {A : Type 0} (s : List ℕ) (at : ℕ) (v : Next) (e : v ≡ next_of s at) (test : ℕ → Bool) (k : ℕ → List ℕ → Said A) (x end : ℕ) (q : v ≡ Ok (x, end)) where
   tested : (b : Bool) → test x ≡ b → number (drop at s) (λ y t. stop (test y) (refused Form) (k y t)) ≡ stop b (refused Form) (k x (drop end s))
   tested b w = step-on s at v e (λ y t. stop (test y) (refused Form) (k y t)) x end q ∙ ap (λ b. stop b (refused Form) (k x (drop end s))) w
 

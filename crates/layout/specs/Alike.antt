@@ -1,5 +1,5 @@
 -- Serves proofs, and is proved, for every layout: where two layouts that differ in one field read and write alike, and what is read behind a field.
-use Rattle.std.specs.Prelude.{◌≡◌, Bool, leb, take}
+use Rattle.std.specs.Prelude.{◌≡◌, Bool, leb, take, Ok}
 use Rattle.std.proofs.Math.Path.{refl, ap, ap₂, sym}
 use Rattle.std.proofs.Common.{◌∙◌, arith, le-leb, ltb-true, ltb-false}
 use Rattle.std.proofs.Math.Bool.{true, false}
@@ -14,8 +14,7 @@ use Rattle.answer.specs.declared.Refusal.TheVariants as refusal
 use Rattle.answer.specs.declared.Fault as answer
 use Rattle.bits.specs.Bits.{bits_of, number, Bits}
 use Rattle.layout.specs.declared.Field.{Field}
-use Rattle.layout.specs.declared.Verdict.{Verdict}
-use Rattle.layout.specs.declared.Verdict.TheVariants.{Taken}
+use Rattle.layout.specs.Results.{Verdict}
 use Rattle.layout.specs.Layout.{Layout, field, judge, Outcome, accepted, refused, enough, judged, before, read_l}
 use Rattle.layout.specs.Layout.{Written, unwritten, fitting, judged_w, behind, write_l}
 use Rattle.layout.specs.RoundTrip.{bits-drop, front-lt, enough-acc, judged-acc, before_acc}
@@ -24,7 +23,7 @@ use Rattle.layout.specs.RoundTrip.{bits-drop, front-lt, enough-acc, judged-acc, 
 
 module _ {A : Type 0} (l : List ℕ) where
   -- a fault behind a field that takes every code of its width
-  pub fault-behind : Bits l → (f : Field) (next : ℕ → Layout A) (pos : ℕ) (why : answer.Fault) → ((c : ℕ) → c < 2 ^ f.width → judge f c ≡ Taken)
+  pub fault-behind : Bits l → (f : Field) (next : ℕ → Layout A) (pos : ℕ) (why : answer.Fault) → ((c : ℕ) → c < 2 ^ f.width → judge f c ≡ Ok tt)
       → pos + f.width ≤ length l → ((c : ℕ) → read_l (next c) (drop (pos + f.width) l) ≡ refused why) → read_l (field f next) (drop pos l) ≡ refused (further f.width why)
   unfolding read_l
   fault-behind b f next pos why taken h e =
@@ -66,7 +65,7 @@ same-short f g next m p q h =
 pub record Goes {A : Type 0} (l : List ℕ) (f : Field) (next : ℕ → Layout A) (pos : ℕ) (v : A) : Type 0 where
   pub code : ℕ
   pub there : code ≡ number (take f.width (drop pos l))
-  pub taken : judge f code ≡ Taken
+  pub taken : judge f code ≡ Ok tt
   pub codes : List ℕ
   pub used : ℕ
   pub behind : read_l (next code) (drop (pos + f.width) l) ≡ accepted v codes used

@@ -4,7 +4,7 @@ use Rattle.std.specs.Prelude.{ℕ, ◌≡◌}
 use Rattle.layout.specs.Layout.{judge}
 use Rattle.layout.specs.Parts.{up_to}
 use Rattle.layout.specs.declared.Field.{Field}
-use Rattle.layout.specs.declared.Verdict.{Verdict}
+use Rattle.layout.specs.Results.{Verdict}
 use Rattle.std.proofs.Common.{◌∙◌, sym}
 
 pub up-to-determined : (sf width most : ℕ) (r₁ r₂ : Field)

@@ -1,13 +1,12 @@
 -- Definitions to believe: a message layout as a tree of fields; reading bits and writing codes by it, most significant bit first.
 -- Nothing here knows a format: a field carries its number in its document, its width and the codes it takes.
-use Rattle.std.specs.Prelude.{Bool, true, false, List, [], ◌∷◌, ◌++◌, ℕ, ◌+◌, ◌^◌, eqb, ltb, leb, length, take, drop}
+use Rattle.std.specs.Prelude.{Bool, true, false, List, [], ◌∷◌, ◌++◌, ℕ, ◌+◌, ◌^◌, eqb, ltb, leb, length, take, drop, Ok, Err}
 use Rattle.bits.specs.Bits.{bits_of, number}
 use Rattle.answer.specs.declared.Refusal.TheVariants as refusal
 use Rattle.answer.specs.declared.Fault as answer
 use Rattle.answer.specs.Place.{nowhere, fault_at, further}
 use Rattle.layout.specs.declared.Field.{Field}
-use Rattle.layout.specs.declared.Verdict.{Verdict}
-use Rattle.layout.specs.declared.Verdict.TheVariants.{Taken, Fault}
+use Rattle.layout.specs.Results.{Verdict}
 
 -- The end of a message holds what was read; a field says what follows each of its codes.
 pub data Layout (A : Type 0) : Type 0 where
@@ -23,11 +22,11 @@ pick false a b = b
 -- the one code `extra`, and least to most without the one code `except`, which is FIELD; below and above the field's own refusals
 unfoldable pub judge : Field → ℕ → Verdict
 judge f c =
-    pick (eqb c f.extra) Taken (
-    pick (ltb c f.least) (Fault f.under) (
-    pick (ltb f.most c) (Fault f.over) (
-    pick (eqb c f.except) (Fault refusal.Field)
-    Taken)))
+    pick (eqb c f.extra) (Ok tt) (
+    pick (ltb c f.least) (Err f.under) (
+    pick (ltb f.most c) (Err f.over) (
+    pick (eqb c f.except) (Err refusal.Field)
+    (Ok tt))))
 
 -- ---- reading
 
@@ -43,8 +42,8 @@ enough sf false o = refused (fault_at refusal.Short sf 0)
 
 -- refuse here by the field's verdict on the code
 abbrev pub judged : {A : Type 0} → (sf : ℕ) → Verdict → Outcome A → Outcome A
-judged sf Taken o = o
-judged sf (Fault why) o = refused (fault_at why sf 0)
+judged sf (Ok _) o = o
+judged sf (Err why) o = refused (fault_at why sf 0)
 
 -- a code of w bits was read before
 abbrev pub before : {A : Type 0} → ℕ → ℕ → Outcome A → Outcome A
@@ -73,8 +72,8 @@ fitting sf true o = o
 fitting sf false o = unwritten (fault_at refusal.Field sf 0)
 
 abbrev pub judged_w : (sf : ℕ) → Verdict → Written → Written
-judged_w sf Taken o = o
-judged_w sf (Fault why) o = unwritten (fault_at why sf 0)
+judged_w sf (Ok _) o = o
+judged_w sf (Err why) o = unwritten (fault_at why sf 0)
 
 -- the bits of an entry come before
 abbrev pub behind : List ℕ → Written → Written

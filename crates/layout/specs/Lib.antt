@@ -1,3 +1,4 @@
+pub mod Results
 pub mod Layout
 pub mod Parts
 pub mod Record

@@ -2,19 +2,17 @@
 -- SHORT is at the first entry that is not there whole. Proved.
 use Rattle.std.proofs.Math.Path.{◌≡◌, refl, subst}
 use Rattle.std.proofs.Common.{ap, sym, ◌∙◌, arith, length-append}
-use Rattle.std.specs.Prelude.{Bool, true, false, eqb, ltb, leb, length, take, drop}
+use Rattle.std.specs.Prelude.{Bool, true, false, eqb, ltb, leb, length, take, drop, Ok, Err, Some}
 use Rattle.std.proofs.lemmas.Bool.{false≢true}
 use mathlib.Core.List.{List, [], ◌∷◌, ◌++◌}
 use Prim.Native.Nat.{ℕ, ◌^◌, ◌<◌}
 use Rattle.answer.specs.declared.Refusal.{Refusal}
 use Rattle.answer.specs.declared.Refusal.TheVariants as refusal
-use Rattle.answer.specs.declared.Place.TheVariants.{At}
 use Rattle.answer.specs.declared.Fault as answer
 use Rattle.answer.specs.Place.{nowhere, fault_at, at_in, has_place, of_code, moved, further}
 use Rattle.bits.specs.Bits.{bits_of, number}
 use Rattle.layout.specs.declared.Field.{Field}
-use Rattle.layout.specs.declared.Verdict.{Verdict}
-use Rattle.layout.specs.declared.Verdict.TheVariants.{Taken, Fault}
+use Rattle.layout.specs.Results.{Verdict}
 use Rattle.layout.specs.Layout.{Layout, field, pick, judge, Outcome, accepted, refused, enough, judged, before, read_l}
 use Rattle.layout.specs.Layout.{Written, written, unwritten, fitting, judged_w, behind, write_l}
 use Rattle.layout.specs.Walks.{Numbered, Fine, Walks, ends, goes}
@@ -26,7 +24,7 @@ pub record Placed (why : answer.Fault) : Type 0 where
   pub has : has_place why.refusal ≡ true
   pub sf : ℕ
   pub at : ℕ
-  pub place : why.place ≡ At sf at
+  pub place : why.place ≡ Some (record { sf = sf; at = at })
   pub number : Numbered sf
 
 here : (f : Field) → Fine f → (why : Refusal) → has_place why ≡ true → Placed (fault_at why f.sf 0)
@@ -37,14 +35,14 @@ later : (n : ℕ) {why : answer.Fault} → Placed why → Placed (further n why)
 later n p = record { has = p.has; sf = p.sf; at = _; place = ap (moved n) p.place; number = p.number }
 
 -- what a field does not take
-fault-of : (f : Field) → Fine f → (c : ℕ) (why : Refusal) → judge f c ≡ Fault why → of_code why ≡ true
+fault-of : (f : Field) → Fine f → (c : ℕ) (why : Refusal) → judge f c ≡ Err why → of_code why ≡ true
 unfolding judge
 fault-of f fine c why e = go (eqb c f.extra) (ltb c f.least) (ltb f.most c) (eqb c f.except) e
   where
-    by : (r : Refusal) → of_code r ≡ true → Fault r ≡ Fault why → of_code why ≡ true
+    by : (r : Refusal) → of_code r ≡ true → ◌≡◌ {A = Verdict} (Err r) (Err why) → of_code why ≡ true
     by r h q = let z : r ≡ why = cc in subst (λ x. of_code x ≡ true) z h
 
-    go : (w x y z : Bool) → pick w Taken (pick x (Fault f.under) (pick y (Fault f.over) (pick z (Fault refusal.Field) Taken))) ≡ Fault why → of_code why ≡ true
+    go : (w x y z : Bool) → ◌≡◌ {A = Verdict} (pick w (Ok tt) (pick x (Err f.under) (pick y (Err f.over) (pick z (Err refusal.Field) (Ok tt))))) (Err why) → of_code why ≡ true
     go true x y z e = let n : ◌≡◌ {A = ℕ} 0 1 = cc in absurd (omega arith)
     go false true y z e = by f.under fine.under e
     go false false true z e = by f.over fine.over e
@@ -72,20 +70,20 @@ of-has refusal.Leftover e = e
 of-has refusal.State e = e
 of-has refusal.Form e = e
 
-fault-has : (f : Field) → Fine f → (c : ℕ) (why : Refusal) → judge f c ≡ Fault why → has_place why ≡ true
+fault-has : (f : Field) → Fine f → (c : ℕ) (why : Refusal) → judge f c ≡ Err why → has_place why ≡ true
 fault-has f fine c why e = of-has why (fault-of f fine c why e)
 
 -- ---- reading
 
 field-placed : {A : Type 0} (f : Field) → Fine f → (c : ℕ) (b : Bool) (v : Verdict) (o : Outcome A) (why : answer.Fault) → judge f c ≡ v
-    → (v ≡ Taken → (why' : answer.Fault) → o ≡ refused why' → Placed why')
+    → (v ≡ Ok tt → (why' : answer.Fault) → o ≡ refused why' → Placed why')
     → enough f.sf b (judged f.sf v (before c f.width o)) ≡ refused why → Placed why
 field-placed f fine c false v o why q ih e =
     let z : fault_at refusal.Short f.sf 0 ≡ why = cc in subst Placed z (here f fine refusal.Short refl)
-field-placed f fine c true (Fault r) o why q ih e =
+field-placed f fine c true (Err r) o why q ih e =
     let z : fault_at r f.sf 0 ≡ why = cc in subst Placed z (here f fine r (fault-has f fine c r q))
-field-placed f fine c true Taken (accepted v cs n) why q ih e = let z : ◌≡◌ {A = ℕ} 0 1 = cc in absurd (omega arith)
-field-placed f fine c true Taken (refused first) why q ih e =
+field-placed f fine c true (Ok _) (accepted v cs n) why q ih e = let z : ◌≡◌ {A = ℕ} 0 1 = cc in absurd (omega arith)
+field-placed f fine c true (Ok _) (refused first) why q ih e =
     let z : further f.width first ≡ why = cc in subst Placed z (later f.width (ih refl first refl))
 
 module _ {S A : Type 0} {field_of : S → Field} {step_of : S → ℕ → S} where
@@ -109,14 +107,14 @@ later-fault n (placed p) = placed (later n p)
 later-fault n (over e) = over (ap (further n) e)
 
 entry-placed : (f : Field) → Fine f → (c : ℕ) (v : Verdict) (b : Bool) (o : Written) (why : answer.Fault) → judge f c ≡ v
-    → (v ≡ Taken → (why' : answer.Fault) → o ≡ unwritten why' → SheetFault why')
+    → (v ≡ Ok tt → (why' : answer.Fault) → o ≡ unwritten why' → SheetFault why')
     → judged_w f.sf v (fitting f.sf b (behind (bits_of f.width c) o)) ≡ unwritten why → SheetFault why
-entry-placed f fine c (Fault r) b o why q ih e =
+entry-placed f fine c (Err r) b o why q ih e =
     let z : fault_at r f.sf 0 ≡ why = cc in subst SheetFault z (placed (here f fine r (fault-has f fine c r q)))
-entry-placed f fine c Taken false o why q ih e =
+entry-placed f fine c (Ok _) false o why q ih e =
     let z : fault_at refusal.Field f.sf 0 ≡ why = cc in subst SheetFault z (placed (here f fine refusal.Field refl))
-entry-placed f fine c Taken true (written bs) why q ih e = let z : ◌≡◌ {A = ℕ} 0 1 = cc in absurd (omega arith)
-entry-placed f fine c Taken true (unwritten first) why q ih e =
+entry-placed f fine c (Ok _) true (written bs) why q ih e = let z : ◌≡◌ {A = ℕ} 0 1 = cc in absurd (omega arith)
+entry-placed f fine c (Ok _) true (unwritten first) why q ih e =
     let z : further 1 first ≡ why = cc in subst SheetFault z (later-fault 1 (ih refl first refl))
 
 module _ {S A : Type 0} {field_of : S → Field} {step_of : S → ℕ → S} where

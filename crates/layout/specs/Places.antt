@@ -2,7 +2,7 @@
 -- the entries before that field, each taken by its own. And each payload or sheet that stops so is refused so. (SHORT: Placed.antt.) Proved.
 use Rattle.std.proofs.Math.Path.{◌≡◌, refl, ap, sym}
 use Rattle.std.proofs.Common.{ap₂, ◌∙◌, subst, arith, take-append-drop}
-use Rattle.std.specs.Prelude.{Bool, false}
+use Rattle.std.specs.Prelude.{Bool, false, Option, Ok, Err, Some}
 use Rattle.std.proofs.Math.Bool.{true}
 use mathlib.Core.List.{List, [], ◌∷◌, ◌++◌, append_assoc}
 use Prim.Native.Nat.{ℕ, ◌+◌, ◌^◌, ◌≤◌, ◌<◌}
@@ -13,15 +13,13 @@ use borrow.Author.Tests.{leb-true, leb-false, ltb-true, ltb-false, lt-ltb, le-lt
 use Rattle.answer.specs.declared.Refusal.{Refusal}
 use Rattle.answer.specs.declared.Refusal.TheVariants as refusal
 use Rattle.answer.specs.declared.Place.{Place}
-use Rattle.answer.specs.declared.Place.TheVariants.{At}
 use Rattle.answer.specs.declared.Fault as answer
 use Rattle.answer.specs.Place.{nowhere, fault_at, moved, further}
 use Rattle.answer.specs.Further.{further-none, further-twice}
 use Rattle.bits.specs.Bits.{bits_of, number, Bits}
 use Rattle.bits.specs.Laws.{length-bits_of, number-of-bits}
 use Rattle.layout.specs.declared.Field.{Field}
-use Rattle.layout.specs.declared.Verdict.{Verdict}
-use Rattle.layout.specs.declared.Verdict.TheVariants.{Taken, Fault}
+use Rattle.layout.specs.Results.{Verdict}
 use Rattle.layout.specs.Layout.{Layout, done, field, judge, Outcome, accepted, refused, enough, judged, before, read_l}
 use Rattle.layout.specs.Layout.{Written, written, unwritten, fitting, judged_w, behind, write_l}
 use Rattle.layout.specs.RoundTrip.{bits-drop, front-lt, front-bits}
@@ -29,7 +27,7 @@ use Rattle.layout.specs.RoundTrip.{bits-drop, front-lt, front-bits}
 -- These entries, which say these bits, come first in the layout l; m is what is left of it. Each entry is taken by the field that is there.
 pub data Before {A : Type 0} : Layout A → (codes bits : List ℕ) → Layout A → Type 0 where
   none : {l : Layout A} → Before l [] [] l
-  one : {f : Field} {next : ℕ → Layout A} {cs bs : List ℕ} {m : Layout A} (c : ℕ) → judge f c ≡ Taken → c < 2 ^ f.width → Before (next c) cs bs m
+  one : {f : Field} {next : ℕ → Layout A} {cs bs : List ℕ} {m : Layout A} (c : ℕ) → judge f c ≡ Ok tt → c < 2 ^ f.width → Before (next c) cs bs m
       → Before (field f next) (c ∷ cs) (bits_of f.width c ++ bs) m
 
 -- ---- reading
@@ -37,7 +35,7 @@ pub data Before {A : Type 0} : Layout A → (codes bits : List ℕ) → Layout A
 -- why a field is at fault with these bits from its own on: they are too few, or it does not take the code that stands there
 pub data ReadCause (f : Field) (rest : List ℕ) : Refusal → Type 0 where
   short : length rest < f.width → ReadCause f rest refusal.Short
-  fault : {why : Refusal} → f.width ≤ length rest → judge f (number (take f.width rest)) ≡ Fault why → ReadCause f rest why
+  fault : {why : Refusal} → f.width ≤ length rest → judge f (number (take f.width rest)) ≡ Err why → ReadCause f rest why
 
 -- The bits stop at the field `here` of the layout: these entries come before it.
 pub record ReadStop {A : Type 0} (l : Layout A) (bits : List ℕ) (why : answer.Fault) : Type 0 where
@@ -49,7 +47,7 @@ pub record ReadStop {A : Type 0} (l : Layout A) (bits : List ℕ) (why : answer.
   pub first : Before l codes said (field here next)
   pub begins : bits ≡ said ++ rest
   pub cause : ReadCause here rest why.refusal
-  pub place : why.place ≡ At here.sf (length said)
+  pub place : why.place ≡ Some (record { sf = here.sf; at = length said })
 
 module _ {A : Type 0} where
   stops-here : (f : Field) (next : ℕ → Layout A) (bits : List ℕ) {why : Refusal} (given : answer.Fault) → ReadCause f bits why
@@ -69,7 +67,7 @@ module _ {A : Type 0} where
       }
 
   stops-behind : (f : Field) (next : ℕ → Layout A) (bits : List ℕ) (c : ℕ) (o : Outcome A) (given : answer.Fault) → Bits bits → f.width ≤ length bits
-      → c ≡ number (take f.width bits) → judge f c ≡ Taken → ((why : answer.Fault) → o ≡ refused why → ReadStop (next c) (drop f.width bits) why)
+      → c ≡ number (take f.width bits) → judge f c ≡ Ok tt → ((why : answer.Fault) → o ≡ refused why → ReadStop (next c) (drop f.width bits) why)
       → before c f.width o ≡ refused given → ReadStop (field f next) bits given
   stops-behind f next bits c (accepted v cs n) given b h n' j ih e = let z : ◌≡◌ {A = ℕ} 0 1 = cc in absurd (omega arith)
   stops-behind f next bits c (refused why) given b h n j ih e =
@@ -87,7 +85,7 @@ module _ {A : Type 0} where
         begins = sym (take-append-drop w bits) ∙ ap₂ (λ x y. x ++ y) (sym front) s.begins ∙ sym (append_assoc (bits_of w c) s.said s.rest);
         cause = subst (λ (x : answer.Fault). ReadCause s.here s.rest x.refusal) same s.cause;
         place = ap (λ (x : answer.Fault). x.place) (sym same) ∙ ap (moved w) s.place
-            ∙ ap (At s.here.sf) (omega (arith, length-append (bits_of w c) s.said, length-bits_of w c));
+            ∙ ap (λ (x : ℕ). Some (record { sf = s.here.sf; at = x })) (omega (arith, length-append (bits_of w c) s.said, length-bits_of w c));
       }
 
   stops-field : (f : Field) (next : ℕ → Layout A) (bits : List ℕ) (c : ℕ) (o : Outcome A) (why : answer.Fault) (x : Bool) (v : Verdict) → Bits bits
@@ -95,9 +93,9 @@ module _ {A : Type 0} where
       → ((why' : answer.Fault) → o ≡ refused why' → ReadStop (next c) (drop f.width bits) why')
       → enough f.sf x (judged f.sf v (before c f.width o)) ≡ refused why → ReadStop (field f next) bits why
   stops-field f next bits c o why false v b n p q ih e = stops-here f next bits why (short (leb-false f.width (length bits) p)) e
-  stops-field f next bits c o why true (Fault r) b n p q ih e =
+  stops-field f next bits c o why true (Err r) b n p q ih e =
       stops-here f next bits why (fault (leb-true f.width (length bits) p) (ap (judge f) (sym n) ∙ q)) e
-  stops-field f next bits c o why true Taken b n p q ih e = stops-behind f next bits c o why b (leb-true f.width (length bits) p) n q ih e
+  stops-field f next bits c o why true (Ok _) b n p q ih e = stops-behind f next bits c o why b (leb-true f.width (length bits) p) n q ih e
 
   -- A refusal is where the bits stop.
   pub refused-there : (l : Layout A) (bits : List ℕ) (why : answer.Fault) → Bits bits → read_l l bits ≡ refused why → ReadStop l bits why
@@ -137,20 +135,20 @@ module _ {A : Type 0} where
       let r = why.refusal in
       let sf = s.here.sf in
       ap (read_l l) s.begins ∙ reads-behind s.first s.rest (fault_at r sf 0) (caused s.here s.next s.rest s.cause)
-      ∙ ap (λ (p : Place). refused (record { refusal = r; place = p })) (ap (At sf) (omega arith) ∙ sym s.place)
+      ∙ ap (λ (p : (Option Place)). refused (record { refusal = r; place = p })) (ap (λ (x : ℕ). Some (record { sf = sf; at = x })) (omega arith) ∙ sym s.place)
 
 -- ---- writing
 
 -- why a field is at fault with these entries from its own on: there is none, it does not take the code, or the code is too wide for it
 pub data WriteCause (f : Field) : List ℕ → Refusal → Type 0 where
   ended : WriteCause f [] refusal.Short
-  fault : {c : ℕ} {cs : List ℕ} {why : Refusal} → judge f c ≡ Fault why → WriteCause f (c ∷ cs) why
-  wide : {c : ℕ} {cs : List ℕ} → judge f c ≡ Taken → 2 ^ f.width ≤ c → WriteCause f (c ∷ cs) refusal.Field
+  fault : {c : ℕ} {cs : List ℕ} {why : Refusal} → judge f c ≡ Err why → WriteCause f (c ∷ cs) why
+  wide : {c : ℕ} {cs : List ℕ} → judge f c ≡ Ok tt → 2 ^ f.width ≤ c → WriteCause f (c ∷ cs) refusal.Field
 
 -- The sheet stops at the field `here` of the layout, behind these entries; or it goes on where the layout ends.
 pub data WriteStop {A : Type 0} (l : Layout A) (sheet : List ℕ) (why : answer.Fault) : Type 0 where
   entry : (here : Field) (next : ℕ → Layout A) (codes said rest : List ℕ) → Before l codes said (field here next) → sheet ≡ codes ++ rest
-      → WriteCause here rest why.refusal → why.place ≡ At here.sf (length codes) → WriteStop l sheet why
+      → WriteCause here rest why.refusal → why.place ≡ Some (record { sf = here.sf; at = length codes }) → WriteStop l sheet why
   leftover : (v : A) (codes said : List ℕ) (c : ℕ) (rest : List ℕ) → Before l codes said (done v) → sheet ≡ codes ++ (c ∷ rest) → why ≡ nowhere refusal.Leftover
       → WriteStop l sheet why
 
@@ -162,7 +160,7 @@ module _ {A : Type 0} where
       entry f next [] [] sheet none refl (subst (λ (x : answer.Fault). WriteCause f sheet x.refusal) same cause)
       (ap (λ (x : answer.Fault). x.place) (sym same))
 
-  unwritten-behind : (f : Field) (next : ℕ → Layout A) (c : ℕ) (cs : List ℕ) (o : Written) (given : answer.Fault) → judge f c ≡ Taken → c < 2 ^ f.width
+  unwritten-behind : (f : Field) (next : ℕ → Layout A) (c : ℕ) (cs : List ℕ) (o : Written) (given : answer.Fault) → judge f c ≡ Ok tt → c < 2 ^ f.width
       → ((why : answer.Fault) → o ≡ unwritten why → WriteStop (next c) cs why) → behind (bits_of f.width c) o ≡ unwritten given → WriteStop (field f next) (c ∷ cs) given
   unwritten-behind f next c cs (written bs) given j fits ih e = let z : ◌≡◌ {A = ℕ} 0 1 = cc in absurd (omega arith)
   unwritten-behind f next c cs (unwritten why) given j fits ih e = go (let x : further 1 why ≡ given = cc in x) (ih why refl)
@@ -171,16 +169,16 @@ module _ {A : Type 0} where
       go same (entry here after codes said rest first begins cause place) =
           entry here after (c ∷ codes) (bits_of f.width c ++ said) rest (one c j fits first) (ap (λ x. c ∷ x) begins)
           (subst (λ (x : answer.Fault). WriteCause here rest x.refusal) same cause)
-          (ap (λ (x : answer.Fault). x.place) (sym same) ∙ ap (moved 1) place ∙ ap (At here.sf) (omega arith))
+          (ap (λ (x : answer.Fault). x.place) (sym same) ∙ ap (moved 1) place ∙ ap (λ (x : ℕ). Some (record { sf = here.sf; at = x })) (omega arith))
       go same (leftover v codes said d rest first begins e') =
           leftover v (c ∷ codes) (bits_of f.width c ++ said) d rest (one c j fits first) (ap (λ x. c ∷ x) begins) (sym same ∙ ap (further 1) e')
 
   unwritten-field : (f : Field) (next : ℕ → Layout A) (c : ℕ) (cs : List ℕ) (o : Written) (why : answer.Fault) (v : Verdict) (x : Bool) → judge f c ≡ v → ltb c (2 ^ f.width) ≡ x
       → ((why' : answer.Fault) → o ≡ unwritten why' → WriteStop (next c) cs why')
       → judged_w f.sf v (fitting f.sf x (behind (bits_of f.width c) o)) ≡ unwritten why → WriteStop (field f next) (c ∷ cs) why
-  unwritten-field f next c cs o why (Fault r) x q p ih e = unwritten-here f next (c ∷ cs) why (fault q) e
-  unwritten-field f next c cs o why Taken false q p ih e = unwritten-here f next (c ∷ cs) why (wide q (ltb-false c (2 ^ f.width) p)) e
-  unwritten-field f next c cs o why Taken true q p ih e = unwritten-behind f next c cs o why q (ltb-true c (2 ^ f.width) p) ih e
+  unwritten-field f next c cs o why (Err r) x q p ih e = unwritten-here f next (c ∷ cs) why (fault q) e
+  unwritten-field f next c cs o why (Ok _) false q p ih e = unwritten-here f next (c ∷ cs) why (wide q (ltb-false c (2 ^ f.width) p)) e
+  unwritten-field f next c cs o why (Ok _) true q p ih e = unwritten-behind f next c cs o why q (ltb-true c (2 ^ f.width) p) ih e
 
   -- A refusal is where the sheet stops.
   pub unwritten-there : (l : Layout A) (sheet : List ℕ) (why : answer.Fault) → write_l l sheet ≡ unwritten why → WriteStop l sheet why
@@ -213,6 +211,6 @@ module _ {A : Type 0} where
   stops-unwritten l sheet why (entry here next codes said rest first begins cause place) =
       let r = why.refusal in
       ap (write_l l) begins ∙ writes-behind first rest (fault_at r here.sf 0) (caused_w here next rest cause)
-      ∙ ap (λ (p : Place). unwritten (record { refusal = r; place = p })) (ap (At here.sf) (omega arith) ∙ sym place)
+      ∙ ap (λ (p : (Option Place)). unwritten (record { refusal = r; place = p })) (ap (λ (x : ℕ). Some (record { sf = here.sf; at = x })) (omega arith) ∙ sym place)
   stops-unwritten l sheet why (leftover v codes said c rest first begins e) =
       ap (write_l l) begins ∙ writes-behind first (c ∷ rest) (nowhere refusal.Leftover) refl ∙ ap unwritten (sym e)

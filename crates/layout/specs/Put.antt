@@ -1,6 +1,6 @@
 -- Serves proofs, and is proved: writing by a layout as a loop over a machine does it, with a position, a place in the sheet and the bits handed on.
 -- What it comes to is what `write_l` says.
-use Rattle.std.specs.Prelude.{◌≡◌, refl, Bool, false, List, [], ◌∷◌, ◌++◌, ℕ, suc, ◌+◌, ◌^◌, ◌<◌, length, set, get_or}
+use Rattle.std.specs.Prelude.{◌≡◌, refl, Bool, false, List, [], ◌∷◌, ◌++◌, ℕ, suc, ◌+◌, ◌^◌, ◌<◌, length, set, get_or, Ok, Err}
 use Rattle.std.proofs.Math.Path.{ap}
 use Rattle.std.proofs.Common.{sym, ◌∙◌, add-zero, arith, length-append, drop-cons}
 use Rattle.std.proofs.Math.Bool.{true}
@@ -17,8 +17,7 @@ use Rattle.answer.specs.Further.{further-twice, further-here}
 use Rattle.bits.specs.Bits.{bits_of}
 use Rattle.bits.specs.Laws.{length-bits_of}
 use Rattle.layout.specs.declared.Field.{Field}
-use Rattle.layout.specs.declared.Verdict.{Verdict}
-use Rattle.layout.specs.declared.Verdict.TheVariants.{Taken, Fault}
+use Rattle.layout.specs.Results.{Verdict}
 use Rattle.layout.specs.Layout.{Layout, done, field, pick, judge, Written, written, unwritten, fitting, judged_w, behind, write_l}
 use Rattle.layout.specs.Walks.{Walks, ends, goes}
 use Rattle.layout.specs.Run.{Ended, finished, stopped, judged_e, taken-fits, On}
@@ -54,8 +53,8 @@ ended-behind c w n (unwritten why) pos at out = ap stopped (further-twice at 1 w
 
 ended-judged : (sf : ℕ) (v : Verdict) (o : Written) (n pos at : ℕ) (out : List ℕ)
     → judged_e sf at v (ended_w o n pos at out) ≡ ended_w (judged_w sf v o) n pos at out
-ended-judged sf Taken o n pos at out = refl
-ended-judged sf (Fault why) o n pos at out = ap stopped (sym (further-here at why sf))
+ended-judged sf (Ok _) o n pos at out = refl
+ended-judged sf (Err why) o n pos at out = ap stopped (sym (further-here at why sf))
 
 ended-fitting : (sf : ℕ) (b : Bool) (o : Written) (n pos at : ℕ) (out : List ℕ)
     → pick b (ended_w o n pos at out) (stopped (fault_at refusal.Field sf at)) ≡ ended_w (fitting sf b o) n pos at out
@@ -99,21 +98,21 @@ module _ {S A : Type 0} {field_of : S → Field} {step_of : S → ℕ → S} (sh
       ∙ ap (λ (x : Field). stopped (fault_at refusal.Short x.sf at)) (sym e)
 
   pub put-fault : {s : S} {l : Layout A} (c : ℕ) (why : Refusal) → Walks field_of step_of s l → 0 < (field_of s).width → at < length sheet
-      → c ≡ get_or sheet at 0 → judge (field_of s) c ≡ Fault why → put_l l (drop at sheet) pos at out ≡ stopped (fault_at why (field_of s).sf at)
+      → c ≡ get_or sheet at 0 → judge (field_of s) c ≡ Err why → put_l l (drop at sheet) pos at out ≡ stopped (fault_at why (field_of s).sf at)
   unfolding put_l
   put-fault c why (ends e) z h n j = absurd (omega arith)
   put-fault c why (goes {f} {next} e i rest) z h n j =
-      let k : judge f c ≡ Fault why = ap (λ (x : Field). judge x c) (sym e) ∙ j in
+      let k : judge f c ≡ Err why = ap (λ (x : Field). judge x c) (sym e) ∙ j in
       rw (drop-cons sheet at 0 h, ← n, k) (ap (λ (x : Field). stopped (fault_at why x.sf at)) (sym e))
 
   pub put_on : {s : S} {l : Layout A} (c : ℕ) → Walks field_of step_of s l → 0 < (field_of s).width → at < length sheet
-      → c ≡ get_or sheet at 0 → judge (field_of s) c ≡ Taken
+      → c ≡ get_or sheet at 0 → judge (field_of s) c ≡ Ok tt
       → On field_of step_of (step_of s c) (put_l l (drop at sheet) pos at out)
       (λ (next : Layout A). put_l next (drop (at + 1) sheet) (pos + (field_of s).width) (at + 1) (sets out pos (bits_of (field_of s).width c)))
   unfolding put_l
   put_on c (ends e) z h n j = absurd (omega arith)
   put_on {s} c (goes {f} {next} e i rest) z h n j =
       let same : (field_of s).width ≡ f.width = ap (λ (x : Field). x.width) e in
-      let k : judge f c ≡ Taken = ap (λ (x : Field). judge x c) (sym e) ∙ j in
+      let k : judge f c ≡ Ok tt = ap (λ (x : Field). judge x c) (sym e) ∙ j in
       let t : ltb c (2 ^ f.width) ≡ true = lt-ltb c (2 ^ f.width) (taken-fits i k) in
       record { left = next c; walks = rest c (taken-fits i k); same = rw (drop-cons sheet at 0 h, ← n, ← add-one at, t, k, same) }

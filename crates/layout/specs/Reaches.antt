@@ -2,7 +2,7 @@
 -- code finds at a place is what the record says.
 use Rattle.std.proofs.Math.Path.{◌≡◌, refl, ap, sym}
 use Rattle.std.proofs.Common.{◌∙◌, subst, arith}
-use Rattle.std.specs.Prelude.{Bool, leb, take}
+use Rattle.std.specs.Prelude.{Bool, leb, take, Ok}
 use Rattle.std.proofs.Math.Bool.{true, false}
 use mathlib.Core.List.{List, [], ◌∷◌, ◌++◌}
 use Prim.Native.Nat.{ℕ, zero, suc, ◌+◌, ◌*◌, ◌^◌, ◌≤◌, ◌<◌}
@@ -12,7 +12,6 @@ use Rattle.std.proofs.Math.ListN.{length, drop, get_or, length-drop}
 use Rattle.std.proofs.Math.Seq.{drop-cons, drop-length}
 use Rattle.bits.specs.Bits.{bits_of, number}
 use Rattle.layout.specs.declared.Field.{Field}
-use Rattle.layout.specs.declared.Verdict.TheVariants.{Taken}
 use Rattle.layout.specs.Layout.{Layout, done, field, pick, judge, Outcome, accepted, read_l, Written, written, fitting, judged_w, behind, write_l}
 use Rattle.layout.specs.Holds.{Holds}
 use Rattle.layout.specs.Parts.{Part, absent, present, times, each}
@@ -62,7 +61,7 @@ module _ {A : Type 0} where
     where
       go : (b : Bool) → ltb at (length sheet) ≡ b
           → ((c : ℕ) (bs : List ℕ) → suc at ≤ length sheet → write_l (next c) (drop (suc at) sheet) ≡ written bs → Holds (next c) sheet (suc at))
-          → (at < length sheet) × (judge f (get_or sheet at 0) ≡ Taken) × Holds (next (get_or sheet at 0)) sheet (suc at)
+          → (at < length sheet) × (judge f (get_or sheet at 0) ≡ Ok tt) × Holds (next (get_or sheet at 0)) sheet (suc at)
       go true p ih =
           let inside : at < length sheet = ltb-true at (length sheet) p in
           let c : ℕ = get_or sheet at 0 in

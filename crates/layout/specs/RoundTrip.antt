@@ -1,7 +1,7 @@
 -- Proved, for every layout at once: both round trips; a sheet is known by its bits; a reading looks at no bit past its own end.
 use Rattle.std.proofs.Math.Path.{◌≡◌, refl, ap, subst}
 use Rattle.std.proofs.Common.{sym, ◌∙◌, arith, take-append-drop, take-add, length-take-le}
-use Rattle.std.specs.Prelude.{Bool, false}
+use Rattle.std.specs.Prelude.{Bool, false, Ok, Err}
 use Rattle.std.proofs.Math.Bool.{true}
 use mathlib.Core.List.{List, [], ◌∷◌, ◌++◌, append_assoc}
 use Prim.Native.Nat.{ℕ, zero, suc, ◌+◌, ◌^◌, ◌≤◌, ◌<◌}
@@ -12,8 +12,7 @@ use borrow.Author.Tests.{leb-true, ltb-true, lt-ltb, le-leb}
 use Rattle.bits.specs.Bits.{bits_of, number, Bits, none, more}
 use Rattle.bits.specs.Laws.{length-bits_of, number-of-bits, number_lt, bits_of_number}
 use Rattle.layout.specs.declared.Field.{Field}
-use Rattle.layout.specs.declared.Verdict.{Verdict}
-use Rattle.layout.specs.declared.Verdict.TheVariants.{Taken, Fault}
+use Rattle.layout.specs.Results.{Verdict}
 use Rattle.layout.specs.Layout.{Layout, done, field, judge, Outcome, accepted, refused, enough, judged, before, read_l}
 use Rattle.layout.specs.Layout.{Written, written, unwritten, fitting, judged_w, behind, write_l}
 
@@ -41,9 +40,9 @@ pub fitting-acc : (sf : ℕ) (b : Bool) (o : Written) {bs : List ℕ} → fittin
 fitting-acc sf true o e = (refl, e)
 fitting-acc sf false o e = let z : ◌≡◌ {A = ℕ} 0 1 = cc in absurd (omega arith)
 
-pub judged_w-acc : (sf : ℕ) (v : Verdict) (o : Written) {bs : List ℕ} → judged_w sf v o ≡ written bs → (v ≡ Taken) × (o ≡ written bs)
-judged_w-acc sf Taken o e = (refl, e)
-judged_w-acc sf (Fault why) o e = let z : ◌≡◌ {A = ℕ} 0 1 = cc in absurd (omega arith)
+pub judged_w-acc : (sf : ℕ) (v : Verdict) (o : Written) {bs : List ℕ} → judged_w sf v o ≡ written bs → (v ≡ Ok tt) × (o ≡ written bs)
+judged_w-acc sf (Ok _) o e = (refl, e)
+judged_w-acc sf (Err why) o e = let z : ◌≡◌ {A = ℕ} 0 1 = cc in absurd (omega arith)
 
 pub behind-acc : (p : List ℕ) (o : Written) {bs : List ℕ} → behind p o ≡ written bs → (q : List ℕ) × (o ≡ written q) × (bs ≡ p ++ q)
 behind-acc p (written q) e = (q, refl, cc)
@@ -54,9 +53,9 @@ module _ {A : Type 0} where
   enough-acc sf true o e = (refl, e)
   enough-acc sf false o e = let z : ◌≡◌ {A = ℕ} 0 1 = cc in absurd (omega arith)
 
-  pub judged-acc : (sf : ℕ) (k : Verdict) (o : Outcome A) {v : A} {cs : List ℕ} {n : ℕ} → judged sf k o ≡ accepted v cs n → (k ≡ Taken) × (o ≡ accepted v cs n)
-  judged-acc sf Taken o e = (refl, e)
-  judged-acc sf (Fault why) o e = let z : ◌≡◌ {A = ℕ} 0 1 = cc in absurd (omega arith)
+  pub judged-acc : (sf : ℕ) (k : Verdict) (o : Outcome A) {v : A} {cs : List ℕ} {n : ℕ} → judged sf k o ≡ accepted v cs n → (k ≡ Ok tt) × (o ≡ accepted v cs n)
+  judged-acc sf (Ok _) o e = (refl, e)
+  judged-acc sf (Err why) o e = let z : ◌≡◌ {A = ℕ} 0 1 = cc in absurd (omega arith)
 
   pub before_acc : (c w : ℕ) (o : Outcome A) {v : A} {cs : List ℕ} {n : ℕ} → before c w o ≡ accepted v cs n
       → (ds : List ℕ) × (m : ℕ) × (o ≡ accepted v ds m) × (cs ≡ c ∷ ds) × (n ≡ w + m)
@@ -66,7 +65,7 @@ module _ {A : Type 0} where
   -- ---- one field more, in each direction
 
   write_step : (f : Field) (next : ℕ → Layout A) (bits ds : List ℕ) (m c : ℕ) → Bits bits → f.width ≤ length bits
-      → c ≡ number (take f.width bits) → judge f c ≡ Taken → write_l (next c) ds ≡ written (take m (drop f.width bits))
+      → c ≡ number (take f.width bits) → judge f c ≡ Ok tt → write_l (next c) ds ≡ written (take m (drop f.width bits))
       → write_l (field f next) (c ∷ ds) ≡ written (take (f.width + m) bits)
   unfolding write_l
   write_step f next bits ds m c b le n j ih =
@@ -74,7 +73,7 @@ module _ {A : Type 0} where
       let back : bits_of f.width c ≡ take f.width bits = ap (bits_of f.width) n ∙ front-bits f.width bits b le in
       simp (fits, j, ih, back, take-add)
 
-  read_step : (f : Field) (next : ℕ → Layout A) (v : A) (c : ℕ) (cs q rest : List ℕ) → c < 2 ^ f.width → judge f c ≡ Taken
+  read_step : (f : Field) (next : ℕ → Layout A) (v : A) (c : ℕ) (cs q rest : List ℕ) → c < 2 ^ f.width → judge f c ≡ Ok tt
       → read_l (next c) (q ++ rest) ≡ accepted v cs (length q)
       → read_l (field f next) ((bits_of f.width c ++ q) ++ rest) ≡ accepted v (c ∷ cs) (length (bits_of f.width c ++ q))
   unfolding read_l
@@ -102,7 +101,7 @@ module _ {A : Type 0} where
       let c : ℕ = number (take w bits) in
       let o : Outcome A = read_l (next c) (drop w bits) in
       let h1 : (leb w (length bits) ≡ true) × (judged f.sf (judge f c) (before c w o) ≡ accepted v cs n) = enough-acc f.sf _ _ e in
-      let h2 : (judge f c ≡ Taken) × (before c w o ≡ accepted v cs n) = judged-acc f.sf _ _ h1.1 in
+      let h2 : (judge f c ≡ Ok tt) × (before c w o ≡ accepted v cs n) = judged-acc f.sf _ _ h1.1 in
       let h3 : (ds : List ℕ) × (m : ℕ) × (o ≡ accepted v ds m) × (cs ≡ c ∷ ds) × (n ≡ w + m) = before_acc c w o h2.1 in
       let le : w ≤ length bits = leb-true _ _ h1.0 in
       let ih : (write_l (next c) h3.0 ≡ written (take h3.1 (drop w bits))) × (h3.1 ≤ length (drop w bits))
@@ -122,7 +121,7 @@ module _ {A : Type 0} where
   read-write (field f next) (c ∷ cs) bs e =
       let w : ℕ = f.width in
       let o : Written = write_l (next c) cs in
-      let h1 : (judge f c ≡ Taken) × (fitting f.sf (ltb c (2 ^ w)) (behind (bits_of w c) o) ≡ written bs) = judged_w-acc f.sf _ _ e in
+      let h1 : (judge f c ≡ Ok tt) × (fitting f.sf (ltb c (2 ^ w)) (behind (bits_of w c) o) ≡ written bs) = judged_w-acc f.sf _ _ e in
       let h2 : (ltb c (2 ^ w) ≡ true) × (behind (bits_of w c) o ≡ written bs) = fitting-acc f.sf _ _ h1.1 in
       let h3 : (q : List ℕ) × (o ≡ written q) × (bs ≡ bits_of w c ++ q) = behind-acc (bits_of w c) o h2.1 in
       let fits : c < 2 ^ w = ltb-true _ _ h2.0 in

@@ -1,6 +1,6 @@
 -- Serves proofs, and is proved: reading by a layout as a loop over a machine does it, with a position, a place in the sheet and the sheet handed on.
 -- What it comes to is what `read_l` says.
-use Rattle.std.specs.Prelude.{◌≡◌, Bool, true, false, List, eqb, ltb, leb, length, take, drop, set}
+use Rattle.std.specs.Prelude.{◌≡◌, Bool, true, false, List, eqb, ltb, leb, length, take, drop, set, Ok, Err}
 use Rattle.std.proofs.Math.Path.{refl, ap, sym}
 use Rattle.std.proofs.Common.{◌∙◌, add-one, arith, le-leb, ltb-false, eqb-true}
 use Prim.Native.Nat.{ℕ, suc, ◌+◌, ◌^◌, ◌≤◌, ◌<◌}
@@ -14,8 +14,7 @@ use Rattle.answer.specs.Place.{fault_at, further}
 use Rattle.answer.specs.Further.{further-twice, further-here}
 use Rattle.bits.specs.Bits.{number}
 use Rattle.layout.specs.declared.Field.{Field}
-use Rattle.layout.specs.declared.Verdict.{Verdict}
-use Rattle.layout.specs.declared.Verdict.TheVariants.{Taken, Fault}
+use Rattle.layout.specs.Results.{Verdict}
 use Rattle.layout.specs.Layout.{Layout, done, field, pick, judge, Outcome, accepted, refused, enough, judged, before, read_l}
 use Rattle.layout.specs.Walks.{Fine, Walks, ends, goes}
 
@@ -25,8 +24,8 @@ pub data Ended : Type 0 where
   stopped : (why : answer.Fault) → Ended
 
 abbrev pub judged_e : (sf place : ℕ) → Verdict → Ended → Ended
-judged_e sf place Taken e = e
-judged_e sf place (Fault why) e = stopped (fault_at why sf place)
+judged_e sf place (Ok _) e = e
+judged_e sf place (Err why) e = stopped (fault_at why sf place)
 
 unfoldable pub run_l : {A : Type 0} → Layout A → (bits : List ℕ) (pos at : ℕ) (sheet : List ℕ) → Ended
 run_l (done v) bits pos at sheet = finished at pos sheet
@@ -52,8 +51,8 @@ module _ {A : Type 0} where
 
   ended-judged : (sf : ℕ) (v : Verdict) (o : Outcome A) (pos at : ℕ) (sheet : List ℕ)
       → judged_e sf pos v (ended_of o pos at sheet) ≡ ended_of (judged sf v o) pos at sheet
-  ended-judged sf Taken o pos at sheet = refl
-  ended-judged sf (Fault why) o pos at sheet = ap stopped (sym (further-here pos why sf))
+  ended-judged sf (Ok _) o pos at sheet = refl
+  ended-judged sf (Err why) o pos at sheet = ap stopped (sym (further-here pos why sf))
 
   ended-enough : (sf : ℕ) (b : Bool) (o : Outcome A) (pos at : ℕ) (sheet : List ℕ)
       → pick b (ended_of o pos at sheet) (stopped (fault_at refusal.Short sf pos)) ≡ ended_of (enough sf b o) pos at sheet
@@ -79,18 +78,18 @@ pub data Takes (f : Field) (c : ℕ) : Type 0 where
   extra : c ≡ f.extra → Takes f c
   range : c ≤ f.most → Takes f c
 
-pub taken-within : (f : Field) (c : ℕ) → judge f c ≡ Taken → Takes f c
+pub taken-within : (f : Field) (c : ℕ) → judge f c ≡ Ok tt → Takes f c
 unfolding judge
 taken-within f c e = go (eqb c f.extra) (ltb c f.least) (ltb f.most c) refl refl e
   where
     go : (x y z : Bool) → eqb c f.extra ≡ x → ltb f.most c ≡ z
-        → pick x Taken (pick y (Fault f.under) (pick z (Fault f.over) (pick (eqb c f.except) (Fault refusal.Field) Taken))) ≡ Taken → Takes f c
+        → ◌≡◌ {A = Verdict} (pick x (Ok tt) (pick y (Err f.under) (pick z (Err f.over) (pick (eqb c f.except) (Err refusal.Field) (Ok tt))))) (Ok tt) → Takes f c
     go true y z p r e = extra (eqb-true c f.extra p)
     go false true z p r e = let x : ◌≡◌ {A = ℕ} 0 1 = cc in absurd (omega arith)
     go false false true p r e = let x : ◌≡◌ {A = ℕ} 0 1 = cc in absurd (omega arith)
     go false false false p r e = range (ltb-false f.most c r)
 
-pub taken-fits : {f : Field} {c : ℕ} → Fine f → judge f c ≡ Taken → c < 2 ^ f.width
+pub taken-fits : {f : Field} {c : ℕ} → Fine f → judge f c ≡ Ok tt → c < 2 ^ f.width
 taken-fits {f} {c} h e = go (taken-within f c e)
   where
     go : Takes f c → c < 2 ^ f.width
@@ -98,7 +97,7 @@ taken-fits {f} {c} h e = go (taken-within f c e)
     go (range p) = omega (arith, h.most)
 
 -- where `extra` is the highest code
-pub taken-most : (f : Field) (c : ℕ) → f.most ≤ f.extra → judge f c ≡ Taken → c ≤ f.extra
+pub taken-most : (f : Field) (c : ℕ) → f.most ≤ f.extra → judge f c ≡ Ok tt → c ≤ f.extra
 taken-most f c h e = go (taken-within f c e)
   where
     go : Takes f c → c ≤ f.extra
@@ -128,18 +127,18 @@ module _ {S A : Type 0} {field_of : S → Field} {step_of : S → ℕ → S} (bi
       rw (lt-leb f.width (length bits) (omega arith)) (ap (λ (x : Field). stopped (fault_at refusal.Short x.sf pos)) (sym e))
 
   pub run-fault : {s : S} {l : Layout A} (c : ℕ) (why : Refusal) → Walks field_of step_of s l → 0 < (field_of s).width → (field_of s).width ≤ length bits
-      → c ≡ number (take (field_of s).width bits) → judge (field_of s) c ≡ Fault why
+      → c ≡ number (take (field_of s).width bits) → judge (field_of s) c ≡ Err why
       → run_l l bits pos at sheet ≡ stopped (fault_at why (field_of s).sf pos)
   unfolding run_l
   run-fault c why (ends e) z h n j = absurd (omega arith)
   run-fault {s} c why (goes {f} e i rest) z h n j =
       let same : (field_of s).width ≡ f.width = ap (λ (x : Field). x.width) e in
       let m : number (take f.width bits) ≡ c = ap (λ (x : ℕ). number (take x bits)) (sym same) ∙ sym n in
-      let k : judge f c ≡ Fault why = ap (λ (x : Field). judge x c) (sym e) ∙ j in
+      let k : judge f c ≡ Err why = ap (λ (x : Field). judge x c) (sym e) ∙ j in
       rw (le-leb f.width (length bits) (omega arith), m, k) (ap (λ (x : Field). stopped (fault_at why x.sf pos)) (sym e))
 
   pub run_on : {s : S} {l : Layout A} (c : ℕ) → Walks field_of step_of s l → 0 < (field_of s).width → (field_of s).width ≤ length bits
-      → c ≡ number (take (field_of s).width bits) → judge (field_of s) c ≡ Taken
+      → c ≡ number (take (field_of s).width bits) → judge (field_of s) c ≡ Ok tt
       → On field_of step_of (step_of s c) (run_l l bits pos at sheet)
       (λ (next : Layout A). run_l next (drop (field_of s).width bits) (pos + (field_of s).width) (at + 1) (set sheet at c))
   unfolding run_l
@@ -147,7 +146,7 @@ module _ {S A : Type 0} {field_of : S → Field} {step_of : S → ℕ → S} (bi
   run_on {s} c (goes {f} {next} e i rest) z h n j =
       let same : (field_of s).width ≡ f.width = ap (λ (x : Field). x.width) e in
       let m : number (take f.width bits) ≡ c = ap (λ (x : ℕ). number (take x bits)) (sym same) ∙ sym n in
-      let k : judge f c ≡ Taken = ap (λ (x : Field). judge x c) (sym e) ∙ j in
+      let k : judge f c ≡ Ok tt = ap (λ (x : Field). judge x c) (sym e) ∙ j in
       record {
         left = next c;
         walks = rest c (taken-fits i k);

@@ -24,11 +24,7 @@ pub struct Field {
 }
 
 // What a field says of a code.
-#[derive(Clone, Copy)]
-pub enum Verdict {
-    Taken,
-    Fault(Refusal),
-}
+pub type Verdict = Result<(), Refusal>;
 
 // A field that takes 0 to `most`.
 pub fn up_to(sf: u64, width: u32, most: u64) -> Field
@@ -51,18 +47,18 @@ pub fn judge(field: Field, code: u64) -> Verdict
     ensures { result ≡ judge field code }
 {
     if code == field.extra {
-        return Verdict::Taken;
+        return Ok(());
     }
     if code < field.least {
         let under = field.under;
-        return Verdict::Fault(under);
+        return Err(under);
     }
     if field.most < code {
         let over = field.over;
-        return Verdict::Fault(over);
+        return Err(over);
     }
     if code == field.except {
-        return Verdict::Fault(Refusal::Field);
+        return Err(Refusal::Field);
     }
-    Verdict::Taken
+    Ok(())
 }

@@ -5,9 +5,9 @@ use Rattle.layout.specs.declared.Field.{Field}
 use Rattle.message.specs.Machine.{field_of, start_of, step_of}
 use Rattle.message.specs.Messages.{constellation_for}
 use Rattle.message.specs.Rows.{last_of, row_of}
-use Rattle.message.specs.declared.Start.{Start}
+use Rattle.message.specs.Results.{Start}
 use Rattle.message.specs.declared.State.{State}
-use Rattle.message.specs.declared.Subtype.{Subtype}
+use Rattle.message.specs.Results.{Subtype}
 use Rattle.rows.specs.declared.Row.{Row}
 use Rattle.std.proofs.Common.{◌∙◌, sym}
 

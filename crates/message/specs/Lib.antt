@@ -1,3 +1,4 @@
+pub mod Results
 pub mod Messages
 pub mod Machine
 pub mod Determined

@@ -1,5 +1,5 @@
 -- Mirror: the machine of lib.rt over all twelve payloads. It serves proofs, and it is proved that from its start it walks the payload's layout.
-use Rattle.std.specs.Prelude.{◌≡◌, refl, Bool, true, false, ℕ, eqb}
+use Rattle.std.specs.Prelude.{◌≡◌, refl, Bool, true, false, ℕ, eqb, Some, None}
 use Rattle.std.proofs.Common.{ap, sym, ◌∙◌, subst, arith}
 use Rattle.layout.specs.declared.Field.{Field}
 use Rattle.layout.specs.Layout.{Layout, done, pick}
@@ -9,10 +9,8 @@ use Rattle.codes.specs.declared.Constellation.{Constellation}
 use Rattle.codes.specs.declared.Constellation.TheVariants.{Gps, Glonass, Galileo, BeiDou, Qzss}
 use Rattle.message.specs.declared.State.{State}
 use Rattle.message.specs.declared.State.TheVariants.{Ocb, Hpac, Gad, Bpac}
-use Rattle.message.specs.declared.Start.{Start}
-use Rattle.message.specs.declared.Start.TheVariants as start
-use Rattle.message.specs.declared.Subtype.{Subtype}
-use Rattle.message.specs.declared.Subtype.TheVariants as sub
+use Rattle.message.specs.Results.{Start}
+use Rattle.message.specs.Results.{Subtype}
 use Rattle.ocb.specs.declared.State.TheVariants as ocb
 use Rattle.hpac.specs.declared.State.TheVariants as hpac
 use Rattle.gad.specs.declared.State.TheVariants as gad
@@ -38,18 +36,18 @@ step_of (Bpac s) c = Bpac (bpac_step s c)
 -- ---- where a payload starts
 
 abbrev pub ocb_start : Subtype → Start
-ocb_start (sub.Known c) = start.Known (Ocb (ocb.Siou c))
-ocb_start sub.Unknown = start.Unknown
+ocb_start (Some c) = Some (Ocb (ocb.Siou c))
+ocb_start None = None
 
 abbrev pub hpac_start : Subtype → Start
-hpac_start (sub.Known c) = start.Known (Hpac (hpac.Siou c))
-hpac_start sub.Unknown = start.Unknown
+hpac_start (Some c) = Some (Hpac (hpac.Siou c))
+hpac_start None = None
 
 abbrev pub gad_start : ℕ → Start
-gad_start subtype = pick (eqb subtype 0) (start.Known (Gad gad.Siou)) start.Unknown
+gad_start subtype = pick (eqb subtype 0) (Some (Gad gad.Siou)) None
 
 abbrev pub bpac_start : ℕ → Start
-bpac_start subtype = pick (eqb subtype 0) (start.Known (Bpac bpac.Siou)) start.Unknown
+bpac_start subtype = pick (eqb subtype 0) (Some (Bpac bpac.Siou)) None
 
 abbrev pub start_of : (kind subtype : ℕ) → Start
 start_of kind subtype =
@@ -57,7 +55,7 @@ start_of kind subtype =
     pick (eqb kind 1) (hpac_start (constellation_for subtype)) (
     pick (eqb kind 2) (gad_start subtype) (
     pick (eqb kind 3) (bpac_start subtype)
-    start.Unknown)))
+    None)))
 
 -- ---- an arm of the code's `match` on a subtype's constellation
 
@@ -67,8 +65,8 @@ start-arm f p q h = h ∙ ap f (sym q ∙ p)
 -- ---- the machine walks the layouts
 
 pub data Starts : Start → Part (Layout Message) → Type 0 where
-  known : {s : State} {l : Layout Message} → Walks field_of step_of s l → Starts (start.Known s) (present l)
-  unknown : Starts start.Unknown absent
+  known : {s : State} {l : Layout Message} → Walks field_of step_of s l → Starts (Some s) (present l)
+  unknown : Starts None absent
 
 walks-ocb : (c : Constellation) → Walks field_of step_of (Ocb (ocb.Siou c)) (ocb_layout c)
 walks-ocb c = walks-within Ocb (λ s. refl) (λ s c. refl) (leads-ocb c (λ body. done (ocb_message c body)) (λ body. ends refl))
@@ -82,13 +80,13 @@ walks-gad = walks-within Gad (λ s. refl) (λ s c. refl) (leads-gad (λ body. do
 walks-bpac : Walks field_of step_of (Bpac bpac.Siou) bpac_layout
 walks-bpac = walks-within Bpac (λ s. refl) (λ s c. refl) (leads-bpac (λ body. done (bpac_message body)) (λ body. ends refl))
 
-starts_by : (f : Subtype → Start) (l : Constellation → Layout Message) → ((c : Constellation) → Starts (f (sub.Known c)) (present (l c)))
-    → Starts (f sub.Unknown) absent → (subtype : ℕ) → Starts (f (constellation_for subtype)) (by_constellation l (constellation_of subtype))
+starts_by : (f : Subtype → Start) (l : Constellation → Layout Message) → ((c : Constellation) → Starts (f (Some c)) (present (l c)))
+    → Starts (f None) absent → (subtype : ℕ) → Starts (f (constellation_for subtype)) (by_constellation l (constellation_of subtype))
 starts_by f l there none subtype = go (eqb subtype 0) (eqb subtype 1) (eqb subtype 2) (eqb subtype 3) (eqb subtype 4)
   where
     go : (a b c d e : Bool)
         → Starts
-        (f (pick a (sub.Known Gps) (pick b (sub.Known Glonass) (pick c (sub.Known Galileo) (pick d (sub.Known BeiDou) (pick e (sub.Known Qzss) sub.Unknown))))))
+        (f (pick a (Some Gps) (pick b (Some Glonass) (pick c (Some Galileo) (pick d (Some BeiDou) (pick e (Some Qzss) None))))))
         (by_constellation l (pick a (present Gps) (pick b (present Glonass) (pick c (present Galileo) (pick d (present BeiDou) (pick e (present Qzss) absent))))))
     go true b c d e = there Gps
     go false true c d e = there Glonass
@@ -112,20 +110,20 @@ starts kind subtype =
 
 -- ---- the same, from what `start_of` gave
 
-starts-known : {x : Start} {p : Part (Layout Message)} (s : State) → Starts x p → x ≡ start.Known s
+starts-known : {x : Start} {p : Part (Layout Message)} (s : State) → Starts x p → x ≡ Some s
     → (l : Layout Message) × (p ≡ present l) × Walks field_of step_of s l
 starts-known s (known {s = t} {l} w) e =
     let same : t ≡ s = cc in
     (l, refl, subst (λ x. Walks field_of step_of x l) same w)
 starts-known s unknown e = let z : ◌≡◌ {A = ℕ} 0 1 = cc in absurd (omega arith)
 
-starts-unknown : {x : Start} {p : Part (Layout Message)} → Starts x p → x ≡ start.Unknown → p ≡ absent
+starts-unknown : {x : Start} {p : Part (Layout Message)} → Starts x p → x ≡ None → p ≡ absent
 starts-unknown (known w) e = let z : ◌≡◌ {A = ℕ} 0 1 = cc in absurd (omega arith)
 starts-unknown unknown e = refl
 
-pub start-known : (kind subtype : ℕ) (s : State) → start_of kind subtype ≡ start.Known s
+pub start-known : (kind subtype : ℕ) (s : State) → start_of kind subtype ≡ Some s
     → (l : Layout Message) × (layout_for kind subtype ≡ present l) × Walks field_of step_of s l
 start-known kind subtype s e = starts-known s (starts kind subtype) e
 
-pub start-unknown : (kind subtype : ℕ) → start_of kind subtype ≡ start.Unknown → layout_for kind subtype ≡ absent
+pub start-unknown : (kind subtype : ℕ) → start_of kind subtype ≡ None → layout_for kind subtype ≡ absent
 start-unknown kind subtype e = starts-unknown (starts kind subtype) e

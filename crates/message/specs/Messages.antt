@@ -1,5 +1,5 @@
 -- Definitions to believe: the twelve payloads, OCB 0-0 to 0-4, HPAC 1-0 to 1-4, GAD 2-0 and BPAC 3-0.
-use Rattle.std.specs.Prelude.{ℕ, eqb}
+use Rattle.std.specs.Prelude.{ℕ, eqb, Some, None}
 use Rattle.layout.specs.Layout.{Layout, done, pick}
 use Rattle.layout.specs.Parts.{Part, absent, present}
 use Rattle.codes.specs.declared.Constellation.{Constellation}
@@ -8,8 +8,7 @@ use Rattle.ocb.specs.Ocb as ocb
 use Rattle.hpac.specs.Hpac as hpac
 use Rattle.gad.specs.Gad as gad
 use Rattle.bpac.specs.Bpac as bpac
-use Rattle.message.specs.declared.Subtype.{Subtype}
-use Rattle.message.specs.declared.Subtype.TheVariants as sub
+use Rattle.message.specs.Results.{Subtype}
 
 -- what the log and the views take from a payload. Every code of it, the reserved bit, SF008 and the size codes of masks too, is on the sheet.
 pub data Message : Type 0 where
@@ -43,12 +42,12 @@ constellation_of subtype =
 -- the same, as what `constellation_of` hands out
 abbrev pub constellation_for : ℕ → Subtype
 constellation_for subtype =
-    pick (eqb subtype 0) (sub.Known Gps) (
-    pick (eqb subtype 1) (sub.Known Glonass) (
-    pick (eqb subtype 2) (sub.Known Galileo) (
-    pick (eqb subtype 3) (sub.Known BeiDou) (
-    pick (eqb subtype 4) (sub.Known Qzss)
-    sub.Unknown))))
+    pick (eqb subtype 0) (Some Gps) (
+    pick (eqb subtype 1) (Some Glonass) (
+    pick (eqb subtype 2) (Some Galileo) (
+    pick (eqb subtype 3) (Some BeiDou) (
+    pick (eqb subtype 4) (Some Qzss)
+    None))))
 
 abbrev pub by_constellation : (Constellation → Layout Message) → Part Constellation → Part (Layout Message)
 by_constellation layout absent = absent

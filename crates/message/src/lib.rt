@@ -21,18 +21,10 @@ pub enum State {
 }
 
 // Where a payload of a type and subtype starts.
-#[derive(Clone, Copy)]
-pub enum Start {
-    Known(State),
-    Unknown,
-}
+pub type Start = Option<State>;
 
 // The constellation of a subtype of OCB and HPAC.
-#[derive(Clone, Copy)]
-pub enum Subtype {
-    Known(Constellation),
-    Unknown,
-}
+pub type Subtype = Option<Constellation>;
 
 // The field at hand; at the end one of no bits.
 pub fn field_of(s: State) -> Field
@@ -74,29 +66,29 @@ pub fn constellation_of(subtype: u8) -> Subtype
     ensures { result ≡ constellation_for subtype }
 {
     if subtype == 0 {
-        return Subtype::Known(Constellation::Gps);
+        return Some(Constellation::Gps);
     }
     if subtype == 1 {
-        return Subtype::Known(Constellation::Glonass);
+        return Some(Constellation::Glonass);
     }
     if subtype == 2 {
-        return Subtype::Known(Constellation::Galileo);
+        return Some(Constellation::Galileo);
     }
     if subtype == 3 {
-        return Subtype::Known(Constellation::BeiDou);
+        return Some(Constellation::BeiDou);
     }
     if subtype == 4 {
-        return Subtype::Known(Constellation::Qzss);
+        return Some(Constellation::Qzss);
     }
-    Subtype::Unknown
+    None
 }
 
 fn ocb_start(subtype: u8) -> Start
     ensures { result ≡ ocb_start (constellation_for subtype) }
 {
     match constellation_of(subtype) {
-        Subtype::Known(constellation) => Start::Known(State::Ocb(ocb::State::Siou(constellation))),
-        Subtype::Unknown => Start::Unknown,
+        Some(constellation) => Some(State::Ocb(ocb::State::Siou(constellation))),
+        None => None,
     }
 }
 
@@ -104,10 +96,10 @@ fn hpac_start(subtype: u8) -> Start
     ensures { result ≡ hpac_start (constellation_for subtype) }
 {
     match constellation_of(subtype) {
-        Subtype::Known(constellation) => Start::Known(State::Hpac(hpac::State::Siou(
+        Some(constellation) => Some(State::Hpac(hpac::State::Siou(
             constellation,
         ))),
-        Subtype::Unknown => Start::Unknown,
+        None => None,
     }
 }
 
@@ -115,18 +107,18 @@ fn gad_start(subtype: u8) -> Start
     ensures { result ≡ gad_start subtype }
 {
     if subtype == 0 {
-        return Start::Known(State::Gad(gad::State::Siou));
+        return Some(State::Gad(gad::State::Siou));
     }
-    Start::Unknown
+    None
 }
 
 fn bpac_start(subtype: u8) -> Start
     ensures { result ≡ bpac_start subtype }
 {
     if subtype == 0 {
-        return Start::Known(State::Bpac(bpac::State::Siou));
+        return Some(State::Bpac(bpac::State::Siou));
     }
-    Start::Unknown
+    None
 }
 
 // The start of a payload by its type (TF002) and subtype (TF007); none is UNKNOWN_TYPE.
@@ -145,5 +137,5 @@ pub fn start_of(kind: u8, subtype: u8) -> Start
     if kind == 3 {
         return bpac_start(subtype);
     }
-    Start::Unknown
+    None
 }

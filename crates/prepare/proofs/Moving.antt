@@ -1,4 +1,5 @@
 -- Serves proofs, and is proved: what call and finish return, in plain variables. Assumes nothing.
+use Rattle.std.specs.Prelude.{Ok, Err}
 use mathlib.Core.Path.{◌≡◌, refl, sym, ap, ap₂, ◌∙◌, subst}
 use mathlib.Core.Bool.{Bool, true, false, cond, not, ◌||◌}
 use mathlib.Core.List.{List}
@@ -27,8 +28,7 @@ use Rattle.desk.specs.Take as desk
 use Rattle.desk.specs.History.{Held}
 use Rattle.prepare.specs.declared.Answer.{Answer}
 use Rattle.prepare.specs.declared.Said.TheVariants as said
-use Rattle.prepare.specs.declared.Tested.{Tested}
-use Rattle.prepare.specs.declared.Tested.TheVariants as test
+use Rattle.prepare.specs.Results.{Tested}
 use Rattle.prepare.specs.Uncut.{told_of, books_after, entries_of}
 use Rattle.prepare.specs.Prepare as prepare
 use Rattle.prepare.specs.Prepare.{Handed, books_in, hands, lacks_room, guarded, call_outcome, finish_outcome, written, results, result_of, by_call, by_finish}
@@ -142,13 +142,13 @@ moved-is handed (stream.done c) g = refl
 
 data Testing (bytes : List ℕ) (books : Held) (log : List ℕ) : Tested → Type 0 where
   no_room : lacks_room bytes books.live books.run log ≡ true
-      → Testing bytes books log (test.Failed refusal.Room)
+      → Testing bytes books log (Err refusal.Room)
   unsound : lacks_room bytes books.live books.run log ≡ false
       → desk_sound books.desk books.live books.run ≡ false
-      → Testing bytes books log (test.Failed refusal.State)
+      → Testing bytes books log (Err refusal.State)
   goes_on : lacks_room bytes books.live books.run log ≡ false
       → desk_sound books.desk books.live books.run ≡ true
-      → Testing bytes books log test.Passed
+      → Testing bytes books log (Ok tt)
 
 testing : (bytes : List ℕ) (books : Held) (log : List ℕ)
     → Testing bytes books log (tested_of bytes books log)
@@ -157,17 +157,17 @@ testing bytes books log = go (lacks_room bytes books.live books.run log) (desk_s
   where
     go : (a b : Bool) → lacks_room bytes books.live books.run log ≡ a
         → desk_sound books.desk books.live books.run ≡ b
-        → Testing bytes books log (cond a (test.Failed refusal.Room) (cond b test.Passed (test.Failed refusal.State)))
+        → Testing bytes books log (cond a (Err refusal.Room) (cond b (Ok tt) (Err refusal.State)))
     go true b p q = no_room p
     go false false p q = unsound p q
     go false true p q = goes_on p q
 
 module _ (bytes : List ℕ) (books : Held) (log : List ℕ) where
-  is-sound : Testing bytes books log test.Passed
+  is-sound : Testing bytes books log (Ok tt)
       → desk_sound books.desk books.live books.run ≡ true
   is-sound (goes_on p q) = q
 
-  has_room : Testing bytes books log test.Passed
+  has_room : Testing bytes books log (Ok tt)
       → lacks_room bytes books.live books.run log ≡ false
   has_room (goes_on p q) = p
 
@@ -175,8 +175,8 @@ neither : (a b : Bool) → (a || b) ≡ false → (a ≡ false) × (b ≡ false)
 neither false b e = (refl, e)
 neither true b e = let z : ◌≡◌ {A = ℕ} 0 1 = cc in absurd (omega arith)
 
-module _ (bytes : List ℕ) (d : Desk) (live run log : List ℕ) (e : tested_of bytes (books_in d live run) log ≡ test.Passed) where
-  passed : Testing bytes (books_in d live run) log test.Passed
+module _ (bytes : List ℕ) (d : Desk) (live run log : List ℕ) (e : tested_of bytes (books_in d live run) log ≡ Ok tt) where
+  passed : Testing bytes (books_in d live run) log (Ok tt)
   passed = subst (λ x. Testing bytes (books_in d live run) log x) e (testing bytes (books_in d live run) log)
 
   passed-sound : desk_sound d live run ≡ true
@@ -188,16 +188,16 @@ module _ (bytes : List ℕ) (d : Desk) (live run log : List ℕ) (e : tested_of 
   passed-room : desk.lacks_room live run log ≡ false
   passed-room = rooms.1
 
-pub tested-sound : (bytes : List ℕ) (d : Desk) (live run log : List ℕ) (x : Tested) → x ≡ test.Passed → x ≡ tested_of bytes (books_in d live run) log → desk_sound d live run ≡ true
+pub tested-sound : (bytes : List ℕ) (d : Desk) (live run log : List ℕ) (x : Tested) → x ≡ Ok tt → x ≡ tested_of bytes (books_in d live run) log → desk_sound d live run ≡ true
 tested-sound bytes d live run log x p e = passed-sound bytes d live run log (sym e ∙ p)
 
-pub tested-room : (bytes : List ℕ) (d : Desk) (live run log : List ℕ) (x : Tested) → x ≡ test.Passed → x ≡ tested_of bytes (books_in d live run) log → desk.lacks_room live run log ≡ false
+pub tested-room : (bytes : List ℕ) (d : Desk) (live run log : List ℕ) (x : Tested) → x ≡ Ok tt → x ≡ tested_of bytes (books_in d live run) log → desk.lacks_room live run log ≡ false
 tested-room bytes d live run log x p e = passed-room bytes d live run log (sym e ∙ p)
 
 -- what is tested has failed, or it has passed
-pub only-passed : (x : Tested) → ((why : Refusal) → x ≡ test.Failed why → ⊥) → x ≡ test.Passed
-only-passed test.Passed n = refl
-only-passed (test.Failed why) n = absurd (n why refl)
+pub only-passed : (x : Tested) → ((why : Refusal) → x ≡ Err why → ⊥) → x ≡ Ok tt
+only-passed (Ok _) n = refl
+only-passed (Err why) n = absurd (n why refl)
 
 -- ---- the answer and every lent byte, of a step that ROOM and STATE guard
 
@@ -206,13 +206,13 @@ module _ (bytes : List ℕ) (tray : Tray) (d : Desk) (live run log : List ℕ) (
   handed = hands bytes tray d live run log second
 
   left-failed : (r : Answer) (why : Refusal) → r ≡ record { said = said.Refused why; used = 0; log = 0; tray = tray; desk = d }
-      → (x : Tested) → x ≡ test.Failed why → x ≡ tested_of bytes (books_in d live run) log
+      → (x : Tested) → x ≡ Err why → x ≡ tested_of bytes (books_in d live run) log
       → results r bytes live run log ≡ result_of handed (guarded handed o)
   left-failed r why k x p e =
       ap (λ r. results r bytes live run log) k
-      ∙ go (test.Failed why) (subst (λ x. Testing bytes (books_in d live run) log x) (sym e ∙ p) (testing bytes (books_in d live run) log)) refl
+      ∙ go (Err why) (subst (λ x. Testing bytes (books_in d live run) log x) (sym e ∙ p) (testing bytes (books_in d live run) log)) refl
     where
-      go : (t : Tested) → Testing bytes (books_in d live run) log t → test.Failed why ≡ t
+      go : (t : Tested) → Testing bytes (books_in d live run) log t → Err why ≡ t
           → results (record { said = said.Refused why; used = 0; log = 0; tray = tray; desk = d }) bytes live run log
           ≡ result_of handed (guarded handed o)
       go t (no_room a) q = let z : why ≡ refusal.Room = cc in rw (z, a)
@@ -221,7 +221,7 @@ module _ (bytes : List ℕ) (tray : Tray) (d : Desk) (live run log : List ℕ) (
 
   left_passed : Steps bytes tray o → (r : Answer) (bytes' live' run' log' : List ℕ)
       → results r bytes' live' run' log' ≡ result_of handed o
-      → (x : Tested) → x ≡ test.Passed → x ≡ tested_of bytes (books_in d live run) log
+      → (x : Tested) → x ≡ Ok tt → x ≡ tested_of bytes (books_in d live run) log
       → results r bytes' live' run' log' ≡ result_of handed (guarded handed o)
   left_passed w r bytes' live' run' log' l x p e = l ∙ ap (result_of handed) (sym step_is)
     where
@@ -247,7 +247,7 @@ module _ (bytes : List ℕ) (tray : Tray) (d : Desk) (live run log : List ℕ) (
 
 module _ (bytes : List ℕ) (tray : Tray) (d : Desk) (live run log input : List ℕ) (second : ℕ) where
   pub call-failed : (r : Answer) (why : Refusal) → r ≡ record { said = said.Refused why; used = 0; log = 0; tray = tray; desk = d }
-      → (x : Tested) → x ≡ test.Failed why → x ≡ tested_of bytes (books_in d live run) log
+      → (x : Tested) → x ≡ Err why → x ≡ tested_of bytes (books_in d live run) log
       → results r bytes live run log ≡ by_call (hands bytes tray d live run log second) input
   unfolding call_outcome
   call-failed = left-failed bytes tray d live run log second (stream.called bytes tray input)
@@ -255,7 +255,7 @@ module _ (bytes : List ℕ) (tray : Tray) (d : Desk) (live run log input : List 
   call-passed : (r : Answer) (bytes' live' run' log' : List ℕ)
       → results r bytes' live' run' log'
       ≡ result_of (hands bytes tray d live run log second) (stream.called bytes tray input)
-      → (x : Tested) → x ≡ test.Passed → x ≡ tested_of bytes (books_in d live run) log
+      → (x : Tested) → x ≡ Ok tt → x ≡ tested_of bytes (books_in d live run) log
       → results r bytes' live' run' log' ≡ by_call (hands bytes tray d live run log second) input
   unfolding call_outcome
   call-passed = left_passed bytes tray d live run log second (stream.called bytes tray input) (call-steps bytes tray input)
@@ -270,7 +270,7 @@ module _ (bytes : List ℕ) (tray : Tray) (d : Desk) (live run log input : List 
   pub call-moved : (r : Answer) (bytes' live' run' log' : List ℕ) (heard : stream-answer.Answer)
       → results r bytes' live' run' log' ≡ moved (books_in d live run) second heard heard.said bytes' log
       → heard ≡ stream.call_answer bytes tray input → bytes' ≡ stream.call_bytes bytes tray input
-      → (x : Tested) → x ≡ test.Passed → x ≡ tested_of bytes (books_in d live run) log
+      → (x : Tested) → x ≡ Ok tt → x ≡ tested_of bytes (books_in d live run) log
       → results r bytes' live' run' log' ≡ by_call (hands bytes tray d live run log second) input
   call-moved r bytes' live' run' log' heard m a y = call-passed r bytes' live' run' log' (call-heard r bytes' live' run' log' heard m a y)
 
@@ -278,7 +278,7 @@ module _ (bytes : List ℕ) (tray : Tray) (d : Desk) (live run log input : List 
 
 module _ (bytes : List ℕ) (tray : Tray) (d : Desk) (live run log : List ℕ) (second : ℕ) where
   pub finish-failed : (r : Answer) (why : Refusal) → r ≡ record { said = said.Refused why; used = 0; log = 0; tray = tray; desk = d }
-      → (x : Tested) → x ≡ test.Failed why → x ≡ tested_of bytes (books_in d live run) log
+      → (x : Tested) → x ≡ Err why → x ≡ tested_of bytes (books_in d live run) log
       → results r bytes live run log ≡ by_finish (hands bytes tray d live run log second)
   unfolding finish_outcome
   finish-failed = left-failed bytes tray d live run log second (stream.finished bytes tray)
@@ -286,7 +286,7 @@ module _ (bytes : List ℕ) (tray : Tray) (d : Desk) (live run log : List ℕ) (
   finish-passed : (r : Answer) (bytes' live' run' log' : List ℕ)
       → results r bytes' live' run' log'
       ≡ result_of (hands bytes tray d live run log second) (stream.finished bytes tray)
-      → (x : Tested) → x ≡ test.Passed → x ≡ tested_of bytes (books_in d live run) log
+      → (x : Tested) → x ≡ Ok tt → x ≡ tested_of bytes (books_in d live run) log
       → results r bytes' live' run' log' ≡ by_finish (hands bytes tray d live run log second)
   unfolding finish_outcome
   finish-passed = left_passed bytes tray d live run log second (stream.finished bytes tray) (finish-steps bytes tray)
@@ -301,6 +301,6 @@ module _ (bytes : List ℕ) (tray : Tray) (d : Desk) (live run log : List ℕ) (
   pub finish-moved : (r : Answer) (bytes' live' run' log' : List ℕ) (heard : stream-answer.Answer)
       → results r bytes' live' run' log' ≡ moved (books_in d live run) second heard heard.said bytes' log
       → heard ≡ stream.finish_answer bytes tray → bytes' ≡ stream.finish_bytes bytes tray
-      → (x : Tested) → x ≡ test.Passed → x ≡ tested_of bytes (books_in d live run) log
+      → (x : Tested) → x ≡ Ok tt → x ≡ tested_of bytes (books_in d live run) log
       → results r bytes' live' run' log' ≡ by_finish (hands bytes tray d live run log second)
   finish-moved r bytes' live' run' log' heard m a y = finish-passed r bytes' live' run' log' (finish-heard r bytes' live' run' log' heard m a y)

@@ -1,4 +1,5 @@
 -- Serves proofs, and is proved: what lacks_room, answered, give and step return, in plain variables. Assumes nothing.
+use Rattle.std.specs.Prelude.{Ok, Err}
 use mathlib.Core.Path.{◌≡◌, refl, sym, ap, ap₂, ◌∙◌, subst}
 use mathlib.Core.Bool.{Bool, true, false, not}
 use mathlib.Core.List.{List, [], ◌∷◌}
@@ -23,7 +24,6 @@ use Rattle.stream.specs.declared.Answer as stream-answer
 use Rattle.groups.specs.Groups.{groups_of_all}
 use Rattle.desk.specs.declared.Desk.{Desk}
 use Rattle.desk.specs.declared.Taken.{Taken}
-use Rattle.desk.specs.declared.Said.TheVariants as says
 use Rattle.desk.specs.Desk.{desk_sound}
 use Rattle.desk.specs.Take as desk
 use Rattle.desk.specs.History.{Held, handled_at, held_by}
@@ -32,7 +32,6 @@ use Rattle.prepare.specs.declared.Said.{Said}
 use Rattle.prepare.specs.declared.Said.TheVariants as said
 use Rattle.answer.specs.declared.Fault.{Fault}
 use Rattle.answer.specs.declared.Refusal.TheVariants as refusal
-use Rattle.prepare.specs.declared.Tested.TheVariants as test
 use Rattle.prepare.specs.Uncut.{Told, verdict_on, told_by, entries_of}
 use Rattle.prepare.specs.Prepare.{lacks_room, books_in, said_of, written, Result, results}
 use Rattle.prepare.specs.Moves.{tested_of, taken, untaken, moved, passed_on, Lies}
@@ -62,14 +61,14 @@ module _ (bytes live run log : List ℕ) where
 
 module _ (bytes live run log : List ℕ) (d : Desk) (a : Bool) where
   pub failed-room : a ≡ true → a ≡ lacks_room bytes live run log
-      → test.Failed refusal.Room ≡ tested_of bytes (books_in d live run) log
+      → Err refusal.Room ≡ tested_of bytes (books_in d live run) log
   unfolding tested_of
   failed-room p e = let z : lacks_room bytes live run log ≡ true = sym e ∙ p in rw z
 
   module _ (b : Bool) where
     pub failed-state : not b ≡ true → b ≡ desk_sound d live run → a ≡ false
         → a ≡ lacks_room bytes live run log
-        → test.Failed refusal.State ≡ tested_of bytes (books_in d live run) log
+        → Err refusal.State ≡ tested_of bytes (books_in d live run) log
     unfolding tested_of
     failed-state q f p e =
         let z : lacks_room bytes live run log ≡ false = sym e ∙ p in
@@ -78,7 +77,7 @@ module _ (bytes live run log : List ℕ) (d : Desk) (a : Bool) where
 
     pub passed : not b ≡ false → b ≡ desk_sound d live run → a ≡ false
         → a ≡ lacks_room bytes live run log
-        → test.Passed ≡ tested_of bytes (books_in d live run) log
+        → Ok tt ≡ tested_of bytes (books_in d live run) log
     unfolding tested_of
     passed q f p e =
         let z : lacks_room bytes live run log ≡ false = sym e ∙ p in
@@ -88,12 +87,12 @@ module _ (bytes live run log : List ℕ) (d : Desk) (a : Bool) where
 -- ---- answered
 
 module _ (heard : stream-answer.Answer) (f : Frame) (t : Taken) where
-  pub answered-accepted : (log : ℕ) → t.said ≡ says.Accepted log
+  pub answered-accepted : (log : ℕ) → t.said ≡ Ok log
       → record { said = said.Accepted f; used = heard.used; log = log; tray = heard.tray; desk = t.desk }
       ≡ taken heard f t
   answered-accepted log q = rw q
 
-  pub answered-refused : (why : Fault) → t.said ≡ says.Refused why
+  pub answered-refused : (why : Fault) → t.said ≡ Err why
       → record { said = said.FrameRefused f why; used = heard.used; log = 0; tray = heard.tray; desk = t.desk }
       ≡ taken heard f t
   answered-refused why q = rw q

@@ -1,3 +1,4 @@
+pub mod Results
 pub mod Uncut
 pub mod Prepare
 pub mod Driver

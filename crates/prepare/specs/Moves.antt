@@ -1,5 +1,5 @@
 -- Mirror: what the steps of a call return, by what the stream says. Serves proofs.
-use Rattle.std.specs.Prelude.{◌≡◌, Bool, true, false, cond, List, ℕ, length, take}
+use Rattle.std.specs.Prelude.{◌≡◌, Bool, true, false, cond, List, ℕ, length, take, Ok, Err}
 use Rattle.answer.specs.declared.Refusal.TheVariants as refusal
 use Rattle.frame.specs.declared.Frame.{Frame}
 use Rattle.frame.specs.declared.Checked.TheVariants.{Accepted}
@@ -12,15 +12,13 @@ use Rattle.stream.specs.declared.Said.TheVariants as hears
 use Rattle.stream.specs.declared.Answer as stream-answer
 use Rattle.desk.specs.declared.Desk.{Desk}
 use Rattle.desk.specs.Desk.{desk_sound}
-use Rattle.desk.specs.declared.Said as desk-said
-use Rattle.desk.specs.declared.Said.TheVariants as desk
+use Rattle.desk.specs.Results as desk-said
 use Rattle.desk.specs.declared.Taken.{Taken}
 use Rattle.desk.specs.History.{Held}
 use Rattle.prepare.specs.declared.Said.{Said}
 use Rattle.prepare.specs.declared.Said.TheVariants as said
 use Rattle.prepare.specs.declared.Answer.{Answer}
-use Rattle.prepare.specs.declared.Tested.{Tested}
-use Rattle.prepare.specs.declared.Tested.TheVariants as test
+use Rattle.prepare.specs.Results.{Tested}
 use Rattle.prepare.specs.Uncut.{told_of, books_after, entries_of}
 use Rattle.prepare.specs.Prepare.{lacks_room, said_of, written, Result, results}
 
@@ -28,8 +26,8 @@ use Rattle.prepare.specs.Prepare.{lacks_room, said_of, written, Result, results}
 
 unfoldable pub tested_of : (bytes : List ℕ) → Held → (log : List ℕ) → Tested
 tested_of bytes books log =
-    cond (lacks_room bytes books.live books.run log) (test.Failed refusal.Room)
-    (cond (desk_sound books.desk books.live books.run) test.Passed (test.Failed refusal.State))
+    cond (lacks_room bytes books.live books.run log) (Err refusal.Room)
+    (cond (desk_sound books.desk books.live books.run) (Ok tt) (Err refusal.State))
 
 -- ---- the stream's step, on a portion or at its end
 
@@ -44,12 +42,12 @@ listened_bytes false bytes tray input = call_bytes bytes tray input
 -- ---- what the desk said of a frame
 
 abbrev pub said_with : Frame → desk-said.Said → Said
-said_with header (desk.Accepted log) = said.Accepted header
-said_with header (desk.Refused why) = said.FrameRefused header why
+said_with header (Ok log) = said.Accepted header
+said_with header (Err why) = said.FrameRefused header why
 
 abbrev pub log_with : desk-said.Said → ℕ
-log_with (desk.Accepted log) = log
-log_with (desk.Refused why) = 0
+log_with (Ok log) = log
+log_with (Err why) = 0
 
 abbrev pub taken : stream-answer.Answer → Frame → Taken → Answer
 taken heard header t = record { said = said_with header t.said; used = heard.used; log = log_with t.said; tray = heard.tray; desk = t.desk }

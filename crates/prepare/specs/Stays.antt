@@ -1,5 +1,5 @@
 -- Serves proofs: a sound desk with its books stays sound, event by event. Proved; assumes nothing.
-use Rattle.std.specs.Prelude.{◌≡◌, Bool, true, false, cond, List, ℕ, ◌≤◌, ltb, length, replicate}
+use Rattle.std.specs.Prelude.{◌≡◌, Bool, true, false, cond, List, ℕ, ◌≤◌, ltb, length, replicate, Ok, Err, Some, None}
 use Rattle.std.proofs.Common.{sym, ap, ◌∙◌, arith, le-ltb}
 use Rattle.std.proofs.lemmas.List.{length-replicate}
 use Rattle.area.specs.Laws.{both_right}
@@ -9,12 +9,8 @@ use Rattle.book.specs.Book.{no_book, sound}
 use Rattle.book.specs.Laws.{sound-room}
 use Rattle.answer.specs.declared.Refusal.TheVariants.{Field}
 use Rattle.message.specs.Messages.{constellation_for}
-use Rattle.message.specs.declared.Subtype.{Subtype}
-use Rattle.message.specs.declared.Subtype.TheVariants as subtype
+use Rattle.message.specs.Results.{Subtype}
 use Rattle.desk.specs.declared.Desk.{Desk}
-use Rattle.desk.specs.declared.Last.TheVariants.{Never}
-use Rattle.desk.specs.declared.Run.TheVariants.{Closed}
-use Rattle.desk.specs.declared.NewDesk.TheVariants.{Made, Refused}
 use Rattle.desk.specs.Desk.{source_in_range, made_for, new_desk}
 use Rattle.desk.specs.Take as desk
 use Rattle.desk.specs.Fits.{sound-live, sound-run}
@@ -67,13 +63,13 @@ sound-after {books} s second (frame f bytes) = verdict-sound books s second byte
 sound-after s second (noise n) = s
 
 -- a new desk has no open run
-pub new-closed : (solution processor constellation : ℕ) (made : Desk) → new_desk solution processor constellation ≡ Made made → made.run ≡ Closed
+pub new-closed : (solution processor constellation : ℕ) (made : Desk) → new_desk solution processor constellation ≡ Ok made → made.run ≡ None
 unfolding new_desk
 new-closed solution processor constellation made e = go (source_in_range solution processor) (constellation_for constellation) e
   where
-    go : (b : Bool) (t : Subtype) → cond b (made_for solution processor t) (Refused Field) ≡ Made made → made.run ≡ Closed
+    go : (b : Bool) (t : Subtype) → cond b (made_for solution processor t) (Err Field) ≡ Ok made → made.run ≡ None
     go false t e = let z : ◌≡◌ {A = ℕ} 0 1 = cc in absurd (omega arith)
-    go true subtype.Unknown e = let z : ◌≡◌ {A = ℕ} 0 1 = cc in absurd (omega arith)
-    go true (subtype.Known c) e =
-        let m : made ≡ record { solution = solution; processor = processor; constellation = c; book = no_book; run = Closed; last = Never } = cc in
+    go true None e = let z : ◌≡◌ {A = ℕ} 0 1 = cc in absurd (omega arith)
+    go true (Some c) e =
+        let m : made ≡ record { solution = solution; processor = processor; constellation = c; book = no_book; run = None; last = None } = cc in
         ap (λ d. d.run) m

@@ -1,7 +1,7 @@
 -- The theorems of stream and desk together, worded after the demand, "for equal frames with equal seconds": "A byte stream cut into portions anywhere, some empty, gives the frames, noise counts,
 -- run log and closing state that document 01 lays down for the uncut stream. Each residual is placed by the area definition in force when its run opened."
 -- They are about the definitions that the contracts of `call` and `finish` cite. The proofs rest on Driving.antt, Placing.antt and the theorems of stream and desk.
-use Rattle.std.specs.Prelude.{◌≡◌, ℕ, ◌≤◌, length, take, drop, replicate}
+use Rattle.std.specs.Prelude.{◌≡◌, ℕ, ◌≤◌, length, take, drop, replicate, Ok, Err}
 use Rattle.std.proofs.Math.Path.{refl, ap}
 use Rattle.std.proofs.Common.{sym, ap₂, ◌∙◌, subst, arith, take_at}
 use mathlib.Core.List.{List, [], ◌∷◌, ◌++◌, append_assoc, append-nil, flatten}
@@ -19,9 +19,7 @@ use Rattle.desk.specs.Take as desk
 use Rattle.sizes.specs.Sizes.{book_bytes, log_room}
 use Rattle.desk.specs.History.{Held, Snapshot, handled_at, held_by, KeptOn}
 use Rattle.desk.specs.declared.Desk.{Desk}
-use Rattle.desk.specs.declared.NewDesk.TheVariants.{Made}
-use Rattle.desk.specs.declared.Said.{Said}
-use Rattle.desk.specs.declared.Said.TheVariants as said
+use Rattle.desk.specs.Results.{Said}
 use Rattle.desk.specs.Desk.{new_desk}
 use Rattle.desk.specs.Theorems.{new-sound, closed-kept}
 use Rattle.prepare.specs.Uncut.{Told, accepted, refused, verdict_on, told_by, told_of, books_after, Seconds, Alike, told_all, books_all, entries_of, run_log, uncut_told, uncut_log, uncut_books}
@@ -194,7 +192,7 @@ pub stays-sound : {bytes : List ℕ} {books : Held} → streaming.Clear bytes �
 stays-sound clear sound f = let r = feeds-ready f (ready clear sound) in (r.tray-ready, r.books-sound)
 
 -- A fresh desk may start: a new one, with any bytes that have room for its books.
-module _ (solution processor constellation : ℕ) (desk : Desk) (e : new_desk solution processor constellation ≡ Made desk) (live run : List ℕ) where
+module _ (solution processor constellation : ℕ) (desk : Desk) (e : new_desk solution processor constellation ≡ Ok desk) (live run : List ℕ) where
   pub fresh-sound : book_bytes ≤ length live → book_bytes ≤ length run → Sound (books_in desk live run)
   fresh-sound hl hr = record { live-room = hl; run_room = hr; is-sound = new-sound solution processor constellation desk live run e hl }
 
@@ -232,8 +230,8 @@ module _ (s : State) (given : Lent) where
 -- ---- "Each frame event goes to the desk in order": the uncut stream's step is what `desk::take` says of the frame's bytes, lent any log that has room
 
 abbrev pub told_said : Frame → (bytes log : List ℕ) → Said → Told
-told_said header bytes log (said.Accepted n) = accepted header bytes (take n log)
-told_said header bytes log (said.Refused why) = refused header bytes why
+told_said header bytes log (Ok n) = accepted header bytes (take n log)
+told_said header bytes log (Err why) = refused header bytes why
 
 module _ (books : Held) (sound : Sound books) (header : Frame) (second : ℕ) (bytes log : List ℕ) (room : log_room ≤ length log) where
   abbrev handed : desk.Handed

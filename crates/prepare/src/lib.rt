@@ -72,22 +72,18 @@ fn lacks_room(bytes: &[u8], live: &[u8], run: &[u8], log: &[u8]) -> bool
 }
 
 // Whether a call may be: ROOM of every lent buffer, then STATE of the desk.
-#[derive(Clone, Copy)]
-enum Tested {
-    Passed,
-    Failed(Refusal),
-}
+type Tested = Result<(), Refusal>;
 
 fn test_lent(bytes: &[u8], desk: Desk, live: &[u8], run: &[u8], log: &[u8]) -> Tested
     ensures { result ≡ tested_of bytes.now (books_in desk live.now run.now) log.now }
 {
     if lacks_room(bytes, live, run, log) {
-        return Tested::Failed(Refusal::Room);
+        return Err(Refusal::Room);
     }
     if !desk::is_sound(desk, live, run) {
-        return Tested::Failed(Refusal::State);
+        return Err(Refusal::State);
     }
-    Tested::Passed
+    Ok(())
 }
 
 // A refusal of the call: the old states, nothing used and nothing written.
@@ -125,14 +121,14 @@ fn answered(heard: stream::Answer, header: Frame, given: desk::Taken) -> Answer
     let desk = given.desk;
     let said = given.said;
     match said {
-        desk::Said::Accepted { log } => Answer {
+        Ok(log) => Answer {
             said: Said::Accepted(header),
             used: heard.used,
             log: log,
             tray: tray,
             desk: desk,
         },
-        desk::Said::Refused(why) => Answer {
+        Err(why) => Answer {
             said: Said::FrameRefused {
                 header: header,
                 why: why,
@@ -238,7 +234,7 @@ pub fn call(
 ) -> Answer
     ensures { results result bytes.new live.new run.new log.new ≡ by_call (hands bytes.old tray desk live.old run.old log.old second) input.now }
 {
-    if let Tested::Failed(why) = test_lent(bytes, desk, live, run, log) {
+    if let Err(why) = test_lent(bytes, desk, live, run, log) {
         return refused(tray, desk, why);
     }
     let heard = listen(bytes, tray, input, false);
@@ -257,7 +253,7 @@ pub fn finish(
 ) -> Answer
     ensures { results result bytes.new live.new run.new log.new ≡ by_finish (hands bytes.old tray desk live.old run.old log.old second) }
 {
-    if let Tested::Failed(why) = test_lent(bytes, desk, live, run, log) {
+    if let Err(why) = test_lent(bytes, desk, live, run, log) {
         return refused(tray, desk, why);
     }
     let none = [0u8; 1];

@@ -1,12 +1,12 @@
 -- The returns of the code in lib.rt over plain variables: what the proofs of its functions cite.
+use Rattle.std.specs.Prelude.{None}
 use mathlib.Core.Path.{◌≡◌, ap, sym, ◌∙◌}
 use mathlib.Core.List.{List}
 use Prim.Native.Nat.{ℕ}
 use borrow.Author.Tests.{eq-eqb, ne_eqb}
-use Rattle.message.specs.declared.Subtype.{Subtype}
+use Rattle.message.specs.Results.{Subtype}
 use Rattle.message.specs.Messages.{constellation_for}
-use Rattle.quick.specs.declared.Quick.{Quick}
-use Rattle.quick.specs.declared.Quick.TheVariants.{Unknown}
+use Rattle.quick.specs.Results.{Quick}
 use Rattle.quick.specs.Gad.{gad_of}
 use Rattle.quick.specs.Bpac.{bpac_of}
 use Rattle.quick.specs.Quick.{by_ocb, by_hpac, by_gad, by_bpac, quick_of}
@@ -22,13 +22,13 @@ module _ (payload : List ℕ) {x y z : Subtype} {r : Quick} where
 pub gad-there : (subtype : ℕ) (payload : List ℕ) (r : Quick) → subtype ≡ 0 → r ≡ gad_of payload → r ≡ by_gad subtype payload
 gad-there subtype payload r h e = rw (eq-eqb subtype 0 h) e
 
-pub gad-other : (subtype : ℕ) (payload : List ℕ) → (subtype ≡ 0 → ⊥) → Unknown ≡ by_gad subtype payload
+pub gad-other : (subtype : ℕ) (payload : List ℕ) → (subtype ≡ 0 → ⊥) → None ≡ by_gad subtype payload
 gad-other subtype payload h = rw (ne_eqb subtype 0 h)
 
 pub bpac-there : (subtype : ℕ) (payload : List ℕ) (r : Quick) → subtype ≡ 0 → r ≡ bpac_of payload → r ≡ by_bpac subtype payload
 bpac-there subtype payload r h e = rw (eq-eqb subtype 0 h) e
 
-pub bpac-other : (subtype : ℕ) (payload : List ℕ) → (subtype ≡ 0 → ⊥) → Unknown ≡ by_bpac subtype payload
+pub bpac-other : (subtype : ℕ) (payload : List ℕ) → (subtype ≡ 0 → ⊥) → None ≡ by_bpac subtype payload
 bpac-other subtype payload h = rw (ne_eqb subtype 0 h)
 
 module _ (kind subtype : ℕ) (payload : List ℕ) (r : Quick) where
@@ -52,6 +52,6 @@ module _ (kind subtype : ℕ) (payload : List ℕ) (r : Quick) where
         quick-bpac h e = rw (ne_eqb kind 0 a, ne_eqb kind 1 b, ne_eqb kind 2 c, eq-eqb kind 3 h) e
 
 pub quick-other : (kind subtype : ℕ) (payload : List ℕ) → (kind ≡ 0 → ⊥) → (kind ≡ 1 → ⊥) → (kind ≡ 2 → ⊥) → (kind ≡ 3 → ⊥)
-    → Unknown ≡ quick_of kind subtype payload
+    → None ≡ quick_of kind subtype payload
 unfolding quick_of
 quick-other kind subtype payload a b c d = rw (ne_eqb kind 0 a, ne_eqb kind 1 b, ne_eqb kind 2 c, ne_eqb kind 3 d)

@@ -1,4 +1,5 @@
 -- The returns and the turns of the code in for_hpac.rt over plain variables, as it makes its tests: what the proofs of its functions cite.
+use Rattle.std.specs.Prelude.{Some, None}
 use mathlib.Core.Path.{◌≡◌, refl, ap, ap₂, sym, ◌∙◌}
 use mathlib.Core.Bool.{Bool, true, false}
 use mathlib.Core.List.{List}
@@ -19,8 +20,7 @@ use Rattle.codes.specs.declared.Constellation.{Constellation}
 use Rattle.codes.specs.Tables.{mask_size}
 use Rattle.codes.specs.Sizes.{mask_word}
 use Rattle.hpac.specs.Hpac.{troposphere_residual, ionosphere_residual}
-use Rattle.quick.specs.declared.Quick.{Quick}
-use Rattle.quick.specs.declared.Quick.TheVariants.{Reads, Unknown}
+use Rattle.quick.specs.Results.{Quick}
 use Rattle.quick.specs.declared.for_hpac.Behind.{Behind}
 use Rattle.quick.specs.Passes.{got-small}
 use Rattle.quick.specs.Hpac.{Within, within, Spans, spans, one_end, three_end, linear_end, product_end, t_polynomial_end, i_polynomial_end, coefficient_count, grid_entries, slant_end, slants_end, nowhere, satellites_behind, ionosphere_behind, t_grid_behind, troposphere_behind, ionosphere_after, area_behind, areas_behind, reads_by, hpac_quick}
@@ -408,16 +408,16 @@ module _ {constellation : Constellation} {payload : List ℕ} {n left pos entrie
 -- ---- a message
 
 module _ (bytes : ℕ) (behind : Behind) where
-  pub reads_none : behind.end ≡ 0 → Unknown ≡ reads_by bytes behind
+  pub reads_none : behind.end ≡ 0 → None ≡ reads_by bytes behind
   unfolding reads_by
   reads_none z = rw (eq-eqb behind.end 0 z)
 
   module _ (some : behind.end ≡ 0 → ⊥) where
-    pub reads_short : bytes < (behind.end + 7) / 8 → Unknown ≡ reads_by bytes behind
+    pub reads_short : bytes < (behind.end + 7) / 8 → None ≡ reads_by bytes behind
     unfolding reads_by
     reads_short h = rw (ne_eqb behind.end 0 some, lt-ltb bytes ((behind.end + 7) / 8) h)
 
-    pub reads_whole : (behind.end + 7) / 8 ≤ bytes → Reads behind.end behind.entries ≡ reads_by bytes behind
+    pub reads_whole : (behind.end + 7) / 8 ≤ bytes → Some (record { bits = behind.end; entries = behind.entries }) ≡ reads_by bytes behind
     unfolding reads_by
     reads_whole h = rw (ne_eqb behind.end 0 some, le-ltb bytes ((behind.end + 7) / 8) h)
 

@@ -1,5 +1,5 @@
 -- Mirror: behind.rt, and parts in a row. It serves proofs.
-use Rattle.std.specs.Prelude.{◌≡◌, refl, Bool, true, false, List, ℕ, zero, suc, ◌+◌, ◌-◌, ◌/◌, ◌≤◌, ◌<◌, eqb, ltb, length}
+use Rattle.std.specs.Prelude.{◌≡◌, refl, Bool, true, false, List, ℕ, zero, suc, ◌+◌, ◌-◌, ◌/◌, ◌≤◌, ◌<◌, eqb, ltb, length, Some, None}
 use Rattle.std.proofs.Math.Path.{ap, sym}
 use Rattle.std.proofs.Common.{◌∙◌}
 use native.Mathlib.Omega.{arith}
@@ -7,8 +7,7 @@ use borrow.Author.Tests.{eq-eqb, ne_eqb, lt-ltb, le-ltb}
 use Rattle.bits.specs.Bits.{got}
 use Rattle.layout.specs.Layout.{pick}
 use Rattle.layout.specs.Tests.{one_less}
-use Rattle.quick.specs.declared.Quick.{Quick}
-use Rattle.quick.specs.declared.Quick.TheVariants.{Reads, Unknown}
+use Rattle.quick.specs.Results.{Quick}
 use Rattle.quick.specs.declared.behind.Behind.{Behind}
 
 abbrev pub nowhere : Behind
@@ -34,22 +33,22 @@ without payload step width top (suc n) pos = pick (eqb (got payload pos width) t
 -- the bits to there are there
 unfoldable pub reads_to : (payload : List ℕ) → Behind → Quick
 reads_to payload b =
-    pick (eqb b.end 0) Unknown (
-    pick (ltb (length payload) ((b.end - 1) / 8 + 1)) Unknown
-    (Reads b.end b.entries))
+    pick (eqb b.end 0) None (
+    pick (ltb (length payload) ((b.end - 1) / 8 + 1)) None
+    (Some (record { bits = b.end; entries = b.entries })))
 
 -- ---- the returns of the code
 
 module _ (payload : List ℕ) (b : Behind) where
-  pub ends_nowhere : b.end ≡ 0 → Unknown ≡ reads_to payload b
+  pub ends_nowhere : b.end ≡ 0 → None ≡ reads_to payload b
   unfolding reads_to
   ends_nowhere e = rw (eq-eqb b.end 0 e)
 
-  pub ends-short : (b.end ≡ 0 → ⊥) → length payload < (b.end - 1) / 8 + 1 → Unknown ≡ reads_to payload b
+  pub ends-short : (b.end ≡ 0 → ⊥) → length payload < (b.end - 1) / 8 + 1 → None ≡ reads_to payload b
   unfolding reads_to
   ends-short n h = rw (ne_eqb b.end 0 n, lt-ltb (length payload) ((b.end - 1) / 8 + 1) h)
 
-  pub ends_there : (b.end ≡ 0 → ⊥) → (b.end - 1) / 8 + 1 ≤ length payload → Reads b.end b.entries ≡ reads_to payload b
+  pub ends_there : (b.end ≡ 0 → ⊥) → (b.end - 1) / 8 + 1 ≤ length payload → Some (record { bits = b.end; entries = b.entries }) ≡ reads_to payload b
   unfolding reads_to
   ends_there n h = rw (ne_eqb b.end 0 n, le-ltb (length payload) ((b.end - 1) / 8 + 1) h)
 

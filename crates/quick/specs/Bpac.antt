@@ -9,7 +9,7 @@ use Rattle.bits.specs.Bits.{got}
 use Rattle.layout.specs.Layout.{pick}
 use Rattle.layout.specs.Tests.{one_less}
 use Rattle.quick.specs.Passes.{got-small}
-use Rattle.quick.specs.declared.Quick.{Quick}
+use Rattle.quick.specs.Results.{Quick}
 use Rattle.quick.specs.declared.behind.Behind.{Behind}
 use Rattle.quick.specs.Behind.{nowhere, to, repeated, reads_to}
 

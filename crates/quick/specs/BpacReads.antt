@@ -1,5 +1,5 @@
 -- Serves proofs, and is proved: a BPAC that for_bpac.rt passes reads by its layout, to that bit and in so many entries.
-use Rattle.std.specs.Prelude.{◌≡◌, Bool, true, false, List, [], ◌∷◌, ◌++◌, eqb, ltb, length}
+use Rattle.std.specs.Prelude.{◌≡◌, Bool, true, false, List, [], ◌∷◌, ◌++◌, eqb, ltb, length, Some}
 use Rattle.std.proofs.Math.Path.{refl, ap₂, subst}
 use Rattle.std.proofs.Common.{ap, sym, ◌∙◌, arith, eqb-true, ltb-false, lit≤}
 use Rattle.std.proofs.lemmas.Bool.{false≢true, eqb-false}
@@ -15,7 +15,6 @@ use Rattle.bpac.specs.Bpac as bpac
 use Rattle.message.specs.Messages.{Message, bpac_message, bpac_layout}
 use Rattle.quick.specs.Passes.{Full, Has, Passes, run_from, run-field, has-full, taken-full, got-small, got-part, passes-end, passes-field, passes-with, passes-as, passes_then, times_none, times_more, passes-whole}
 use Rattle.quick.specs.Codes.{full, full-free, ranged, has-up-to}
-use Rattle.quick.specs.declared.Quick.TheVariants.{Reads}
 use Rattle.quick.specs.declared.behind.Behind.{Behind}
 use Rattle.quick.specs.Behind.{repeated}
 use Rattle.quick.specs.Passed.{Passed, Some, some_after, passed-if, passed-after, passes-from, passes-wide, has-wide, has-below, reads_whole}
@@ -261,7 +260,7 @@ module _ {A : Type 0} (payload : List ℕ) where
             (passes-with (λ areas. record { siou = got payload 0 9; height = got payload 10 2; areas = areas }) areas))));
       }
 
-pub bpac-reads : (payload : List ℕ) (bits entries : ℕ) → bpac_of payload ≡ Reads bits entries → run_l bpac_layout (to_bits payload) 0 0 [] ≡ finished entries bits []
+pub bpac-reads : (payload : List ℕ) (bits entries : ℕ) → bpac_of payload ≡ Some (record { bits = bits; entries = entries }) → run_l bpac_layout (to_bits payload) 0 0 [] ≡ finished entries bits []
 unfolding bpac_of
 bpac-reads payload bits entries e =
     let n : ℕ = got payload 12 2 + 1 in

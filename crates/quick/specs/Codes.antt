@@ -1,13 +1,12 @@
 -- Serves proofs, and is proved: tests that are met, and fields that are written out, by a test that computes.
-use Rattle.std.specs.Prelude.{◌≡◌, refl, Bool, true, false, List, ℕ, ◌+◌, ◌*◌, ◌^◌, ◌≤◌, eqb, leb, length}
+use Rattle.std.specs.Prelude.{◌≡◌, refl, Bool, true, false, List, ℕ, ◌+◌, ◌*◌, ◌^◌, ◌≤◌, eqb, leb, length, Some, None}
 use Rattle.std.proofs.lemmas.Bool.{false≢true}
 use Rattle.std.proofs.Common.{arith, eqb-true, leb-true, pow_pos}
 use Rattle.bits.specs.Bits.{got}
 use Rattle.layout.specs.declared.Field.{Field}
 use Rattle.layout.specs.Layout.{pick}
 use Rattle.layout.specs.Parts.{free}
-use Rattle.quick.specs.declared.Quick.{Quick}
-use Rattle.quick.specs.declared.Quick.TheVariants.{Reads, Unknown}
+use Rattle.quick.specs.Results.{Quick}
 use Rattle.quick.specs.Passes.{Full, Has, taken-up-to}
 
 -- ---- tests
@@ -16,11 +15,11 @@ pub both : (a b : Bool) → pick a b false ≡ true → (a ≡ true) × (b ≡ t
 both true b e = (refl, e)
 both false b e = absurd (false≢true e)
 
-pub unless : (b : Bool) (q : Quick) (bits entries : ℕ) → pick b Unknown q ≡ Reads bits entries → (b ≡ false) × (q ≡ Reads bits entries)
+pub unless : (b : Bool) (q : Quick) (bits entries : ℕ) → pick b None q ≡ Some (record { bits = bits; entries = entries }) → (b ≡ false) × (q ≡ Some (record { bits = bits; entries = entries }))
 unless true q bits entries e = let z : ◌≡◌ {A = ℕ} 0 1 = cc in absurd (omega arith)
 unless false q bits entries e = (refl, e)
 
-pub where-fit : (b : Bool) (q : Quick) (bits entries : ℕ) → pick b q Unknown ≡ Reads bits entries → (b ≡ true) × (q ≡ Reads bits entries)
+pub where-fit : (b : Bool) (q : Quick) (bits entries : ℕ) → pick b q None ≡ Some (record { bits = bits; entries = entries }) → (b ≡ true) × (q ≡ Some (record { bits = bits; entries = entries }))
 where-fit true q bits entries e = (refl, e)
 where-fit false q bits entries e = let z : ◌≡◌ {A = ℕ} 0 1 = cc in absurd (omega arith)
 

@@ -4,7 +4,7 @@ use Rattle.std.specs.Prelude.{ℕ, List, ◌≡◌}
 use Rattle.codes.specs.declared.Constellation.{Constellation}
 use Rattle.quick.specs.Ocb.{ephemeris_width, iode_width}
 use Rattle.quick.specs.Quick.{quick_of}
-use Rattle.quick.specs.declared.Quick.{Quick}
+use Rattle.quick.specs.Results.{Quick}
 use Rattle.std.proofs.Common.{◌∙◌, sym}
 
 pub judge-determined : (kind subtype : ℕ) (payload : List ℕ) (r₁ r₂ : Quick)

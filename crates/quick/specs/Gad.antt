@@ -1,5 +1,5 @@
 -- Mirror: for_gad.rt, a GAD judged by positions. It serves proofs, and GadReads.antt proves what it finds.
-use Rattle.std.specs.Prelude.{◌≡◌, Bool, true, false, not, List, ℕ, zero, suc, ◌+◌, ◌-◌, ◌*◌, ◌/◌, ◌%◌, ◌^◌, ◌≤◌, ◌<◌, ltb, leb, length}
+use Rattle.std.specs.Prelude.{◌≡◌, Bool, true, false, not, List, ℕ, zero, suc, ◌+◌, ◌-◌, ◌*◌, ◌/◌, ◌%◌, ◌^◌, ◌≤◌, ◌<◌, ltb, leb, length, Some, None}
 use Rattle.std.proofs.Math.Path.{refl, ap, sym}
 use Rattle.std.proofs.Common.{◌∙◌}
 use native.Mathlib.Omega.{arith}
@@ -8,8 +8,7 @@ use Rattle.bits.specs.Bits.{got}
 use Rattle.layout.specs.Layout.{pick}
 use Rattle.layout.specs.Tests.{one_less, if-less, if-from}
 use Rattle.quick.specs.Passes.{got-small}
-use Rattle.quick.specs.declared.Quick.{Quick}
-use Rattle.quick.specs.declared.Quick.TheVariants.{Reads, Unknown}
+use Rattle.quick.specs.Results.{Quick}
 
 -- SF032 and SF033 of a block of 47 bits
 unfoldable pub block_fits : (block : ℕ) → Bool
@@ -23,9 +22,9 @@ blocks_fit payload (suc n) pos = pick (block_fits (got payload pos 47)) (blocks_
 -- with n blocks
 unfoldable pub gad_by : List ℕ → (n : ℕ) → Quick
 gad_by payload n =
-    pick (ltb (length payload) ((19 + 47 * n + 7) / 8)) Unknown (
-    pick (blocks_fit payload n 19) (Reads (19 + 47 * n) (4 + 7 * n))
-    Unknown)
+    pick (ltb (length payload) ((19 + 47 * n + 7) / 8)) None (
+    pick (blocks_fit payload n 19) (Some (record { bits = 19 + 47 * n; entries = 4 + 7 * n }))
+    None)
 
 unfoldable pub gad_of : List ℕ → Quick
 gad_of payload = gad_by payload (got payload 14 5 + 1)
@@ -80,18 +79,18 @@ pub count-is : (payload : List ℕ) (c : ℕ) → c ≡ got payload 14 5 → (c 
 count-is payload c e = (ap (λ (x : ℕ). x + 1) e, omega (arith, got-small payload 14 5))
 
 module _ (payload : List ℕ) (n : ℕ) (e : n ≡ got payload 14 5 + 1) where
-  pub gad-short : length payload < (19 + 47 * n + 7) / 8 → Unknown ≡ gad_of payload
+  pub gad-short : length payload < (19 + 47 * n + 7) / 8 → None ≡ gad_of payload
   unfolding gad_of gad_by
   gad-short h = if-less (length payload) ((19 + 47 * n + 7) / 8) _ h refl ∙ ap (gad_by payload) e
 
-  pub gad-fits : (19 + 47 * n + 7) / 8 ≤ length payload → (r : Bool) → r ≡ blocks_fit payload n 19 → r ≡ true → Reads (19 + 47 * n) (4 + 7 * n) ≡ gad_of payload
+  pub gad-fits : (19 + 47 * n + 7) / 8 ≤ length payload → (r : Bool) → r ≡ blocks_fit payload n 19 → r ≡ true → Some (record { bits = 19 + 47 * n; entries = 4 + 7 * n }) ≡ gad_of payload
   unfolding gad_of gad_by
   gad-fits h r q t =
-      if-from (length payload) ((19 + 47 * n + 7) / 8) Unknown h (sym (ap (λ b. pick b (Reads (19 + 47 * n) (4 + 7 * n)) Unknown) (sym q ∙ t)))
+      if-from (length payload) ((19 + 47 * n + 7) / 8) None h (sym (ap (λ b. pick b (Some (record { bits = 19 + 47 * n; entries = 4 + 7 * n })) None) (sym q ∙ t)))
       ∙ ap (gad_by payload) e
 
-  pub gad-unfit : (19 + 47 * n + 7) / 8 ≤ length payload → (r : Bool) → r ≡ blocks_fit payload n 19 → r ≡ false → Unknown ≡ gad_of payload
+  pub gad-unfit : (19 + 47 * n + 7) / 8 ≤ length payload → (r : Bool) → r ≡ blocks_fit payload n 19 → r ≡ false → None ≡ gad_of payload
   unfolding gad_of gad_by
   gad-unfit h r q t =
-      if-from (length payload) ((19 + 47 * n + 7) / 8) Unknown h (sym (ap (λ b. pick b (Reads (19 + 47 * n) (4 + 7 * n)) Unknown) (sym q ∙ t)))
+      if-from (length payload) ((19 + 47 * n + 7) / 8) None h (sym (ap (λ b. pick b (Some (record { bits = 19 + 47 * n; entries = 4 + 7 * n })) None) (sym q ∙ t)))
       ∙ ap (gad_by payload) e

@@ -1,5 +1,5 @@
 -- Serves proofs, and is proved: a GAD that for_gad.rt passes reads by its layout, to that bit and in so many entries.
-use Rattle.std.specs.Prelude.{◌≡◌, Bool, true, false, List, [], ltb, leb, length}
+use Rattle.std.specs.Prelude.{◌≡◌, Bool, true, false, List, [], ltb, leb, length, Some}
 use Rattle.std.proofs.Math.Path.{refl}
 use Rattle.std.proofs.Common.{ap, ap₂, ◌∙◌, subst, arith, ltb-false, leb-true, lit≤}
 use Rattle.std.proofs.lemmas.Bool.{false≢true}
@@ -14,7 +14,6 @@ use Rattle.gad.specs.Gad.{block, gad}
 use Rattle.message.specs.Messages.{gad_message, gad_layout}
 use Rattle.quick.specs.Passes.{Passes, has-full, got-part, passes-end, passes-field, passes-with, passes-as, times_none, times_more, passes-whole}
 use Rattle.quick.specs.Codes.{both, unless, where-fit, full, ranged, has-up-to}
-use Rattle.quick.specs.declared.Quick.TheVariants.{Reads}
 use Rattle.quick.specs.Gad.{block_fits, blocks_fit, gad_by, gad_of}
 
 -- what the tests of a block say
@@ -69,7 +68,7 @@ module _ (payload : List ℕ) where
       (passes-field _ (has-full (full refl) _ _)
       (passes-with (λ blocks. record { siou = got payload 0 9; aiou = got payload 9 4; blocks = blocks }) (subst (λ x. Passes {A = A} payload (times x block) 19 (19 + 47 * n) (7 * n)) (e ∙ add-one (got payload 14 5)) (blocks-pass n 19 b))))))
 
-pub gad-reads : (payload : List ℕ) (bits entries : ℕ) → gad_of payload ≡ Reads bits entries → run_l gad_layout (to_bits payload) 0 0 [] ≡ finished entries bits []
+pub gad-reads : (payload : List ℕ) (bits entries : ℕ) → gad_of payload ≡ Some (record { bits = bits; entries = entries }) → run_l gad_layout (to_bits payload) 0 0 [] ≡ finished entries bits []
 unfolding gad_of gad_by
 gad-reads payload bits entries e =
     let n : ℕ = got payload 14 5 + 1 in

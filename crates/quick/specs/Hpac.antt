@@ -1,6 +1,6 @@
 -- Mirror: the code of for_hpac.rt, which passes over an HPAC payload (document 000, tables 6.13 to 6.22). It serves proofs; HpacReads.antt proves that what passes reads.
 -- An end of 0 says that a part does not pass.
-use Rattle.std.specs.Prelude.{◌≡◌, Bool, List, ℕ, zero, suc, ◌+◌, ◌*◌, ◌/◌, ◌^◌, ◌≤◌, eqb, ltb, leb, length}
+use Rattle.std.specs.Prelude.{◌≡◌, Bool, List, ℕ, zero, suc, ◌+◌, ◌*◌, ◌/◌, ◌^◌, ◌≤◌, eqb, ltb, leb, length, Some, None}
 use Rattle.std.specs.Int.Bits.{bit_and}
 use Rattle.std.specs.Int.Count.{ones}
 use Rattle.bits.specs.Bits.{got}
@@ -8,8 +8,7 @@ use Rattle.layout.specs.Layout.{pick}
 use Rattle.codes.specs.declared.Constellation.{Constellation}
 use Rattle.codes.specs.Tables.{mask_size}
 use Rattle.hpac.specs.Hpac.{troposphere_residual, ionosphere_residual}
-use Rattle.quick.specs.declared.Quick.{Quick}
-use Rattle.quick.specs.declared.Quick.TheVariants.{Reads, Unknown}
+use Rattle.quick.specs.Results.{Quick}
 use Rattle.quick.specs.declared.for_hpac.Behind.{Behind}
 
 -- what the code's functions answer: this value, which is no more than so much; and the end of a part and its entries, neither of them over a bound
@@ -139,9 +138,9 @@ areas_behind constellation payload (suc n) pos entries =
 -- it passes if its bits are there
 unfoldable pub reads_by : (bytes : ℕ) → Behind → Quick
 reads_by bytes behind =
-    pick (eqb behind.end 0) Unknown (
-    pick (ltb bytes ((behind.end + 7) / 8)) Unknown
-    (Reads behind.end behind.entries))
+    pick (eqb behind.end 0) None (
+    pick (ltb bytes ((behind.end + 7) / 8)) None
+    (Some (record { bits = behind.end; entries = behind.entries })))
 
 unfoldable pub hpac_quick : Constellation → List ℕ → Quick
 hpac_quick constellation payload = reads_by (length payload) (areas_behind constellation payload (got payload 14 5 + 1) 19 4)

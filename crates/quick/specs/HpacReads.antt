@@ -1,5 +1,5 @@
 -- Serves proofs, and is proved: an HPAC that for_hpac.rt passes reads by its layout, to that bit and in so many entries.
-use Rattle.std.specs.Prelude.{◌≡◌, Bool, eqb, ltb, leb}
+use Rattle.std.specs.Prelude.{◌≡◌, Bool, eqb, ltb, leb, Some}
 use Rattle.std.proofs.Math.Path.{refl, ap, subst}
 use Rattle.std.proofs.Common.{ap₂, sym, ◌∙◌, zero-mul, suc-mul, mul_comm, div-one}
 use Rattle.std.proofs.Math.Bool.{true, false}
@@ -26,7 +26,6 @@ use Rattle.codes.specs.Fields.{mask_field, satellites_of}
 use Rattle.codes.specs.Sizes.{mask_word, mask-size-width}
 use Rattle.hpac.specs.Hpac.{Slopes, Ionosphere, Area, slopes, polynomial, grid, troposphere_constant, troposphere_linear, troposphere_product, troposphere_residual, troposphere, ionosphere_constant, ionosphere_linear, ionosphere_product, ionosphere_residual, slant, ionosphere, area, hpac}
 use Rattle.message.specs.Messages.{Message, hpac_message, hpac_layout}
-use Rattle.quick.specs.declared.Quick.TheVariants.{Reads}
 use Rattle.quick.specs.declared.for_hpac.Behind.{Behind}
 use Rattle.quick.specs.Passes.{Full, Has, Passes, has-full, taken-up-to, taken-full, got-small, got-part, passes-end, passes-field, passes_then, passes-with, passes-as, passes-optional, passes-stretch, times_none, times_more, each_none, each_more, passes-whole}
 use Rattle.quick.specs.Codes.{unless, Ranged, ranged, full}
@@ -606,7 +605,7 @@ record Whole (bytes : ℕ) (b : Behind) (bits entries : ℕ) : Type 0 where
   bit : b.end ≡ bits
   entry : b.entries ≡ entries
 
-whole : (bytes : ℕ) (b : Behind) (bits entries : ℕ) → reads_by bytes b ≡ Reads bits entries → Whole bytes b bits entries
+whole : (bytes : ℕ) (b : Behind) (bits entries : ℕ) → reads_by bytes b ≡ Some (record { bits = bits; entries = entries }) → Whole bytes b bits entries
 unfolding reads_by
 whole bytes b bits entries e =
     let p = unless (eqb b.end 0) _ bits entries e in
@@ -614,7 +613,7 @@ whole bytes b bits entries e =
     let long : (b.end + 7) / 8 ≤ bytes = ltb-false bytes ((b.end + 7) / 8) q.0 in
     record { some = eqb-false b.end 0 p.0; there = omega arith; bit = cc q.1; entry = cc q.1 }
 
-pub hpac-reads : (c : Constellation) (payload : List ℕ) (bits entries : ℕ) → hpac_quick c payload ≡ Reads bits entries
+pub hpac-reads : (c : Constellation) (payload : List ℕ) (bits entries : ℕ) → hpac_quick c payload ≡ Some (record { bits = bits; entries = entries })
     → run_l (hpac_layout c) (to_bits payload) 0 0 [] ≡ finished entries bits []
 unfolding hpac_quick
 hpac-reads c payload bits entries e =

@@ -1,3 +1,4 @@
+pub mod Results
 pub mod Passes
 pub mod Codes
 pub mod Behind

@@ -1,5 +1,5 @@
 -- Mirror: for_ocb.rt, an OCB judged by positions. It serves proofs, and OcbReads.antt proves what it finds.
-use Rattle.std.specs.Prelude.{◌≡◌, Bool, true, false, List, ℕ, ◌+◌, ◌*◌, ◌/◌, ◌%◌, ◌≤◌, ◌<◌, eqb, ltb, leb}
+use Rattle.std.specs.Prelude.{◌≡◌, Bool, true, false, List, ℕ, ◌+◌, ◌*◌, ◌/◌, ◌%◌, ◌≤◌, ◌<◌, eqb, ltb, leb, None}
 use Rattle.std.proofs.Common.{arith}
 use borrow.Author.Tests.{eq-eqb, ne_eqb, le-leb, lt-leb, le-ltb, lt-ltb}
 use Rattle.std.specs.Int.Count.{ones}
@@ -9,8 +9,7 @@ use Rattle.codes.specs.declared.Constellation.{Constellation}
 use Rattle.codes.specs.declared.Constellation.TheVariants.{Gps, Glonass, Galileo, BeiDou, Qzss}
 use Rattle.codes.specs.Tables.{mask_size, bias_size}
 use Rattle.codes.specs.Sizes.{mask_word, bias-word}
-use Rattle.quick.specs.declared.Quick.{Quick}
-use Rattle.quick.specs.declared.Quick.TheVariants.{Unknown}
+use Rattle.quick.specs.Results.{Quick}
 use Rattle.quick.specs.declared.behind.Behind.{Behind}
 use Rattle.quick.specs.declared.for_ocb.Mask.{Mask}
 use Rattle.quick.specs.Behind.{nowhere, to, after, repeated, without, reads_to}
@@ -101,12 +100,12 @@ satellite_behind constellation yaw payload pos at =
 -- with a satellite mask of so many bits, from bit pos on
 unfoldable pub ocb_by : Constellation → (payload : List ℕ) (pos width : ℕ) → Quick
 ocb_by constellation payload pos width =
-    pick (eqb (got payload pos width) 0) Unknown
+    pick (eqb (got payload pos width) 0) None
     (reads_to payload (repeated (satellite_behind constellation (got payload 11 1) payload) (ones (got payload pos width)) (pos + width) 8))
 
 unfoldable pub ocb_of : Constellation → List ℕ → Quick
 ocb_of constellation payload =
-    pick (ltb (last_type constellation) (got payload 13 (ephemeris_width constellation))) Unknown
+    pick (ltb (last_type constellation) (got payload 13 (ephemeris_width constellation))) None
     (ocb_by constellation payload (13 + ephemeris_width constellation + 2)
     (mask_size constellation (got payload (13 + ephemeris_width constellation) 2)))
 
@@ -261,12 +260,12 @@ module _ (payload : List ℕ) (pos at : ℕ) where
       satellite-on x q e y f r n = rw (← q, ne_eqb x 1 e, ← f) n
 
 module _ (c : Constellation) (payload : List ℕ) (e : ℕ) (is : e ≡ ephemeris_width c) (x : ℕ) (k : x ≡ got payload 13 e) (t : ℕ) (l : t ≡ last_type c) where
-  pub ocb-tbd : t < x → Unknown ≡ ocb_of c payload
+  pub ocb-tbd : t < x → None ≡ ocb_of c payload
   unfolding ocb_of
   ocb-tbd h = rw (← is, ← k, ← l, lt-ltb t x h)
 
   module _ (i : x ≤ t) (s : ℕ) (p : s ≡ got payload (13 + e) 2) (w : ℕ) (q : w ≡ mask_size c s) (m : ℕ) (f : m ≡ got payload (13 + e + 2) w) where
-    pub ocb-empty : m ≡ 0 → Unknown ≡ ocb_of c payload
+    pub ocb-empty : m ≡ 0 → None ≡ ocb_of c payload
     unfolding ocb_of ocb_by
     ocb-empty z = rw (← is, ← k, ← l, le-ltb t x i, ← p, ← q, ← f, eq-eqb m 0 z)
 

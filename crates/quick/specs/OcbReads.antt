@@ -1,5 +1,5 @@
 -- Serves proofs, and is proved: an OCB that for_ocb.rt passes reads by its layout, to that bit and in so many entries.
-use Rattle.std.specs.Prelude.{◌≡◌, Bool, eqb, ltb, leb, length}
+use Rattle.std.specs.Prelude.{◌≡◌, Bool, eqb, ltb, leb, length, Some}
 use Rattle.std.proofs.Math.Path.{refl}
 use Rattle.std.proofs.Common.{ap, ap₂, sym, ◌∙◌, subst}
 use Rattle.std.proofs.Math.Bool.{true, false}
@@ -26,7 +26,6 @@ use Rattle.ocb.specs.Ocb as ocb
 use Rattle.message.specs.Messages.{Message, ocb_message, ocb_layout}
 use Rattle.quick.specs.Passes.{Full, Has, Passes, has-full, taken-up-to, taken-extra, got-small, got-part, passes-end, passes-field, passes-with, passes-as, times_none, times_more, each_none, passes-whole}
 use Rattle.quick.specs.Codes.{Ranged, full, full-free, ranged, unless, has-up-to}
-use Rattle.quick.specs.declared.Quick.TheVariants.{Reads}
 use Rattle.quick.specs.declared.behind.Behind.{Behind}
 use Rattle.quick.specs.Behind.{to, after, repeated, without}
 use Rattle.quick.specs.Passed.{Passed, Some, some_after, passed-if, passed-unless, passed-optional, passed-after, passes-from, passes-wide, has-wide, has-below, reads_whole}
@@ -499,7 +498,7 @@ module _ {A : Type 0} (payload : List ℕ) (c : Constellation) where
             }) m.passes))))))));
       }
 
-pub ocb-reads : (c : Constellation) (payload : List ℕ) (bits entries : ℕ) → ocb_of c payload ≡ Reads bits entries
+pub ocb-reads : (c : Constellation) (payload : List ℕ) (bits entries : ℕ) → ocb_of c payload ≡ Some (record { bits = bits; entries = entries })
     → run_l (ocb_layout c) (to_bits payload) 0 0 [] ≡ finished entries bits []
 unfolding ocb_of ocb_by
 ocb-reads c payload bits entries e =

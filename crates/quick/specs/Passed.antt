@@ -1,12 +1,11 @@
 -- Serves proofs, and is proved: parts of a message that end where the code says, with so many entries to there.
-use Rattle.std.specs.Prelude.{◌≡◌, refl, Bool, true, false, List, ℕ, suc, ◌+◌, ◌-◌, ◌*◌, ◌/◌, ◌^◌, ◌≤◌, eqb, ltb, length}
+use Rattle.std.specs.Prelude.{◌≡◌, refl, Bool, true, false, List, ℕ, suc, ◌+◌, ◌-◌, ◌*◌, ◌/◌, ◌^◌, ◌≤◌, eqb, ltb, length, Some, None}
 use Rattle.std.proofs.Common.{ap, sym, subst, arith, ltb-false}
 use Rattle.std.proofs.lemmas.Bool.{eqb-false}
 use Rattle.bits.specs.Bits.{got}
 use Rattle.layout.specs.declared.Field.{Field}
 use Rattle.layout.specs.Layout.{Layout, field, pick}
 use Rattle.layout.specs.Parts.{absent, present, optional}
-use Rattle.quick.specs.declared.Quick.TheVariants.{Reads, Unknown}
 use Rattle.quick.specs.declared.behind.Behind.{Behind}
 use Rattle.quick.specs.Passes.{Full, Has, Passes, has-full, got-small, passes-end, passes-field, passes_then, passes-with}
 use Rattle.quick.specs.Codes.{Ranged, has-up-to}
@@ -98,12 +97,12 @@ pub record Whole (payload : List ℕ) (b : Behind) (bits entries : ℕ) : Type 0
   pub bit : b.end ≡ bits
   pub entry : b.entries ≡ entries
 
-pub reads_whole : (payload : List ℕ) (b : Behind) (bits entries : ℕ) → reads_to payload b ≡ Reads bits entries → Whole payload b bits entries
+pub reads_whole : (payload : List ℕ) (b : Behind) (bits entries : ℕ) → reads_to payload b ≡ Some (record { bits = bits; entries = entries }) → Whole payload b bits entries
 unfolding reads_to
 reads_whole payload b bits entries e = go (eqb b.end 0) (ltb (length payload) ((b.end - 1) / 8 + 1)) refl refl e
   where
     go : (x y : Bool) → eqb b.end 0 ≡ x → ltb (length payload) ((b.end - 1) / 8 + 1) ≡ y
-        → pick x Unknown (pick y Unknown (Reads b.end b.entries)) ≡ Reads bits entries → Whole payload b bits entries
+        → pick x None (pick y None (Some (record { bits = b.end; entries = b.entries }))) ≡ Some (record { bits = bits; entries = entries }) → Whole payload b bits entries
     go true y p q e = let z : ◌≡◌ {A = ℕ} 0 1 = cc in absurd (omega arith)
     go false true p q e = let z : ◌≡◌ {A = ℕ} 0 1 = cc in absurd (omega arith)
     go false false p q e =

@@ -4,14 +4,13 @@
 --     parts in a row     passes-end passes_then passes-with passes-as passes-whole
 --     repeats            passes-optional passes-stretch times_none times_more each_none each_more
 --     codes              taken-extra taken-up-to taken-full got-part got-small
-use Rattle.std.specs.Prelude.{◌≡◌, refl, Bool, true, false, cond, List, [], ◌∷◌, ℕ, zero, suc, ◌+◌, ◌*◌, ◌/◌, ◌%◌, ◌^◌, ◌≤◌, ◌<◌, eqb, length, take, drop}
+use Rattle.std.specs.Prelude.{◌≡◌, refl, Bool, true, false, cond, List, [], ◌∷◌, ℕ, zero, suc, ◌+◌, ◌*◌, ◌/◌, ◌%◌, ◌^◌, ◌≤◌, ◌<◌, eqb, length, take, drop, Ok}
 use Rattle.std.proofs.Common.{ap, sym, ◌∙◌, subst, add-zero, add_assoc, zero-add, suc-mul, arith, le-leb, le-ltb, eq-eqb, eqb-true, length-drop, pow_pos, drop-drop}
 use Rattle.std.proofs.lemmas.Bool.{eqb-false}
 use Rattle.bits.specs.Bits as bits
 use Rattle.bits.specs.Bits.{to_bits, number, got}
 use Rattle.bits.specs.Laws.{length-to_bits, got-there, field_lt, field-part}
 use Rattle.layout.specs.declared.Field.{Field}
-use Rattle.layout.specs.declared.Verdict.TheVariants.{Taken}
 use Rattle.layout.specs.Layout.{Layout, done, field, pick, judge}
 use Rattle.layout.specs.Parts.{absent, present, optional, times, each}
 use Rattle.layout.specs.Run.{Ended, finished, run_l}
@@ -26,24 +25,24 @@ pub record Full (f : Field) : Type 0 where
   pub top : f.extra + 1 ≡ 2 ^ f.width
   pub most : f.extra ≤ f.most + 1
 
-pub taken-extra : (f : Field) (c : ℕ) → c ≡ f.extra → judge f c ≡ Taken
+pub taken-extra : (f : Field) (c : ℕ) → c ≡ f.extra → judge f c ≡ Ok tt
 unfolding judge
 taken-extra f c e = rw (eq-eqb c f.extra e)
 
-pub taken-up-to : (f : Field) (c : ℕ) → f.least ≤ c → f.except ≡ f.extra → c ≤ f.most → judge f c ≡ Taken
+pub taken-up-to : (f : Field) (c : ℕ) → f.least ≤ c → f.except ≡ f.extra → c ≤ f.most → judge f c ≡ Ok tt
 unfolding judge
 taken-up-to f c l e h = go (eqb c f.extra) refl
   where
-    go : (b : Bool) → eqb c f.extra ≡ b → judge f c ≡ Taken
+    go : (b : Bool) → eqb c f.extra ≡ b → judge f c ≡ Ok tt
     go true q = rw q
     go false q =
         let x : eqb c f.except ≡ false = ap (eqb c) e ∙ q in
         rw (q, le-ltb c f.least l, le-ltb f.most c h, x)
 
-pub taken-full : {f : Field} (c : ℕ) → Full f → c < 2 ^ f.width → judge f c ≡ Taken
+pub taken-full : {f : Field} (c : ℕ) → Full f → c < 2 ^ f.width → judge f c ≡ Ok tt
 taken-full {f} c w h = go (eqb c f.extra) refl
   where
-    go : (b : Bool) → eqb c f.extra ≡ b → judge f c ≡ Taken
+    go : (b : Bool) → eqb c f.extra ≡ b → judge f c ≡ Ok tt
     go true q = taken-extra f c (eqb-true c f.extra q)
     go false q =
         let n : c ≡ f.extra → ⊥ = eqb-false c f.extra q in
@@ -73,7 +72,7 @@ abbrev pub run_from : {A : Type 0} → List ℕ → Layout A → (pos at : ℕ) 
 run_from payload l pos at = run_l l (drop pos (to_bits payload)) pos at []
 
 pub run-field : {A : Type 0} (payload : List ℕ) (f : Field) (next : ℕ → Layout A) (pos at c : ℕ) → pos + f.width ≤ 8 * length payload → f.width ≤ 64
-    → c ≡ got payload pos f.width → judge f c ≡ Taken
+    → c ≡ got payload pos f.width → judge f c ≡ Ok tt
     → run_from payload (field f next) pos at ≡ run_from payload (next c) (pos + f.width) (at + 1)
 unfolding run_l bits.field
 run-field payload f next pos at c h w e j =
@@ -92,7 +91,7 @@ pub record Passes {A B : Type 0} (payload : List ℕ) (part : (B → Layout A) �
 pub record Has (payload : List ℕ) (f : Field) (pos end c : ℕ) : Type 0 where
   pub word : f.width ≤ 64
   pub code : end ≤ 8 * length payload → c ≡ got payload pos f.width
-  pub taken : end ≤ 8 * length payload → judge f c ≡ Taken
+  pub taken : end ≤ 8 * length payload → judge f c ≡ Ok tt
 
 module _ {A B : Type 0} {payload : List ℕ} where
   -- nothing

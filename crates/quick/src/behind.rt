@@ -3,6 +3,7 @@ ghost use Rattle.std.specs.Prelude.{◌≡◌};
 ghost use Rattle.quick.specs.Behind as mirror;
 ghost use Rattle.quick.specs.Behind.{reads_to};
 
+use crate::Extent;
 use crate::Quick;
 
 // Behind a part that passes: its end, and how many entries there are to it; an end of 0 says that it does not pass.
@@ -24,13 +25,13 @@ pub fn reads_to(payload: &[u8], behind: Behind) -> Quick
 {
     let end = behind.end;
     if end == 0 {
-        return Quick::Unknown;
+        return None;
     }
     if payload.len() < (end - 1) / 8 + 1 {
-        return Quick::Unknown;
+        return None;
     }
-    Quick::Reads {
+    Some(Extent {
         bits: end,
         entries: behind.entries,
-    }
+    })
 }

@@ -3,6 +3,7 @@ ghost use Rattle.std.specs.Prelude.{◌≡◌, ◌+◌, ◌≤◌};
 ghost use Rattle.bits.specs.Bits.{got};
 ghost use Rattle.quick.specs.Gad.{block_fits, blocks_fit, gad_of};
 
+use crate::Extent;
 use crate::Quick;
 
 // SF032 and SF033 of a block are in their ranges.
@@ -45,13 +46,13 @@ pub fn judge(payload: &[u8]) -> Quick
     let n = block_count(payload);
     let end = 19 + 47 * n;
     if payload.len() < (end + 7) / 8 {
-        return Quick::Unknown;
+        return None;
     }
     if blocks_fit(payload, n) {
-        return Quick::Reads {
+        return Some(Extent {
             bits: end,
             entries: 4 + 7 * n,
-        };
+        });
     }
-    Quick::Unknown
+    None
 }

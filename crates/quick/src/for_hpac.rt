@@ -3,6 +3,7 @@ ghost use Rattle.std.specs.Prelude.{◌≡◌, ◌+◌, ◌*◌, ◌^◌, ◌≤
 ghost use Rattle.quick.specs.Hpac as mirror;
 ghost use Rattle.quick.specs.Hpac.{Within, Spans, one_end, three_end, linear_end, product_end, t_polynomial_end, i_polynomial_end, coefficient_count, grid_entries, slant_end, slants_end, satellites_behind, ionosphere_behind, t_grid_behind, troposphere_behind, ionosphere_after, area_behind, areas_behind, reads_by, hpac_quick};
 
+use crate::Extent;
 use crate::Quick;
 use codes::Constellation;
 use codes::satellites::set_bits;
@@ -315,15 +316,15 @@ fn reads_by(bytes: usize, behind: Behind) -> Quick
     ensures { result ≡ reads_by bytes behind }
 {
     if behind.end == 0 {
-        return Quick::Unknown;
+        return None;
     }
     if bytes < (behind.end + 7) / 8 {
-        return Quick::Unknown;
+        return None;
     }
-    Quick::Reads {
+    Some(Extent {
         bits: behind.end,
         entries: behind.entries as usize,
-    }
+    })
 }
 
 // SF030, the count of areas less one, stands behind SF005, SF068 and SF069.

@@ -327,13 +327,13 @@ pub fn judge(constellation: Constellation, payload: &[u8]) -> Quick
     let wide = ephemeris_width(constellation);
     let ephemeris = bits::get(payload, 13, wide);
     if last_type(constellation) < ephemeris {
-        return Quick::Unknown;
+        return None;
     }
     let start = 13 + wide as usize;
     let width = mask_width(constellation, bits::get(payload, start, 2));
     let mask = bits::get(payload, start + 2, width);
     if mask == 0 {
-        return Quick::Unknown;
+        return None;
     }
     let yaw = bits::get(payload, 11, 1);
     let end = start + 2 + width as usize;

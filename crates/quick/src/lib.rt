@@ -16,17 +16,19 @@ use message::Subtype;
 
 // The bits and the entries of a payload that reads, or nothing about it.
 #[derive(Clone, Copy)]
-pub enum Quick {
-    Reads { bits: usize, entries: usize },
-    Unknown,
+pub struct Extent {
+    pub bits: usize,
+    pub entries: usize,
 }
+
+pub type Quick = Option<Extent>;
 
 fn judge_ocb(subtype: u8, payload: &[u8]) -> Quick
     ensures { result ≡ by_ocb payload.now (constellation_for subtype) }
 {
     match message::constellation_of(subtype) {
-        Subtype::Known(constellation) => for_ocb::judge(constellation, payload),
-        Subtype::Unknown => Quick::Unknown,
+        Some(constellation) => for_ocb::judge(constellation, payload),
+        None => None,
     }
 }
 
@@ -34,8 +36,8 @@ fn judge_hpac(subtype: u8, payload: &[u8]) -> Quick
     ensures { result ≡ by_hpac payload.now (constellation_for subtype) }
 {
     match message::constellation_of(subtype) {
-        Subtype::Known(constellation) => for_hpac::judge(constellation, payload),
-        Subtype::Unknown => Quick::Unknown,
+        Some(constellation) => for_hpac::judge(constellation, payload),
+        None => None,
     }
 }
 
@@ -45,7 +47,7 @@ fn judge_gad(subtype: u8, payload: &[u8]) -> Quick
     if subtype == 0 {
         return for_gad::judge(payload);
     }
-    Quick::Unknown
+    None
 }
 
 fn judge_bpac(subtype: u8, payload: &[u8]) -> Quick
@@ -54,7 +56,7 @@ fn judge_bpac(subtype: u8, payload: &[u8]) -> Quick
     if subtype == 0 {
         return for_bpac::judge(payload);
     }
-    Quick::Unknown
+    None
 }
 
 // A payload of a type (TF002) and subtype (TF007).
@@ -73,5 +75,5 @@ pub fn judge(kind: u8, subtype: u8, payload: &[u8]) -> Quick
     if kind == 3 {
         return judge_bpac(subtype, payload);
     }
-    Quick::Unknown
+    None
 }

@@ -1,5 +1,5 @@
 -- Laws: a row written by its cells, and that it comes to what the machine's steps come to by the layout.
-use Rattle.std.specs.Prelude.{◌≡◌, refl, Bool, true, false, cond, List, ◌++◌, ℕ, suc, ◌+◌, ◌*◌, ◌^◌, ◌≤◌, ◌<◌, leb, ltb, length, take, drop, get_or}
+use Rattle.std.specs.Prelude.{◌≡◌, refl, Bool, true, false, cond, List, ◌++◌, ℕ, suc, ◌+◌, ◌*◌, ◌^◌, ◌≤◌, ◌<◌, leb, ltb, length, take, drop, get_or, Ok, Err}
 use Rattle.std.proofs.Common.{ap, ap₂, sym, ◌∙◌, append_assoc, arith, le-leb, leb-true, ltb-true, ltb-false}
 use Rattle.std.proofs.lemmas.List.Edits.{sets, sets-eq}
 use Rattle.std.proofs.Math.Seq.{length-sets}
@@ -9,8 +9,7 @@ use Rattle.answer.specs.Place.{fault_at}
 use Rattle.bits.specs.Bits.{to_bits, bits_of, put_to, leaves}
 use Rattle.bits.specs.Laws.{length-to_bits, length-bits_of}
 use Rattle.layout.specs.declared.Field.{Field}
-use Rattle.layout.specs.declared.Verdict.{Verdict}
-use Rattle.layout.specs.declared.Verdict.TheVariants.{Taken, Fault}
+use Rattle.layout.specs.Results.{Verdict}
 use Rattle.layout.specs.Layout.{Layout, pick, judge}
 use Rattle.layout.specs.Run.{Ended, stopped}
 use Rattle.layout.specs.Put.{put_l, put-short, put-fault, put_on}
@@ -150,13 +149,13 @@ writing-turns {A} {field_of} {step_of} sheet cell pos at out s l here run walks 
         let k = ltb-false at (length sheet) p in
         short (run.same ∙ put-short sheet run.place at run.bits walks (omega arith) (omega (arith, run.inside))
         ∙ ap (λ (x : ℕ). stopped (fault_at refusal.Short x at)) (sf-is e))
-    go c n true (Fault why) p q =
+    go c n true (Err why) p q =
         let d : (field_of s).width ≡ width_in cell = width_is e in
         let z : 0 < width_in cell = (cell-bits cell).0 in
         let k = ltb-true at (length sheet) p in
         fault (run.same ∙ put-fault sheet run.place at run.bits c why walks (omega arith) k n (judge-is c e ∙ q)
         ∙ ap (λ (x : ℕ). stopped (fault_at why x at)) (sf-is e))
-    go c n true Taken p q =
+    go c n true (Ok _) p q =
         let d : (field_of s).width ≡ width_in cell = width_is e in
         let z : 0 < width_in cell = (cell-bits cell).0 in
         let k = ltb-true at (length sheet) p in

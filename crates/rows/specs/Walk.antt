@@ -1,6 +1,6 @@
 -- Serves proofs: a walk over cells, one after the other. Writing a row (Puts.antt) is a walk; what a machine that goes along the row
 -- comes to by its layout, a walk over the row comes to.
-use Rattle.std.specs.Prelude.{◌≡◌, refl, Bool, true, false, length}
+use Rattle.std.specs.Prelude.{◌≡◌, refl, Bool, true, false, length, Ok, Err}
 use Rattle.std.proofs.Common.{ap, ◌∙◌, subst}
 use mathlib.Core.List.{List, [], ◌∷◌, ◌++◌}
 use Prim.Native.Nat.{ℕ, suc, ◌+◌, ◌/◌, ◌%◌}
@@ -9,8 +9,7 @@ use Rattle.answer.specs.declared.Refusal.TheVariants as refusal
 use Rattle.answer.specs.declared.Fault as answer
 use Rattle.answer.specs.Place.{fault_at}
 use Rattle.layout.specs.declared.Field.{Field}
-use Rattle.layout.specs.declared.Verdict.{Verdict}
-use Rattle.layout.specs.declared.Verdict.TheVariants.{Taken, Fault}
+use Rattle.layout.specs.Results.{Verdict}
 use Rattle.layout.specs.Layout.{Layout, pick, judge}
 use Rattle.layout.specs.Run.{Ended}
 use Rattle.layout.specs.Run as ended
@@ -35,8 +34,8 @@ pub record Way : Type 0 where
   pub stored : (pos at width code : ℕ) (lent : List ℕ) → List ℕ
 
 abbrev pub judged_w : (sf place : ℕ) → Verdict → (lent : List ℕ) → Went → Went
-judged_w sf place Taken lent w = w
-judged_w sf place (Fault why) lent w = stopped (fault_at why sf place) lent
+judged_w sf place (Ok _) lent w = w
+judged_w sf place (Err why) lent w = stopped (fault_at why sf place) lent
 
 unfoldable pub walk : Way → List ℕ → (pos at last : ℕ) (lent : List ℕ) → Went
 walk way [] pos at last lent = to pos at last lent
@@ -61,12 +60,12 @@ module _ (way : Way) (word pos at last : ℕ) (lent : List ℕ) where
     walk-short h = rw (cells-more word some, h)
 
     module _ (c : ℕ) (h : way.there pos at (width_in (word % 256)) ≡ true) (n : c ≡ way.code pos at (width_in (word % 256))) where
-      pub walk-fault : (why : Refusal) → judge (field_in (word % 256)) c ≡ Fault why
+      pub walk-fault : (why : Refusal) → judge (field_in (word % 256)) c ≡ Err why
           → walk way (cells_in word) pos at last lent ≡ stopped (fault_at why (field_in (word % 256)).sf (way.place pos at)) lent
       unfolding walk
       walk-fault why j = rw (cells-more word some, h, ← n, j)
 
-      pub walk_more : judge (field_in (word % 256)) c ≡ Taken
+      pub walk_more : judge (field_in (word % 256)) c ≡ Ok tt
           → walk way (cells_in word) pos at last lent
           ≡ walk way (cells_in (word / 256)) (way.behind pos (width_in (word % 256))) (at + 1) c (way.stored pos at (width_in (word % 256)) c lent)
       unfolding walk
@@ -80,8 +79,8 @@ then (stopped why lent) rest = stopped why lent
 
 then-pick : (sf place : ℕ) (b : Bool) (v : Verdict) (w : Went) (why : answer.Fault) (lent : List ℕ) (rest : (pos at last : ℕ) → List ℕ → Went)
     → pick b (judged_w sf place v lent (then w rest)) (stopped why lent) ≡ then (pick b (judged_w sf place v lent w) (stopped why lent)) rest
-then-pick sf place true Taken w why lent rest = refl
-then-pick sf place true (Fault x) w why lent rest = refl
+then-pick sf place true (Ok _) w why lent rest = refl
+then-pick sf place true (Err x) w why lent rest = refl
 then-pick sf place false v w why lent rest = refl
 
 pub walk-append : (way : Way) (cs ds : List ℕ) (pos at last : ℕ) (lent : List ℕ)
@@ -107,8 +106,8 @@ pub data Comes (Place : (pos at : ℕ) → Type 0) : Went → Type 0 where
 
 comes-pick : {Place : (pos at : ℕ) → Type 0} (sf place : ℕ) (b : Bool) (v : Verdict) (w : Went) (why : answer.Fault) (lent : List ℕ) → (b ≡ true → Comes Place w)
     → Comes Place (pick b (judged_w sf place v lent w) (stopped why lent))
-comes-pick sf place true Taken w why lent h = h refl
-comes-pick sf place true (Fault x) w why lent h = halts
+comes-pick sf place true (Ok _) w why lent h = h refl
+comes-pick sf place true (Err x) w why lent h = halts
 comes-pick sf place false v w why lent h = halts
 
 -- what each cell keeps, with the count of those still to come, holds where the walk ends
@@ -132,8 +131,8 @@ module _ {S A : Type 0} (field_of : S → Field) (step_of : S → ℕ → S) (wa
   -- at a cell, by whether a code is there and its field takes it: the end, or the place behind it
   pub data Turned (sf place : ℕ) (here : Ended) (next : S) (pos at : ℕ) (lent : List ℕ) : Bool → Verdict → Type 1 where
     short : {v : Verdict} → here ≡ ended.stopped (fault_at refusal.Short sf place) → Turned sf place here next pos at lent false v
-    fault : {why : Refusal} → here ≡ ended.stopped (fault_at why sf place) → Turned sf place here next pos at lent true (Fault why)
-    taken : {left : Layout A} → Walks field_of step_of next left → Run pos at lent left here → Turned sf place here next pos at lent true Taken
+    fault : {why : Refusal} → here ≡ ended.stopped (fault_at why sf place) → Turned sf place here next pos at lent true (Err why)
+    taken : {left : Layout A} → Walks field_of step_of next left → Run pos at lent left here → Turned sf place here next pos at lent true (Ok tt)
 
   -- the layout's run takes each cell as the walk does
   abbrev pub Turns : Type 1

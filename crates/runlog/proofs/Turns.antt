@@ -1,4 +1,5 @@
 -- A call and a finish on a tray and a desk that are prepared, in plain values: they stay prepared, and each event told is one of those that are left to tell.
+use Rattle.std.specs.Prelude.{Ok, Err}
 use mathlib.Core.Path.{◌≡◌, refl, sym, ap, ◌∙◌, subst}
 use mathlib.Core.List.{List, []}
 use mathlib.Core.Bool.{Bool, true, false, not}
@@ -16,8 +17,7 @@ use Rattle.stream.specs.Kept.{Good}
 use Rattle.stream.specs.Steps.{call_kept, end_kept, finished-is}
 use Rattle.stream.specs.Theorems.{call-sound, finish-sound, fresh-sound, zeros-clear, call-used}
 use Rattle.desk.specs.declared.Desk.{Desk}
-use Rattle.desk.specs.declared.NewDesk.{NewDesk}
-use Rattle.desk.specs.declared.NewDesk.TheVariants.{Made, Refused}
+use Rattle.desk.specs.Results.{NewDesk}
 use Rattle.desk.specs.Desk.{new_desk}
 use Rattle.sizes.specs.Sizes.{longest_frame, book_bytes, log_room}
 use Rattle.prepare.specs.declared.Answer.{Answer}
@@ -299,10 +299,10 @@ pub is-new : (wanted : Wanted) (job : Job) (desk : Desk) (raw : Bool) → job �
 is-new (Log solution processor constellation r) job desk raw e q = go (new_desk solution processor constellation) refl (sym e ∙ q)
   where
     go : (made : NewDesk) → new_desk solution processor constellation ≡ made → job_by made r ≡ Run desk raw → IsNew desk
-    go (Made d) p k =
+    go (Ok d) p k =
         let same : d ≡ desk = cc in
-        record { solution = solution; processor = processor; constellation = constellation; is_made = p ∙ ap (λ x. Made x) same }
-    go (Refused why) p k = let y : ◌≡◌ {A = ℕ} 0 1 = cc in absurd (omega arith)
+        record { solution = solution; processor = processor; constellation = constellation; is_made = p ∙ ap (λ x. Ok x) same }
+    go (Err why) p k = let y : ◌≡◌ {A = ℕ} 0 1 = cc in absurd (omega arith)
 is-new Nothing job desk raw e q = let k : Usage ≡ Run desk raw = sym e ∙ q in let y : ◌≡◌ {A = ℕ} 0 1 = cc in absurd (omega arith)
 
 pub new-prepared : (desk : Desk) (log : List ℕ) → IsNew desk → log_room ≡ length log

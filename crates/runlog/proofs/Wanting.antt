@@ -1,4 +1,5 @@
 -- What a command line asks for, test by test, over plain variables.
+use Rattle.std.specs.Prelude.{Ok, Err}
 use mathlib.Core.Path.{◌≡◌}
 use mathlib.Core.Bool.{Bool, true, false}
 use mathlib.Core.List.{List}
@@ -6,8 +7,7 @@ use Prim.Native.Nat.{ℕ}
 use borrow.Author.Tests.{eq-eqb, ne_eqb}
 use Rattle.answer.specs.declared.Refusal.{Refusal}
 use Rattle.desk.specs.declared.Desk.{Desk}
-use Rattle.desk.specs.declared.NewDesk.{NewDesk}
-use Rattle.desk.specs.declared.NewDesk.TheVariants.{Made, Refused}
+use Rattle.desk.specs.Results.{NewDesk}
 use Rattle.desk.specs.Desk.{new_desk}
 use Rattle.runlog.specs.declared.command.Byte.{Byte}
 use Rattle.runlog.specs.declared.command.Byte.TheVariants.{Is, Not}
@@ -68,10 +68,10 @@ module _ (count : ℕ) (first second third fourth : List ℕ) (a : Byte) (ea : a
 
 -- the desk
 module _ (made : NewDesk) (raw : Bool) where
-  pub job-usage : (why : Refusal) → made ≡ Refused why → Usage ≡ job_by made raw
+  pub job-usage : (why : Refusal) → made ≡ Err why → Usage ≡ job_by made raw
   job-usage why e = rw e
 
-  pub job-run : (desk : Desk) → made ≡ Made desk → Run desk raw ≡ job_by made raw
+  pub job-run : (desk : Desk) → made ≡ Ok desk → Run desk raw ≡ job_by made raw
   job-run desk e = rw e
 
 module _ (wanted : Wanted) where

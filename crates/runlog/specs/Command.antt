@@ -1,5 +1,5 @@
 -- Definitions to believe: the words of the command line, SOLUTION PROCESSOR CONSTELLATION [raw], and the desk that they ask for.
-use Rattle.std.specs.Prelude.{Bool, true, false, cond, ◌&&◌, List, [], ◌∷◌, ℕ, ◌+◌, ◌*◌, ◌-◌, leb, eqb, length, get_or}
+use Rattle.std.specs.Prelude.{Bool, true, false, cond, ◌&&◌, List, [], ◌∷◌, ℕ, ◌+◌, ◌*◌, ◌-◌, leb, eqb, length, get_or, Ok, Err}
 use Rattle.runlog.specs.declared.command.Byte.{Byte}
 use Rattle.runlog.specs.declared.command.Byte.TheVariants.{Is, Not}
 use Rattle.runlog.specs.declared.command.Form.{Form}
@@ -8,8 +8,7 @@ use Rattle.runlog.specs.declared.command.Wanted.{Wanted}
 use Rattle.runlog.specs.declared.command.Wanted.TheVariants.{Log, Nothing}
 use Rattle.runlog.specs.declared.Job.{Job}
 use Rattle.runlog.specs.declared.Job.TheVariants.{Run, Usage}
-use Rattle.desk.specs.declared.NewDesk.{NewDesk}
-use Rattle.desk.specs.declared.NewDesk.TheVariants.{Made, Refused}
+use Rattle.desk.specs.Results.{NewDesk}
 use Rattle.desk.specs.Desk.{new_desk}
 
 -- a digit 0 to 9
@@ -54,8 +53,8 @@ wanted_by count first second third fourth =
 
 -- the desk that is wanted, in the form of its log; if there is none, the usage is to be said
 abbrev pub job_by : NewDesk → (raw : Bool) → Job
-job_by (Made desk) raw = Run desk raw
-job_by (Refused why) raw = Usage
+job_by (Ok desk) raw = Run desk raw
+job_by (Err why) raw = Usage
 
 abbrev pub job_of : Wanted → Job
 job_of (Log solution processor constellation raw) = job_by (new_desk solution processor constellation) raw

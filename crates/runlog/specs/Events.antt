@@ -1,11 +1,10 @@
 -- What the functions of `runlog` say of each other besides what is told (Telling.antt). Serves proofs.
-use Rattle.std.specs.Prelude.{◌≡◌, Bool, true, false, List, [], ℕ, ◌+◌, ◌≤◌, ◌<◌, ◌^◌, length, take, drop}
+use Rattle.std.specs.Prelude.{◌≡◌, Bool, true, false, List, [], ℕ, ◌+◌, ◌≤◌, ◌<◌, ◌^◌, length, take, drop, Ok}
 use Rattle.text.specs.Text.{waiting, say_all}
 use Rattle.stream.specs.declared.Tray.{Tray}
 use Rattle.stream.specs.Driver.{Ready}
 use Rattle.stream.specs.Driving.{left}
 use Rattle.desk.specs.declared.Desk.{Desk}
-use Rattle.desk.specs.declared.NewDesk.TheVariants.{Made}
 use Rattle.desk.specs.Desk.{new_desk}
 use Rattle.sizes.specs.Sizes.{log_room}
 use Rattle.prepare.specs.declared.Answer.{Answer}
@@ -51,7 +50,7 @@ pub record IsNew (desk : Desk) : Type 0 where
   pub solution : ℕ
   pub processor : ℕ
   pub constellation : ℕ
-  pub is_made : new_desk solution processor constellation ≡ Made desk
+  pub is_made : new_desk solution processor constellation ≡ Ok desk
 
 -- how many events are left to tell of a tray and the rest of a portion, and at the end
 abbrev pub to_tell : (bytes : List ℕ) → Tray → (used : ℕ) → (portion : List ℕ) → ℕ

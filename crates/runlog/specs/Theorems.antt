@@ -1,7 +1,7 @@
 -- Theorems: with `raw` the program's bytes are the run log of the uncut stream: those that go out (Outgoing.antt), portion after portion and at the end, are those that document 01 lays down for the
 -- portions that were told, joined, their frames at their seconds (`seconds_of`), by the desk that the command line asked for, however they are cut. In words they are the lines of this run log's entries, as they are defined for the uncut stream.
 -- Proved.
-use Rattle.std.specs.Prelude.{◌≡◌, refl, Bool, true, false, ℕ, ◌≤◌, length, drop, replicate}
+use Rattle.std.specs.Prelude.{◌≡◌, refl, Bool, true, false, ℕ, ◌≤◌, length, drop, replicate, Ok}
 use Rattle.std.proofs.Common.{sym, ap, ap₂, ◌∙◌, subst, arith}
 use mathlib.Core.List.{List, [], ◌∷◌, ◌++◌, flatten}
 use Rattle.std.proofs.lemmas.List.{length-replicate}
@@ -14,7 +14,6 @@ use Rattle.stream.specs.Scan.{scan}
 use Rattle.stream.specs.Driver.{Clear, waits}
 use Rattle.stream.specs.Theorems.{zeros-clear}
 use Rattle.desk.specs.declared.Desk.{Desk}
-use Rattle.desk.specs.declared.NewDesk.TheVariants.{Made}
 use Rattle.desk.specs.Desk.{new_desk}
 use Rattle.desk.specs.History.{Held, Snapshot, Course, KeptOn}
 use Rattle.desk.specs.Entries.{BooksInBytes}
@@ -140,7 +139,7 @@ ran-by : {desk : Desk} {raw : Bool} {d : Done} → Does (job.Run desk raw) d →
 ran-by (Does.runs {stop = stop} r) = (stop, r, refl)
 
 -- So it is by the desk that the command line asks for, if there is one: a new one for its solution, processor and constellation.
-module _ (solution processor constellation : ℕ) (desk : Desk) (e : new_desk solution processor constellation ≡ Made desk) where
+module _ (solution processor constellation : ℕ) (desk : Desk) (e : new_desk solution processor constellation ≡ Ok desk) where
   room : book_bytes ≤ length (replicate {A = ℕ} book_bytes 0)
   room = omega (arith, length-replicate {A = ℕ} book_bytes 0)
 

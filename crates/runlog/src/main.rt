@@ -80,8 +80,8 @@ fn desk_by(made: NewDesk, raw: bool) -> Job
     ensures { result ≡ job_by made raw }
 {
     match made {
-        NewDesk::Refused(_) => Job::Usage,
-        NewDesk::Made(desk) => Job::Run {
+        Err(_) => Job::Usage,
+        Ok(desk) => Job::Run {
             desk: desk,
             raw: raw,
         },

@@ -1,4 +1,5 @@
 -- A cell by its packed line, over plain variables: it has the bits of the cell's field, and refuses the codes that the field refuses.
+use Rattle.std.specs.Prelude.{Ok, Err}
 use mathlib.Core.Path.{◌≡◌, refl, ap, sym, ◌∙◌}
 use mathlib.Core.Bool.{Bool, true, false}
 use Prim.Native.Nat.{ℕ, ◌%◌, ◌≤◌}
@@ -6,7 +7,6 @@ use native.Mathlib.Omega.{arith}
 use lib.Dec.{eqb}
 use Rattle.answer.specs.declared.Refusal.TheVariants as refusal
 use Rattle.layout.specs.declared.Field.{Field}
-use Rattle.layout.specs.declared.Verdict.TheVariants.{Taken, Fault}
 use Rattle.layout.specs.Layout.{pick, judge}
 use Rattle.layout.specs.Parts.{free}
 use Rattle.fields.specs.Fields.{field_of, sf}
@@ -65,7 +65,7 @@ width-in cell =
     let s : width_in cell ≤ 16 = (cell-bits cell).1 in
     packed-width (width_in cell) (field_in cell).most (field_in cell).extra (omega arith)
 
-pub judge-in : (cell code : ℕ) → judge (field_in cell) code ≡ pick (refuses (line_in cell) code) (Fault refusal.Field) Taken
+pub judge-in : (cell code : ℕ) → judge (field_in cell) code ≡ pick (refuses (line_in cell) code) (Err refusal.Field) (Ok tt)
 unfolding line_in
 judge-in cell code =
     let s : width_in cell ≤ 16 = (cell-bits cell).1 in

@@ -1,4 +1,5 @@
 -- The turns and the ends of a pass over a payload, and of the whole reading, over plain variables: what the proofs of `read` and its parts cite.
+use Rattle.std.specs.Prelude.{Ok, Err, Some, None}
 use mathlib.Core.Path.{◌≡◌, refl, ap, ap₂, sym, ◌∙◌, subst}
 use mathlib.Core.Bool.{Bool, true, false}
 use mathlib.Core.List.{List, []}
@@ -18,8 +19,7 @@ use Rattle.answer.specs.Further.{further-none}
 use Rattle.bits.specs.Bits.{to_bits, number, field, got}
 use Rattle.bits.specs.Laws.{got-there, length-to_bits, bits-to_bits}
 use Rattle.layout.specs.declared.Field.{Field}
-use Rattle.layout.specs.declared.Verdict.{Verdict}
-use Rattle.layout.specs.declared.Verdict.TheVariants as verdict
+use Rattle.layout.specs.Results.{Verdict}
 use Rattle.layout.specs.Layout.{Layout, pick, judge, Outcome, accepted, refused, read_l}
 use Rattle.layout.specs.Parts.{Part, absent, present}
 use Rattle.layout.specs.Run.{finished, stopped, ended_of, run_l, run-reads, On, run-done, run_short, run-fault, run_on}
@@ -29,24 +29,19 @@ use Rattle.layout.specs.RoundTrip.{write_read}
 use Rattle.codes.specs.declared.Constellation.{Constellation}
 use Rattle.codes.specs.declared.Constellation.TheVariants.{Gps, Glonass, Galileo, BeiDou, Qzss}
 use Rattle.message.specs.declared.State.{State}
-use Rattle.message.specs.declared.Start.{Start}
-use Rattle.message.specs.declared.Start.TheVariants.{Known, Unknown}
+use Rattle.message.specs.Results.{Start}
 use Rattle.message.specs.Machine.{field_of, step_of, start_of, hpac_start, Starts, known, unknown, starts}
-use Rattle.message.specs.declared.Subtype.{Subtype}
-use Rattle.message.specs.declared.Subtype.TheVariants as sub
+use Rattle.message.specs.Results.{Subtype}
 use Rattle.message.specs.Messages.{Message, hpac_layout, constellation_of, constellation_for, by_constellation, layout_for}
-use Rattle.quick.specs.declared.Quick.{Quick}
-use Rattle.quick.specs.declared.Quick.TheVariants.{Reads}
+use Rattle.quick.specs.Results.{Quick}
 use Rattle.quick.specs.Quick.{quick_of, quick-reads}
 use Rattle.sheet.specs.Sheet.{bad_length, judging, judged, reading, read_answer_by, sheet_by, read_answer, sheet_after}
 use Rattle.sheet.specs.Laws.{good-some, judging-with, reading-with}
 use Rattle.sheet.specs.Passes.{ForLayout, ended_by, ReadPass, ReadJudged, is_known_start, StartedPass, StartedJudged, Fills, Filled}
 use Rattle.sheet.specs.Stores.{Finishes}
 use Rattle.sheet.specs.StoresHpac.{HpacStored}
-use Rattle.sheet.specs.declared.ReadAnswer.{ReadAnswer}
-use Rattle.sheet.specs.declared.ReadAnswer.TheVariants as reader
-use Rattle.sheet.specs.declared.Pass.{Pass}
-use Rattle.sheet.specs.declared.Pass.TheVariants.{Whole, Fault}
+use Rattle.sheet.specs.Results.{ReadAnswer}
+use Rattle.sheet.specs.Results.{Pass}
 
 -- ---- a pass
 
@@ -80,13 +75,13 @@ module _ {payload : List ℕ} {total : ℕ} {s₀ s : State} {pos at : ℕ} (t :
   width_is : (field_of s).width ≡ f.width
   width_is = ap (λ (x : Field). x.width) (sym e)
 
-  pub turn-done : f.width ≡ 0 → ReadPass payload s₀ (Whole at pos)
+  pub turn-done : f.width ≡ 0 → ReadPass payload s₀ (Ok (record { entries = at; bits = pos }))
   turn-done z =
       record {
         ends = λ l w. let o = t.on l w in sym (o.same ∙ run-done (drop pos (to_bits payload)) pos at [] o.walks (width_is ∙ z));
       }
 
-  short-here : (f.width ≡ 0 → ⊥) → total - pos < f.width → ReadPass payload s₀ (Fault (fault_at refusal.Short f.sf pos))
+  short-here : (f.width ≡ 0 → ⊥) → total - pos < f.width → ReadPass payload s₀ (Err (fault_at refusal.Short f.sf pos))
   short-here z h =
       let d : (field_of s).width ≡ f.width = width_is in
       let k : length (drop pos (to_bits payload)) ≡ total - pos = rest-length in
@@ -96,7 +91,7 @@ module _ {payload : List ℕ} {total : ℕ} {s₀ s : State} {pos at : ℕ} (t :
             ∙ ap (λ (x : Field). stopped (fault_at refusal.Short x.sf pos)) (sym e));
       }
 
-  pub turn-short : (r : Pass) → (f.width ≡ 0 → ⊥) → total - pos < f.width → r ≡ Fault (fault_at refusal.Short f.sf pos) → ReadPass payload s₀ r
+  pub turn-short : (r : Pass) → (f.width ≡ 0 → ⊥) → total - pos < f.width → r ≡ Err (fault_at refusal.Short f.sf pos) → ReadPass payload s₀ r
   turn-short r z h i = subst (λ x. ReadPass payload s₀ x) (sym i) (short-here z h)
 
   module _ (z : f.width ≡ 0 → ⊥) (h : f.width ≤ total - pos) (code : ℕ) (g : code ≡ got payload pos f.width) (v : Verdict) (j : v ≡ judge f code) where
@@ -110,7 +105,7 @@ module _ {payload : List ℕ} {total : ℕ} {s₀ s : State} {pos at : ℕ} (t :
     verdict-is : judge (field_of s) code ≡ v
     verdict-is = ap (λ (x : Field). judge x code) (sym e) ∙ sym j
 
-    fault-here : (why : Refusal) → v ≡ verdict.Fault why → ReadPass payload s₀ (Fault (fault_at why f.sf pos))
+    fault-here : (why : Refusal) → v ≡ Err why → ReadPass payload s₀ (Err (fault_at why f.sf pos))
     fault-here why q =
         let d : (field_of s).width ≡ f.width = width_is in
         let k : length (drop pos (to_bits payload)) ≡ total - pos = rest-length in
@@ -121,10 +116,10 @@ module _ {payload : List ℕ} {total : ℕ} {s₀ s : State} {pos at : ℕ} (t :
               ∙ ap (λ (x : Field). stopped (fault_at why x.sf pos)) (sym e));
         }
 
-    pub turn-fault : (r : Pass) (why : Refusal) → v ≡ verdict.Fault why → r ≡ Fault (fault_at why f.sf pos) → ReadPass payload s₀ r
+    pub turn-fault : (r : Pass) (why : Refusal) → v ≡ Err why → r ≡ Err (fault_at why f.sf pos) → ReadPass payload s₀ r
     turn-fault r why q i = subst (λ x. ReadPass payload s₀ x) (sym i) (fault-here why q)
 
-    pub turn-again : (s' : State) → v ≡ verdict.Taken → s' ≡ step_of s code → Turn payload total s₀ s' (pos + f.width) (at + 1)
+    pub turn-again : (s' : State) → v ≡ Ok tt → s' ≡ step_of s code → Turn payload total s₀ s' (pos + f.width) (at + 1)
     turn-again s' q stepped =
         let d : (field_of s).width ≡ f.width = width_is in
         let k : length (drop pos (to_bits payload)) ≡ total - pos = rest-length in
@@ -147,66 +142,66 @@ module _ {payload : List ℕ} {total : ℕ} {s₀ s : State} {pos at : ℕ} (t :
 -- ---- what a pass says
 
 -- what a pass says is the answer
-judged-fault : (o : Outcome Message) (why : answer.Fault) → stopped why ≡ ended_of o 0 0 [] → reader.Refused why ≡ read_answer_by o
+judged-fault : (o : Outcome Message) (why : answer.Fault) → stopped why ≡ ended_of o 0 0 [] → Err why ≡ read_answer_by o
 judged-fault (accepted v cs n) why e = let z : ◌≡◌ {A = ℕ} 0 1 = cc in absurd (omega arith)
-judged-fault (refused why') why e = let q : why ≡ further 0 why' = cc in ap reader.Refused (q ∙ further-none why')
+judged-fault (refused why') why e = let q : why ≡ further 0 why' = cc in ap Err (q ∙ further-none why')
 
-judged-whole : (o : Outcome Message) (entries bits : ℕ) → finished entries bits [] ≡ ended_of o 0 0 [] → reader.Read bits entries ≡ read_answer_by o
+judged-whole : (o : Outcome Message) (entries bits : ℕ) → finished entries bits [] ≡ ended_of o 0 0 [] → Ok (record { bits = bits; entries = entries }) ≡ read_answer_by o
 judged-whole (accepted v cs n) entries bits e =
     let a : entries ≡ 0 + length cs = cc in
     let b : bits ≡ 0 + n = cc in
-    ap₂ (λ x y. reader.Read x y) (b ∙ zero-add n) (a ∙ zero-add (length cs))
+    ap₂ (λ x y. Ok (record { bits = x; entries = y })) (b ∙ zero-add n) (a ∙ zero-add (length cs))
 judged-whole (refused why) entries bits e = let z : ◌≡◌ {A = ℕ} 0 1 = cc in absurd (omega arith)
 
 module _ {payload : List ℕ} {start : State} (pass : Pass) (p : ReadPass payload start pass) where
   come : (l : Layout Message) → Walks field_of step_of start l → ended_by pass ≡ ended_of (read_l l (to_bits payload)) 0 0 []
   come l w = p.ends l w ∙ run-reads l (to_bits payload) 0 0 []
 
-  fault-judged : (why : answer.Fault) → pass ≡ Fault why → ReadJudged payload start (reader.Refused why)
+  fault-judged : (why : answer.Fault) → pass ≡ Err why → ReadJudged payload start (Err why)
   fault-judged why e = record { answers = λ l w. judged-fault (read_l l (to_bits payload)) why (ap ended_by (sym e) ∙ come l w) }
 
-  whole-judged : (entries bits : ℕ) → pass ≡ Whole entries bits → ReadJudged payload start (reader.Read bits entries)
+  whole-judged : (entries bits : ℕ) → pass ≡ Ok (record { entries = entries; bits = bits }) → ReadJudged payload start (Ok (record { bits = bits; entries = entries }))
   whole-judged entries bits e = record { answers = λ l w. judged-whole (read_l l (to_bits payload)) entries bits (ap ended_by (sym e) ∙ come l w) }
 
 -- ---- from the start of a type and subtype
 
 module _ (kind subtype : ℕ) (payload : List ℕ) (x : Start) (e : x ≡ start_of kind subtype) (pass : Pass) where
-  pub pass-known : (s : State) → x ≡ Known s → ReadPass payload s pass → StartedPass kind subtype payload pass
+  pub pass-known : (s : State) → x ≡ Some s → ReadPass payload s pass → StartedPass kind subtype payload pass
   pass-known s q p =
       record {
         from = λ start k.
-            let both : Known s ≡ Known start = sym q ∙ e ∙ k in
+            let both : Some s ≡ Some start = sym q ∙ e ∙ k in
             let same : s ≡ start = cc both in
             subst (λ y. ReadPass payload y pass) same p;
       }
 
-  pub pass-unknown : x ≡ Unknown → StartedPass kind subtype payload pass
+  pub pass-unknown : x ≡ None → StartedPass kind subtype payload pass
   pass-unknown q =
       record {
         from = λ start k.
-            let both : Unknown ≡ Known start = sym q ∙ e ∙ k in
+            let both : None ≡ Some start = sym q ∙ e ∙ k in
             let z : ◌≡◌ {A = ℕ} 0 1 = cc in absurd (omega arith);
       }
 
 module _ {kind subtype : ℕ} {payload : List ℕ} (pass : Pass) (p : StartedPass kind subtype payload pass) where
-  pub pass-fault : (why : answer.Fault) → pass ≡ Fault why → StartedJudged kind subtype payload (reader.Refused why)
+  pub pass-fault : (why : answer.Fault) → pass ≡ Err why → StartedJudged kind subtype payload (Err why)
   pass-fault why e = record { from = λ start k. fault-judged pass (p.from start k) why e }
 
-  pub pass-whole : (entries bits : ℕ) → pass ≡ Whole entries bits → StartedJudged kind subtype payload (reader.Read bits entries)
+  pub pass-whole : (entries bits : ℕ) → pass ≡ Ok (record { entries = entries; bits = bits }) → StartedJudged kind subtype payload (Ok (record { bits = bits; entries = entries }))
   pass-whole entries bits e = record { from = λ start k. whole-judged pass (p.from start k) entries bits e }
 
-start-there : (x : Start) → is_known_start x ≡ true → (s : State) × (x ≡ Known s)
-start-there (Known s) e = (s, refl)
-start-there Unknown e = let z : ◌≡◌ {A = ℕ} 0 1 = cc in absurd (omega arith)
+start-there : (x : Start) → is_known_start x ≡ true → (s : State) × (x ≡ Some s)
+start-there (Some s) e = (s, refl)
+start-there None e = let z : ◌≡◌ {A = ℕ} 0 1 = cc in absurd (omega arith)
 
 -- a refusal leaves the sheet; a second pass stores the codes
-refused-leaves : (o : Outcome Message) (why : answer.Fault) (sheet : List ℕ) → reader.Refused why ≡ read_answer_by o → sheet ≡ sheet_by o sheet
+refused-leaves : (o : Outcome Message) (why : answer.Fault) (sheet : List ℕ) → Err why ≡ read_answer_by o → sheet ≡ sheet_by o sheet
 refused-leaves (accepted v cs n) why sheet e = let z : ◌≡◌ {A = ℕ} 0 1 = cc in absurd (omega arith)
 refused-leaves (refused why') why sheet e = refl
 
 -- a message that is accepted, stored from its layout
 stored-leaves : (payload sheet sheet' : List ℕ) (start : State) (l : Layout Message) (o : Outcome Message) (bits entries : ℕ) → Walks field_of step_of start l
-    → read_l l (to_bits payload) ≡ o → length payload ≤ longest_payload → sheet_room ≤ length sheet → reader.Read bits entries ≡ read_answer_by o
+    → read_l l (to_bits payload) ≡ o → length payload ≤ longest_payload → sheet_room ≤ length sheet → Ok (record { bits = bits; entries = entries }) ≡ read_answer_by o
     → (Finishes (run_l l (to_bits payload) 0 0 sheet) → Fills (run_l l (to_bits payload) 0 0 sheet) sheet') → sheet' ≡ sheet_by o sheet
 stored-leaves payload sheet sheet' start l (accepted v cs n) bits entries w e short room says fills =
     let run : run_l l (to_bits payload) 0 0 sheet ≡ finished (0 + length cs) (0 + n) (sets sheet 0 cs)
@@ -233,7 +228,7 @@ good_length bytes e = (good-some bytes e).1
 pub is-good : (bytes : ℕ) (b : Bool) → b ≡ bad_length bytes → b ≡ false → bad_length bytes ≡ false
 is-good bytes b m n = sym m ∙ n
 
-pub is_known : (kind subtype : ℕ) (x : Start) (start : State) → x ≡ start_of kind subtype → x ≡ Known start → is_known_start (start_of kind subtype) ≡ true
+pub is_known : (kind subtype : ℕ) (x : Start) (start : State) → x ≡ start_of kind subtype → x ≡ Some start → is_known_start (start_of kind subtype) ≡ true
 is_known kind subtype x start e q = ap is_known_start (sym e ∙ q)
 
 -- where a message starts, its type and subtype have a layout that the machine walks
@@ -242,25 +237,25 @@ pub record Started (kind subtype : ℕ) (start : State) : Type 0 where
   pub here : layout_for kind subtype ≡ present layout
   pub walks : Walks field_of step_of start layout
 
-started-by : (kind subtype : ℕ) (x : Start) (p : Part (Layout Message)) (start : State) → Starts x p → layout_for kind subtype ≡ p → x ≡ Known start
+started-by : (kind subtype : ℕ) (x : Start) (p : Part (Layout Message)) (start : State) → Starts x p → layout_for kind subtype ≡ p → x ≡ Some start
     → Started kind subtype start
-started-by kind subtype (Known s) (present l) start (known w) e q =
+started-by kind subtype (Some s) (present l) start (known w) e q =
     let same : s ≡ start = cc in
     record { layout = l; here = e; walks = subst (λ y. Walks field_of step_of y l) same w }
-started-by kind subtype Unknown absent start unknown e q = let z : ◌≡◌ {A = ℕ} 0 1 = cc in absurd (omega arith)
-started-by kind subtype (Known s) absent start x7 e q = elim x7 [ ]
-started-by kind subtype Unknown (present l) start x8 e q = elim x8 [ ]
+started-by kind subtype None absent start unknown e q = let z : ◌≡◌ {A = ℕ} 0 1 = cc in absurd (omega arith)
+started-by kind subtype (Some s) absent start x7 e q = elim x7 [ ]
+started-by kind subtype None (present l) start x8 e q = elim x8 [ ]
 
-pub started : (kind subtype : ℕ) (x : Start) (start : State) → x ≡ start_of kind subtype → x ≡ Known start → Started kind subtype start
+pub started : (kind subtype : ℕ) (x : Start) (start : State) → x ≡ start_of kind subtype → x ≡ Some start → Started kind subtype start
 started kind subtype x start e q = started-by kind subtype (start_of kind subtype) (layout_for kind subtype) start (starts kind subtype) refl (sym e ∙ q)
 
-none-by : (x : Start) (p : Part (Layout Message)) → Starts x p → x ≡ Unknown → p ≡ absent
-none-by (Known s) (present l) (known w) q = let z : ◌≡◌ {A = ℕ} 0 1 = cc in absurd (omega arith)
-none-by Unknown absent unknown q = refl
-none-by (Known s) absent x5 q = elim x5 [ ]
-none-by Unknown (present l) x6 q = elim x6 [ ]
+none-by : (x : Start) (p : Part (Layout Message)) → Starts x p → x ≡ None → p ≡ absent
+none-by (Some s) (present l) (known w) q = let z : ◌≡◌ {A = ℕ} 0 1 = cc in absurd (omega arith)
+none-by None absent unknown q = refl
+none-by (Some s) absent x5 q = elim x5 [ ]
+none-by None (present l) x6 q = elim x6 [ ]
 
-pub not-started : (kind subtype : ℕ) (x : Start) → x ≡ start_of kind subtype → x ≡ Unknown → layout_for kind subtype ≡ absent
+pub not-started : (kind subtype : ℕ) (x : Start) → x ≡ start_of kind subtype → x ≡ None → layout_for kind subtype ≡ absent
 not-started kind subtype x e q = none-by (start_of kind subtype) (layout_for kind subtype) (starts kind subtype) (sym e ∙ q)
 
 -- ---- `judge`
@@ -270,17 +265,17 @@ module _ (kind subtype : ℕ) (payload : List ℕ) where
   unfolding judged
   is-judged o e = ap read_answer_by (sym e)
 
-  pub judge-unknown : (x : Start) → x ≡ start_of kind subtype → x ≡ Unknown → reader.Refused (nowhere refusal.UnknownType) ≡ judged kind subtype payload
+  pub judge-unknown : (x : Start) → x ≡ start_of kind subtype → x ≡ None → Err (nowhere refusal.UnknownType) ≡ judged kind subtype payload
   judge-unknown x e q = is-judged (refused (nowhere refusal.UnknownType)) (judging-with kind subtype payload (not-started kind subtype x e q) refl)
 
-  pub judge-length : (x : Start) (start : State) → x ≡ start_of kind subtype → x ≡ Known start → (b : Bool) → b ≡ bad_length (length payload) → b ≡ true
-      → reader.Refused (nowhere refusal.Length) ≡ judged kind subtype payload
+  pub judge-length : (x : Start) (start : State) → x ≡ start_of kind subtype → x ≡ Some start → (b : Bool) → b ≡ bad_length (length payload) → b ≡ true
+      → Err (nowhere refusal.Length) ≡ judged kind subtype payload
   judge-length x start e q b m n = is-judged (refused (nowhere refusal.Length)) (judging-with kind subtype payload (started kind subtype x start e q).here (sym m ∙ n))
 
   module _ (there : is_known_start (start_of kind subtype) ≡ true) (good : bad_length (length payload) ≡ false) where
     -- where it starts, what the layout's reading says is the answer
     judge-by : (r : ReadAnswer)
-        → ((start : State) → start_of kind subtype ≡ Known start → (l : Layout Message) → layout_for kind subtype ≡ present l → Walks field_of step_of start l
+        → ((start : State) → start_of kind subtype ≡ Some start → (l : Layout Message) → layout_for kind subtype ≡ present l → Walks field_of step_of start l
         → r ≡ read_answer_by (read_l l (to_bits payload)))
         → r ≡ judged kind subtype payload
     judge-by r f =
@@ -291,9 +286,9 @@ module _ (kind subtype : ℕ) (payload : List ℕ) where
     pub judge-machine : (r : ReadAnswer) → StartedJudged kind subtype payload r → r ≡ judged kind subtype payload
     judge-machine r w = judge-by r (λ start q l here walks. (w.from start q).answers l walks)
 
-    pub judge-quick : (x : Quick) (bits entries : ℕ) → x ≡ quick_of kind subtype payload → x ≡ Reads bits entries → reader.Read bits entries ≡ judged kind subtype payload
+    pub judge-quick : (x : Quick) (bits entries : ℕ) → x ≡ quick_of kind subtype payload → x ≡ Some (record { bits = bits; entries = entries }) → Ok (record { bits = bits; entries = entries }) ≡ judged kind subtype payload
     judge-quick x bits entries e r =
-        judge-by (reader.Read bits entries) (λ start q l here walks.
+        judge-by (Ok (record { bits = bits; entries = entries })) (λ start q l here walks.
         judged-whole (read_l l (to_bits payload)) entries bits
         (sym (quick-reads kind subtype payload bits entries (sym e ∙ r) l here) ∙ run-reads l (to_bits payload) 0 0 []))
 
@@ -313,15 +308,15 @@ module _ (kind subtype : ℕ) (payload sheet : List ℕ) where
   unfolding read_answer sheet_after
   meets o e = record { says = ap read_answer_by (sym e); leaves = ap (λ x. sheet_by x sheet) (sym e) }
 
-  pub read-room : length sheet < sheet_room → Met kind subtype payload sheet (reader.Refused (nowhere refusal.Room)) sheet
+  pub read-room : length sheet < sheet_room → Met kind subtype payload sheet (Err (nowhere refusal.Room)) sheet
   read-room h = meets (refused (nowhere refusal.Room)) (reading-with kind subtype payload sheet (lt-ltb (length sheet) sheet_room h) refl refl)
 
   module _ (room : sheet_room ≤ length sheet) where
-    pub read-unknown : (x : Start) → x ≡ start_of kind subtype → x ≡ Unknown → Met kind subtype payload sheet (reader.Refused (nowhere refusal.UnknownType)) sheet
+    pub read-unknown : (x : Start) → x ≡ start_of kind subtype → x ≡ None → Met kind subtype payload sheet (Err (nowhere refusal.UnknownType)) sheet
     read-unknown x e q = meets (refused (nowhere refusal.UnknownType)) (reading-with kind subtype payload sheet (le-ltb (length sheet) sheet_room room) (not-started kind subtype x e q) refl)
 
-    pub read_length : (x : Start) (start : State) → x ≡ start_of kind subtype → x ≡ Known start → (b : Bool) → b ≡ bad_length (length payload) → b ≡ true
-        → Met kind subtype payload sheet (reader.Refused (nowhere refusal.Length)) sheet
+    pub read_length : (x : Start) (start : State) → x ≡ start_of kind subtype → x ≡ Some start → (b : Bool) → b ≡ bad_length (length payload) → b ≡ true
+        → Met kind subtype payload sheet (Err (nowhere refusal.Length)) sheet
     read_length x start e q b m n =
         meets (refused (nowhere refusal.Length)) (reading-with kind subtype payload sheet (le-ltb (length sheet) sheet_room room) (started kind subtype x start e q).here (sym m ∙ n))
 
@@ -339,22 +334,22 @@ module _ (kind subtype : ℕ) (payload sheet : List ℕ) where
           let g = meets o (reading-with kind subtype payload sheet (le-ltb (length sheet) sheet_room room) k.here good) in
           record { says = says ∙ g.says; leaves = f s.0 k.layout k.here k.walks says ∙ g.leaves }
 
-      pub read-refused : (why : answer.Fault) → j ≡ reader.Refused why → Met kind subtype payload sheet (reader.Refused why) sheet
-      read-refused why e = meet (reader.Refused why) sheet e (λ start l here walks says. refused-leaves (read_l l (to_bits payload)) why sheet says)
+      pub read-refused : (why : answer.Fault) → j ≡ Err why → Met kind subtype payload sheet (Err why) sheet
+      read-refused why e = meet (Err why) sheet e (λ start l here walks says. refused-leaves (read_l l (to_bits payload)) why sheet says)
 
-      pub read-stored : (sheet' : List ℕ) (bits entries : ℕ) → j ≡ reader.Read bits entries → Filled kind subtype payload sheet sheet'
-          → Met kind subtype payload sheet (reader.Read bits entries) sheet'
+      pub read-stored : (sheet' : List ℕ) (bits entries : ℕ) → j ≡ Ok (record { bits = bits; entries = entries }) → Filled kind subtype payload sheet sheet'
+          → Met kind subtype payload sheet (Ok (record { bits = bits; entries = entries })) sheet'
       read-stored sheet' bits entries e p =
-          meet (reader.Read bits entries) sheet' e (λ start l here walks says.
+          meet (Ok (record { bits = bits; entries = entries })) sheet' e (λ start l here walks says.
           stored-leaves payload sheet sheet' start l (read_l l (to_bits payload)) bits entries walks refl (good_length (length payload) good) room says (p.fills l here))
 
 -- ---- the codes of an accepted message
 
-pub subtype-known : (subtype : ℕ) (c : Constellation) → constellation_for subtype ≡ sub.Known c → constellation_of subtype ≡ present c
+pub subtype-known : (subtype : ℕ) (c : Constellation) → constellation_for subtype ≡ Some c → constellation_of subtype ≡ present c
 subtype-known subtype c = go (eqb subtype 0) (eqb subtype 1) (eqb subtype 2) (eqb subtype 3) (eqb subtype 4)
   where
     go : (a b d e f : Bool)
-        → pick a (sub.Known Gps) (pick b (sub.Known Glonass) (pick d (sub.Known Galileo) (pick e (sub.Known BeiDou) (pick f (sub.Known Qzss) sub.Unknown)))) ≡ sub.Known c
+        → pick a (Some Gps) (pick b (Some Glonass) (pick d (Some Galileo) (pick e (Some BeiDou) (pick f (Some Qzss) None)))) ≡ Some c
         → pick a (present Gps) (pick b (present Glonass) (pick d (present Galileo) (pick e (present BeiDou) (pick f (present Qzss) absent)))) ≡ present c
     go true b d e f q = let same : Gps ≡ c = cc in ap present same
     go false true d e f q = let same : Glonass ≡ c = cc in ap present same
@@ -395,13 +390,13 @@ module _ {payload sheet sheet' : List ℕ} where
   filled-only kind subtype layout count used true e is = filled-by kind subtype layout count used e is
   filled-only kind subtype layout count used false e is = filled_none kind subtype e
 
-  pub filled-hpac : (subtype : ℕ) (x : Subtype) (c : Constellation) → x ≡ constellation_for subtype → x ≡ sub.Known c → HpacStored c payload sheet sheet'
+  pub filled-hpac : (subtype : ℕ) (x : Subtype) (c : Constellation) → x ≡ constellation_for subtype → x ≡ Some c → HpacStored c payload sheet sheet'
       → Filled 1 subtype payload sheet sheet'
   filled-hpac subtype x c e q p = filled-by 1 subtype (hpac_layout c) p.count p.used (ap (by_constellation hpac_layout) (subtype-known subtype c (sym e ∙ q))) p.is
 
-  pub filled-no-hpac : (subtype : ℕ) (x : Subtype) → x ≡ constellation_for subtype → x ≡ sub.Unknown → Filled 1 subtype payload sheet sheet'
+  pub filled-no-hpac : (subtype : ℕ) (x : Subtype) → x ≡ constellation_for subtype → x ≡ None → Filled 1 subtype payload sheet sheet'
   filled-no-hpac subtype x e q =
-      let none : start_of 1 subtype ≡ Unknown = ap hpac_start (sym e ∙ q) in
+      let none : start_of 1 subtype ≡ None = ap hpac_start (sym e ∙ q) in
       filled_none 1 subtype (not-started 1 subtype (start_of 1 subtype) refl none)
 
   pub filled-kind : (kind subtype n : ℕ) → kind ≡ n → Filled n subtype payload sheet sheet' → Filled kind subtype payload sheet sheet'

@@ -1,4 +1,5 @@
 -- A row whose group is one cell, and a code put where there is no room, over plain variables: what the proofs of `row` cite for them.
+use Rattle.std.specs.Prelude.{Ok, Err}
 use mathlib.Core.Path.{◌≡◌, refl, ap, sym, ◌∙◌, subst}
 use mathlib.Core.Bool.{Bool, true, false, cond, ◌&&◌, not, false≢true}
 use mathlib.Core.List.{List, [], ◌∷◌}
@@ -14,8 +15,7 @@ use Rattle.bits.specs.Bits.{to_bits, bits_of, leaves}
 use Rattle.fields.specs.Packed.{refuses}
 use Rattle.rows.specs.Rows.{cells_in, again}
 use Rattle.rows.specs.Puts.{onward, writing}
-use Rattle.sheet.specs.declared.row.Ran.{Ran}
-use Rattle.sheet.specs.declared.row.Ran.TheVariants.{To, Stopped}
+use Rattle.sheet.specs.Results.{Ran}
 use Rattle.sheet.specs.Walked.{line_in, one_cell, Walked}
 use Rattle.sheet.proofs.Walking.{Writing, writing-first, writing-done, writing-short, writing-fault, writing-again}
 use Rattle.sheet.proofs.Walking.{Rounds, rounds-first, rounds-fault, rounds-done, rounds-again}
@@ -91,34 +91,34 @@ module _ {sheet out₀ : List ℕ} {group tail more₀ pos₀ at₀ one same wid
   line-put : same ≡ line_in (group % 256)
   line-put = t.line ∙ ap line_in t.cell
 
-  unwritten : (why : answer.Fault) (r : Ran) → r ≡ Stopped why → Walked (writing sheet) (cells_in group) pos at t.last (to_bits out) r (to_bits out)
+  unwritten : (why : answer.Fault) (r : Ran) → r ≡ Err why → Walked (writing sheet) (cells_in group) pos at t.last (to_bits out) r (to_bits out)
       → Walked (writing sheet) (again (suc more₀) (cells_in group) (cells_in tail)) pos₀ at₀ 0 (to_bits out₀) r (to_bits out)
   unwritten why r e w =
       subst (λ x. Walked (writing sheet) (again (suc more₀) (cells_in group) (cells_in tail)) pos₀ at₀ 0 (to_bits out₀) x (to_bits out)) (sym e) (rounds-fault t.on r (to_bits out) w why e)
 
-  pub same-write-short : (r : Ran) → length sheet ≤ at → r ≡ Stopped (fault_at refusal.Short one at)
+  pub same-write-short : (r : Ran) → length sheet ≤ at → r ≡ Err (fault_at refusal.Short one at)
       → Walked (writing sheet) (again (suc more₀) (cells_in group) (cells_in tail)) pos₀ at₀ 0 (to_bits out₀) r (to_bits out)
   same-write-short r h q =
       unwritten (fault_at refusal.Short one at) r q
-      (writing-short first-put (one-is group t.alone).some same line-put r h (q ∙ ap (λ (n : ℕ). Stopped (fault_at refusal.Short n at)) t.cell))
+      (writing-short first-put (one-is group t.alone).some same line-put r h (q ∙ ap (λ (n : ℕ). Err (fault_at refusal.Short n at)) t.cell))
 
   module _ (h : at < length sheet) (b : Bool) (j : b ≡ refuses same (get_or sheet at 0)) where
-    pub same-write-fault : (r : Ran) → b ≡ true → r ≡ Stopped (fault_at refusal.Field one at)
+    pub same-write-fault : (r : Ran) → b ≡ true → r ≡ Err (fault_at refusal.Field one at)
         → Walked (writing sheet) (again (suc more₀) (cells_in group) (cells_in tail)) pos₀ at₀ 0 (to_bits out₀) r (to_bits out)
     same-write-fault r q i =
         unwritten (fault_at refusal.Field one at) r i
-        (writing-fault first-put (one-is group t.alone).some same line-put h b j r q (i ∙ ap (λ (n : ℕ). Stopped (fault_at refusal.Field n at)) t.cell))
+        (writing-fault first-put (one-is group t.alone).some same line-put h b j r q (i ∙ ap (λ (n : ℕ). Err (fault_at refusal.Field n at)) t.cell))
 
     module _ (out' : List ℕ) (pos' : ℕ) (q : b ≡ false) (kept : length out' ≡ length out) (put : to_bits out' ≡ leaves out pos wide (get_or sheet at 0))
         (moved : (pos' ≡ onward pos wide) × (pos < 2 ^ 33 → pos' < 2 ^ 33)) where
-      put-behind : Walked (writing sheet) (cells_in group) pos at t.last (to_bits out) (To pos' (at + 1) (get_or sheet at 0)) (to_bits out')
+      put-behind : Walked (writing sheet) (cells_in group) pos at t.last (to_bits out) (Ok (record { pos = pos'; at = at + 1; last = get_or sheet at 0 })) (to_bits out')
       put-behind =
           let low : group < 256 = (one-is group t.alone).low in
           writing-done (writing-again first-put (one-is group t.alone).some same line-put h b j wide out' pos' t.width q kept put moved) (omega arith)
 
       pub same-write-done : left ≡ 0 → (r : Ran) (bits : List ℕ) → Walked (writing sheet) (cells_in tail) pos' (at + 1) (get_or sheet at 0) (to_bits out') r bits
           → Walked (writing sheet) (again (suc more₀) (cells_in group) (cells_in tail)) pos₀ at₀ 0 (to_bits out₀) r bits
-      same-write-done z r bits w = rounds-done t.on (To pos' (at + 1) (get_or sheet at 0)) (to_bits out') put-behind pos' (at + 1) (get_or sheet at 0) refl z r bits w
+      same-write-done z r bits w = rounds-done t.on (Ok (record { pos = pos'; at = at + 1; last = get_or sheet at 0 })) (to_bits out') put-behind pos' (at + 1) (get_or sheet at 0) refl z r bits w
 
       pub same-write-again : (left ≡ 0 → ⊥) → SameWrite sheet out₀ group tail more₀ pos₀ at₀ one same wide out' (left - 1) pos' (at + 1)
       same-write-again n =
@@ -129,5 +129,5 @@ module _ {sheet out₀ : List ℕ} {group tail more₀ pos₀ at₀ one same wid
             width = t.width;
             kept = kept ∙ t.kept;
             last = get_or sheet at 0;
-            on = rounds-again t.on (To pos' (at + 1) (get_or sheet at 0)) (to_bits out') put-behind pos' (at + 1) (get_or sheet at 0) refl n;
+            on = rounds-again t.on (Ok (record { pos = pos'; at = at + 1; last = get_or sheet at 0 })) (to_bits out') put-behind pos' (at + 1) (get_or sheet at 0) refl n;
           }

@@ -1,4 +1,5 @@
 -- The returns and the turns of store_ocb.rt over plain variables: what the proofs of its functions cite.
+use Rattle.std.specs.Prelude.{Some, None}
 use mathlib.Core.Path.{◌≡◌, refl, ap, sym, ◌∙◌, subst}
 use mathlib.Core.Bool.{Bool}
 use mathlib.Core.List.{List, [], ◌∷◌}
@@ -26,9 +27,7 @@ use Rattle.codes.specs.Stepping.{counted}
 use Rattle.ocb.specs.Tables.{ephemeris_sf, iode_sf, phase_sf, code_sf}
 use Rattle.ocb.specs.Ocb as ocb
 use Rattle.message.specs.Machine.{start_of, ocb_start}
-use Rattle.message.specs.declared.Start.TheVariants.{Unknown}
-use Rattle.message.specs.declared.Subtype.{Subtype}
-use Rattle.message.specs.declared.Subtype.TheVariants as sub
+use Rattle.message.specs.Results.{Subtype}
 use Rattle.message.specs.Messages.{Message, ocb_message, ocb_layout, constellation_for, by_constellation}
 use Rattle.quick.specs.Ocb.{ephemeris_width, iode_width}
 use Rattle.quick.specs.Passes.{got-small, got-part}
@@ -519,11 +518,11 @@ ocb-stored c payload sheet yaw s1 s2 s3 p1 p2 p3 =
 -- ---- the codes of an accepted OCB
 
 module _ {payload sheet sheet' : List ℕ} where
-  pub filled-ocb : (subtype : ℕ) (x : Subtype) (c : Constellation) → x ≡ constellation_for subtype → x ≡ sub.Known c → OcbStored c payload sheet sheet'
+  pub filled-ocb : (subtype : ℕ) (x : Subtype) (c : Constellation) → x ≡ constellation_for subtype → x ≡ Some c → OcbStored c payload sheet sheet'
       → Filled 0 subtype payload sheet sheet'
   filled-ocb subtype x c e q p = filled-by 0 subtype (ocb_layout c) p.count p.used (ap (by_constellation ocb_layout) (subtype-known subtype c (sym e ∙ q))) p.is
 
-  pub filled-no-ocb : (subtype : ℕ) (x : Subtype) → x ≡ constellation_for subtype → x ≡ sub.Unknown → Filled 0 subtype payload sheet sheet'
+  pub filled-no-ocb : (subtype : ℕ) (x : Subtype) → x ≡ constellation_for subtype → x ≡ None → Filled 0 subtype payload sheet sheet'
   filled-no-ocb subtype x e q =
-      let none : start_of 0 subtype ≡ Unknown = ap ocb_start (sym e ∙ q) in
+      let none : start_of 0 subtype ≡ None = ap ocb_start (sym e ∙ q) in
       filled_none 0 subtype (not-started 0 subtype (start_of 0 subtype) refl none)

@@ -1,4 +1,5 @@
 -- A row walked over by its cells, over plain variables: what the proofs of `row` cite, and that of `write_pass` where a row is walked.
+use Rattle.std.specs.Prelude.{Ok, Err}
 use mathlib.Core.Path.{◌≡◌, refl, ap, sym, ◌∙◌, subst}
 use mathlib.Core.Bool.{Bool, true, false}
 use mathlib.Core.List.{List}
@@ -10,7 +11,6 @@ use Rattle.answer.specs.declared.Refusal.TheVariants as refusal
 use Rattle.answer.specs.declared.Fault as answer
 use Rattle.answer.specs.Place.{fault_at}
 use Rattle.bits.specs.Bits.{to_bits, leaves}
-use Rattle.layout.specs.declared.Verdict.TheVariants as verdict
 use Rattle.layout.specs.Layout.{Layout, pick, judge}
 use Rattle.layout.specs.Run.{Ended}
 use Rattle.layout.specs.Run as ended
@@ -27,17 +27,16 @@ use Rattle.message.specs.declared.State.{State}
 use Rattle.message.specs.Machine.{field_of, step_of}
 use Rattle.message.specs.Messages.{Message}
 use Rattle.message.specs.Rows.{row_of, last_of, rowed}
-use Rattle.sheet.specs.declared.row.Ran.{Ran}
-use Rattle.sheet.specs.declared.row.Ran.TheVariants.{To, Stopped}
+use Rattle.sheet.specs.Results.{Ran}
 use Rattle.sheet.specs.Walked.{line_in, went_by, Walked}
 use Rattle.sheet.proofs.Lines.{number_in, width-in, judge-in}
 
 -- what the code's test says is the field's verdict
 judged-in : (cell code : ℕ) {line : ℕ} {x y : Bool} → line ≡ line_in cell → x ≡ refuses line code → x ≡ y
-    → judge (field_in cell) code ≡ pick y (verdict.Fault refusal.Field) verdict.Taken
+    → judge (field_in cell) code ≡ pick y (Err refusal.Field) (Ok tt)
 judged-in cell code e j q =
     judge-in cell code
-    ∙ ap (λ b. pick b (verdict.Fault refusal.Field) verdict.Taken) (ap (λ (l : ℕ). refuses l code) (sym e) ∙ sym j ∙ q)
+    ∙ ap (λ b. pick b (Err refusal.Field) (Ok tt)) (ap (λ (l : ℕ). refuses l code) (sym e) ∙ sym j ∙ q)
 
 -- ---- the cells of a word, written
 
@@ -49,11 +48,11 @@ pub writing-first : (sheet out : List ℕ) (word pos at last : ℕ) → Writing 
 writing-first sheet out word pos at last = record { same = refl; on = refl }
 
 module _ {sheet out₀ : List ℕ} {word₀ pos₀ at₀ last₀ : ℕ} {out : List ℕ} {word pos at last : ℕ} (t : Writing sheet out₀ word₀ pos₀ at₀ last₀ out word pos at last) where
-  pub writing-done : word ≡ 0 → Walked (writing sheet) (cells_in word₀) pos₀ at₀ last₀ (to_bits out₀) (To pos at last) (to_bits out)
+  pub writing-done : word ≡ 0 → Walked (writing sheet) (cells_in word₀) pos₀ at₀ last₀ (to_bits out₀) (Ok (record { pos = pos; at = at; last = last })) (to_bits out)
   writing-done z = record { went = sym (walk_none (writing sheet) word pos at last (to_bits out) z) ∙ t.on }
 
   module _ (some : word ≡ 0 → ⊥) (line : ℕ) (e : line ≡ line_in (word % 256)) where
-    pub writing-short : (r : Ran) → length sheet ≤ at → r ≡ Stopped (fault_at refusal.Short (word % 256) at)
+    pub writing-short : (r : Ran) → length sheet ≤ at → r ≡ Err (fault_at refusal.Short (word % 256) at)
         → Walked (writing sheet) (cells_in word₀) pos₀ at₀ last₀ (to_bits out₀) r (to_bits out)
     writing-short r h q =
         record {
@@ -62,7 +61,7 @@ module _ {sheet out₀ : List ℕ} {word₀ pos₀ at₀ last₀ : ℕ} {out : L
         }
 
     module _ (h : at < length sheet) (b : Bool) (j : b ≡ refuses line (get_or sheet at 0)) where
-      pub writing-fault : (r : Ran) → b ≡ true → r ≡ Stopped (fault_at refusal.Field (word % 256) at)
+      pub writing-fault : (r : Ran) → b ≡ true → r ≡ Err (fault_at refusal.Field (word % 256) at)
           → Walked (writing sheet) (cells_in word₀) pos₀ at₀ last₀ (to_bits out₀) r (to_bits out)
       writing-fault r q i =
           record {
@@ -104,10 +103,10 @@ module _ {way : Way} {group tail more₀ pos₀ at₀ : ℕ} {lent₀ : List ℕ
       ap (λ x. then x (λ p a l s. walk way (again more (cells_in group) (cells_in tail)) p a l s)) walked.went
       ∙ sym (walk-append way (cells_in group) (again more (cells_in group) (cells_in tail)) pos at last lent) ∙ t.on
 
-  pub rounds-fault : (why : answer.Fault) → r ≡ Stopped why → Walked way (again (suc more₀) (cells_in group) (cells_in tail)) pos₀ at₀ 0 lent₀ (Stopped why) lent₁
+  pub rounds-fault : (why : answer.Fault) → r ≡ Err why → Walked way (again (suc more₀) (cells_in group) (cells_in tail)) pos₀ at₀ 0 lent₀ (Err why) lent₁
   rounds-fault why e = record { went = rw e at after-group }
 
-  module _ (p a l : ℕ) (e : r ≡ To p a l) where
+  module _ (p a l : ℕ) (e : r ≡ Ok (record { pos = p; at = a; last = l })) where
     after-to : walk way (again more (cells_in group) (cells_in tail)) p a l lent₁ ≡ walk way (again (suc more₀) (cells_in group) (cells_in tail)) pos₀ at₀ 0 lent₀
     after-to = rw e at after-group
 
@@ -125,7 +124,7 @@ came : {Place : (pos at : ℕ) → Type 0} {p a l : ℕ} {lent : List ℕ} → C
 came (comes h) = h
 
 module _ {cs : List ℕ} {pos at last : ℕ} {lent : List ℕ} {r : Ran} {lent' : List ℕ} (p a l : ℕ) where
-  pub wrote-to : (sheet : List ℕ) → Walked (writing sheet) cs pos at last lent r lent' → r ≡ To p a l → at ≤ length sheet → pos < 2 ^ 33
+  pub wrote-to : (sheet : List ℕ) → Walked (writing sheet) cs pos at last lent r lent' → r ≡ Ok (record { pos = p; at = a; last = l }) → at ≤ length sheet → pos < 2 ^ 33
       → Wrote sheet cs at 0 p a
   wrote-to sheet w e h k = came (subst (Comes (Wrote sheet cs at 0)) (sym (rw e at w.went)) (writing-comes sheet cs pos at last lent h k))
 
@@ -150,13 +149,13 @@ module _ {way : Way} {Run : (pos at : ℕ) (lent : List ℕ) → Layout Message 
       subst (Follows field_of step_of way Run here (step_of (last_of s))) (sym walked.went)
       (along-walk field_of step_of way Run turns (cells_of row) pos at 0 lent run walks (row-along q some))
 
-  pub row-stopped : (why : answer.Fault) → r ≡ Stopped why → here ≡ ended.stopped why
+  pub row-stopped : (why : answer.Fault) → r ≡ Err why → here ≡ ended.stopped why
   row-stopped why e = go (subst (λ x. Follows field_of step_of way Run here (step_of (last_of s)) (went_by x lent')) e follows)
     where
       go : Follows field_of step_of way Run here (step_of (last_of s)) (stopped why lent') → here ≡ ended.stopped why
       go (ends h) = h
 
-  pub row-to : (p a c : ℕ) → r ≡ To p a c → After (step_of (last_of s) c) Run here p a lent'
+  pub row-to : (p a c : ℕ) → r ≡ Ok (record { pos = p; at = a; last = c }) → After (step_of (last_of s) c) Run here p a lent'
   row-to p a c e = go (subst (λ x. Follows field_of step_of way Run here (step_of (last_of s)) (went_by x lent')) e follows)
     where
       go : Follows field_of step_of way Run here (step_of (last_of s)) (to p a c lent') → After (step_of (last_of s) c) Run here p a lent'

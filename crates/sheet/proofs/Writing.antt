@@ -1,4 +1,5 @@
 -- The turns and the ends of a pass over a sheet, and of the whole writing, over plain variables: what the proofs of `write` and its parts cite.
+use Rattle.std.specs.Prelude.{Ok, Err, Some, None}
 use mathlib.Core.Path.{◌≡◌, refl, ap, ap₂, sym, ◌∙◌, subst}
 use mathlib.Core.Bool.{Bool, true, false}
 use mathlib.Core.List.{List, ◌++◌, append_assoc}
@@ -18,8 +19,7 @@ use Rattle.answer.specs.Further.{further-none}
 use Rattle.bits.specs.Bits.{to_bits, bits_of, leaves}
 use Rattle.bits.specs.Laws.{leaves-there, length-to_bits, length-bits_of, to_bits-append, to_bits-take, to_bits-drop}
 use Rattle.layout.specs.declared.Field.{Field}
-use Rattle.layout.specs.declared.Verdict.{Verdict}
-use Rattle.layout.specs.declared.Verdict.TheVariants as verdict
+use Rattle.layout.specs.Results.{Verdict}
 use Rattle.layout.specs.Parts.{Part, absent, present}
 use Rattle.layout.specs.Layout.{Layout, judge, Written, written, unwritten, write_l}
 use Rattle.layout.specs.Run.{finished, stopped, On}
@@ -27,17 +27,14 @@ use Rattle.layout.specs.Put.{put_l, ended_w, put-writes, put-done, put-over, put
 use Rattle.layout.specs.Walks.{Walks}
 use Rattle.rows.specs.Puts.{onward, Counted, leaves-bits, Kept, kept-first, kept_on}
 use Rattle.message.specs.declared.State.{State}
-use Rattle.message.specs.declared.Start.{Start}
-use Rattle.message.specs.declared.Start.TheVariants.{Known, Unknown}
+use Rattle.message.specs.Results.{Start}
 use Rattle.message.specs.Machine.{field_of, step_of, start_of}
 use Rattle.message.specs.Messages.{Message, layout_for}
 use Rattle.sheet.specs.Sheet.{bad_length, bytes_for, fill_for, then_length, judging_sheet, judged_sheet, writing, write_answer_by, out_by, write_answer, out_after}
 use Rattle.sheet.specs.Laws.{good-some, judging_sheet_with, judging-sheet-with, writing-with}
 use Rattle.sheet.specs.Passes.{ForLayout, PutBy, whole, fault, bits_of_pass, WritePass, bits_written, bytes_written, written_with, written_of, SheetPass, AsideBits, text, nothing, SheetKept, WriteWhole}
-use Rattle.sheet.specs.declared.WriteAnswer.{WriteAnswer}
-use Rattle.sheet.specs.declared.WriteAnswer.TheVariants as writer
-use Rattle.sheet.specs.declared.Pass.{Pass}
-use Rattle.sheet.specs.declared.Pass.TheVariants.{Whole, Fault}
+use Rattle.sheet.specs.Results.{WriteAnswer}
+use Rattle.sheet.specs.Results.{Pass}
 use Rattle.sheet.proofs.Reading.{walks-word, started, not-started}
 
 -- ---- a pass
@@ -70,12 +67,12 @@ turn-first sheet out s =
       };
     }
 
-pub ended-fault : (o : Written) (n : ℕ) (why : answer.Fault) (out out' : List ℕ) → ended_w o n 0 0 (to_bits out) ≡ stopped why → PutBy out out' o (Fault why)
+pub ended-fault : (o : Written) (n : ℕ) (why : answer.Fault) (out out' : List ℕ) → ended_w o n 0 0 (to_bits out) ≡ stopped why → PutBy out out' o (Err why)
 ended-fault (written bs) n why out out' e = let z : ◌≡◌ {A = ℕ} 0 1 = cc in absurd (omega arith)
-ended-fault (unwritten why') n why out out' e = let z : further 0 why' ≡ why = cc in let q : why' ≡ why = sym (further-none why') ∙ z in subst (λ x. PutBy out out' (unwritten x) (Fault why)) (sym q) fault
+ended-fault (unwritten why') n why out out' e = let z : further 0 why' ≡ why = cc in let q : why' ≡ why = sym (further-none why') ∙ z in subst (λ x. PutBy out out' (unwritten x) (Err why)) (sym q) fault
 
 ended-whole : (o : Written) (n entries count place : ℕ) (bits out out' : List ℕ) → ended_w o n 0 0 (to_bits out) ≡ finished entries place bits → Counted count place
-    → (place ≤ 8 * longest_payload → place ≤ 8 * length out → to_bits out' ≡ bits) → PutBy out out' o (Whole entries count)
+    → (place ≤ 8 * longest_payload → place ≤ 8 * length out → to_bits out' ≡ bits) → PutBy out out' o (Ok (record { entries = entries; bits = count }))
 ended-whole (written bs) n entries count place bits out out' e c h =
     let p : 0 + length bs ≡ place = cc in
     let q : sets (to_bits out) 0 bs ≡ bits = cc in
@@ -90,7 +87,7 @@ module _ {sheet out₀ : List ℕ} {s₀ : State} {out : List ℕ} {s : State} {
   width_is = ap (λ (x : Field). x.width) (sym e)
 
   stops : (why : answer.Fault) → ((place : ℕ) (bits : List ℕ) (l : Layout Message) → Walks field_of step_of s l → put_l l (drop at sheet) place at bits ≡ stopped why)
-      → WritePass sheet out₀ s₀ (Fault why) out
+      → WritePass sheet out₀ s₀ (Err why) out
   stops why h =
       record {
         puts = λ l w. let o = t.on l w in
@@ -99,10 +96,10 @@ module _ {sheet out₀ : List ℕ} {s₀ : State} {out : List ℕ} {s : State} {
         small = omega arith;
       }
 
-  pub turn-over : f.width ≡ 0 → at < length sheet → WritePass sheet out₀ s₀ (Fault (nowhere refusal.Leftover)) out
+  pub turn-over : f.width ≡ 0 → at < length sheet → WritePass sheet out₀ s₀ (Err (nowhere refusal.Leftover)) out
   turn-over z h = stops (nowhere refusal.Leftover) (λ place bits l w. put-over sheet place at bits w (width_is ∙ z) h)
 
-  pub turn-done : f.width ≡ 0 → length sheet ≤ at → WritePass sheet out₀ s₀ (Whole at pos) out
+  pub turn-done : f.width ≡ 0 → length sheet ≤ at → WritePass sheet out₀ s₀ (Ok (record { entries = at; bits = pos })) out
   turn-done z h =
       record {
         puts = λ l w. let o = t.on l w in
@@ -113,13 +110,13 @@ module _ {sheet out₀ : List ℕ} {s₀ : State} {out : List ℕ} {s : State} {
         small = t.small;
       }
 
-  short-here : (f.width ≡ 0 → ⊥) → length sheet ≤ at → WritePass sheet out₀ s₀ (Fault (fault_at refusal.Short f.sf at)) out
+  short-here : (f.width ≡ 0 → ⊥) → length sheet ≤ at → WritePass sheet out₀ s₀ (Err (fault_at refusal.Short f.sf at)) out
   short-here z h =
       let d : (field_of s).width ≡ f.width = width_is in
       stops (fault_at refusal.Short f.sf at) (λ place bits l w. put-short sheet place at bits w (omega arith) (omega (arith, t.inside))
       ∙ ap (λ (x : Field). stopped (fault_at refusal.Short x.sf at)) (sym e))
 
-  pub turn-short : (r : Pass) → (f.width ≡ 0 → ⊥) → length sheet ≤ at → r ≡ Fault (fault_at refusal.Short f.sf at) → WritePass sheet out₀ s₀ r out
+  pub turn-short : (r : Pass) → (f.width ≡ 0 → ⊥) → length sheet ≤ at → r ≡ Err (fault_at refusal.Short f.sf at) → WritePass sheet out₀ s₀ r out
   turn-short r z h i = subst (λ x. WritePass sheet out₀ s₀ x out) (sym i) (short-here z h)
 
   module _ (z : f.width ≡ 0 → ⊥) (h : at < length sheet) (v : Verdict) (j : v ≡ judge f (get_or sheet at 0)) where
@@ -129,16 +126,16 @@ module _ {sheet out₀ : List ℕ} {s₀ : State} {out : List ℕ} {s : State} {
     verdict-is : judge (field_of s) code ≡ v
     verdict-is = ap (λ (x : Field). judge x code) (sym e) ∙ sym j
 
-    fault-here : (why : Refusal) → v ≡ verdict.Fault why → WritePass sheet out₀ s₀ (Fault (fault_at why f.sf at)) out
+    fault-here : (why : Refusal) → v ≡ Err why → WritePass sheet out₀ s₀ (Err (fault_at why f.sf at)) out
     fault-here why q =
         let d : (field_of s).width ≡ f.width = width_is in
         stops (fault_at why f.sf at) (λ place bits l w. put-fault sheet place at bits code why w (omega arith) h refl (verdict-is ∙ q)
         ∙ ap (λ (x : Field). stopped (fault_at why x.sf at)) (sym e))
 
-    pub turn-fault : (r : Pass) (why : Refusal) → v ≡ verdict.Fault why → r ≡ Fault (fault_at why f.sf at) → WritePass sheet out₀ s₀ r out
+    pub turn-fault : (r : Pass) (why : Refusal) → v ≡ Err why → r ≡ Err (fault_at why f.sf at) → WritePass sheet out₀ s₀ r out
     turn-fault r why q i = subst (λ x. WritePass sheet out₀ s₀ x out) (sym i) (fault-here why q)
 
-    pub turn-again : (out' : List ℕ) (pos' : ℕ) (s' : State) → v ≡ verdict.Taken → length out' ≡ length out → to_bits out' ≡ leaves out pos f.width code
+    pub turn-again : (out' : List ℕ) (pos' : ℕ) (s' : State) → v ≡ Ok tt → length out' ≡ length out → to_bits out' ≡ leaves out pos f.width code
         → (pos' ≡ onward pos f.width) × (pos < 2 ^ 33 → pos' < 2 ^ 33) → s' ≡ step_of s code → Turn sheet out₀ s₀ out' s' pos' (at + 1)
     turn-again out' pos' s' q kept put moved stepped =
         let d : (field_of s).width ≡ f.width = width_is in
@@ -188,42 +185,42 @@ exact-by count bits c h = go (ltb (8 * longest_payload) bits) refl
     go false p = let a : bits ≤ 8 * longest_payload = ltb-false (8 * longest_payload) bits p in (c.exact a, a)
 
 -- what a pass says is the answer
-judged-fault : (o : Written) (pass : Pass) (none none' : List ℕ) (why : answer.Fault) → PutBy none' none o pass → pass ≡ Fault why
-    → writer.Refused why ≡ write_answer_by (then_length o)
-judged-fault (unwritten w) (Fault v) none none' why fault e = let q : w ≡ why = cc in ap (λ x. writer.Refused x) (sym q)
-judged-fault (written bs) (Whole n m) none none' why (whole c h) e = let z : ◌≡◌ {A = ℕ} 0 1 = cc in absurd (omega arith)
-judged-fault (written bs) (Fault v) none none' why x4 e = elim x4 [ ]
-judged-fault (unwritten w) (Whole n m) none none' why x4 e = elim x4 [ ]
+judged-fault : (o : Written) (pass : Pass) (none none' : List ℕ) (why : answer.Fault) → PutBy none' none o pass → pass ≡ Err why
+    → Err why ≡ write_answer_by (then_length o)
+judged-fault (unwritten w) (Err v) none none' why fault e = let q : w ≡ why = cc in ap (λ x. Err x) (sym q)
+judged-fault (written bs) (Ok p) none none' why (whole c h) e = let z : ◌≡◌ {A = ℕ} 0 1 = cc in absurd (omega arith)
+judged-fault (written bs) (Err v) none none' why x4 e = elim x4 [ ]
+judged-fault (unwritten w) (Ok p) none none' why x4 e = elim x4 [ ]
 
-judged-length : (o : Written) (pass : Pass) (none none' : List ℕ) (entries count : ℕ) → PutBy none' none o pass → pass ≡ Whole entries count
-    → bad_length (bytes_for count) ≡ true → writer.Refused (nowhere refusal.Length) ≡ write_answer_by (then_length o)
-judged-length (unwritten w) (Fault v) none none' entries count fault e b = let z : ◌≡◌ {A = ℕ} 0 1 = cc in absurd (omega arith)
-judged-length (written bs) (Whole n m) none none' entries count (whole c h) e b =
-    let q : m ≡ count = cc in
+judged-length : (o : Written) (pass : Pass) (none none' : List ℕ) (entries count : ℕ) → PutBy none' none o pass → pass ≡ Ok (record { entries = entries; bits = count })
+    → bad_length (bytes_for count) ≡ true → Err (nowhere refusal.Length) ≡ write_answer_by (then_length o)
+judged-length (unwritten w) (Err v) none none' entries count fault e b = let z : ◌≡◌ {A = ℕ} 0 1 = cc in absurd (omega arith)
+judged-length (written bs) (Ok p) none none' entries count (whole c h) e b =
+    let q : p.bits ≡ count = cc in
     rw (length-by count (length bs) (subst (λ x. Counted x (length bs)) q c) b)
-judged-length (written bs) (Fault v) none none' entries count x6 e b = elim x6 [ ]
-judged-length (unwritten w) (Whole n m) none none' entries count x5 e b = elim x5 [ ]
+judged-length (written bs) (Err v) none none' entries count x6 e b = elim x6 [ ]
+judged-length (unwritten w) (Ok p) none none' entries count x5 e b = elim x5 [ ]
 
-judged-whole : (o : Written) (pass : Pass) (none none' : List ℕ) (entries count : ℕ) → PutBy none' none o pass → pass ≡ Whole entries count
-    → bad_length (bytes_for count) ≡ false → writer.Written count (bytes_for count) ≡ write_answer_by (then_length o)
-judged-whole (unwritten w) (Fault v) none none' entries count fault e b = let z : ◌≡◌ {A = ℕ} 0 1 = cc in absurd (omega arith)
-judged-whole (written bs) (Whole n m) none none' entries count (whole c h) e b =
-    let q : m ≡ count = cc in
+judged-whole : (o : Written) (pass : Pass) (none none' : List ℕ) (entries count : ℕ) → PutBy none' none o pass → pass ≡ Ok (record { entries = entries; bits = count })
+    → bad_length (bytes_for count) ≡ false → Ok (record { bits = count; bytes = bytes_for count }) ≡ write_answer_by (then_length o)
+judged-whole (unwritten w) (Err v) none none' entries count fault e b = let z : ◌≡◌ {A = ℕ} 0 1 = cc in absurd (omega arith)
+judged-whole (written bs) (Ok p) none none' entries count (whole c h) e b =
+    let q : p.bits ≡ count = cc in
     let x : (count ≡ length bs) × (length bs ≤ 8 * longest_payload) = exact-by count (length bs) (subst (λ y. Counted y (length bs)) q c) b in
     let k : bad_length (bytes_for (length bs)) ≡ false = ap (λ (y : ℕ). bad_length (bytes_for y)) (sym x.0) ∙ b in
-    rw k (ap (λ (y : ℕ). writer.Written y (bytes_for y)) x.0)
-judged-whole (written bs) (Fault v) none none' entries count x6 e b = elim x6 [ ]
-judged-whole (unwritten w) (Whole n m) none none' entries count x5 e b = elim x5 [ ]
+    rw k (ap (λ (y : ℕ). Ok (record { bits = y; bytes = bytes_for y })) x.0)
+judged-whole (written bs) (Err v) none none' entries count x6 e b = elim x6 [ ]
+judged-whole (unwritten w) (Ok p) none none' entries count x5 e b = elim x5 [ ]
 
 aside-by : (o : Written) (pass : Pass) (aside aside' : List ℕ) → PutBy aside aside' o pass → AsideBits aside aside' o
-aside-by (written bs) (Whole n m) aside aside' (whole c h) = text h
-aside-by (unwritten w) (Fault v) aside aside' fault = nothing
-aside-by (written bs) (Fault v) aside aside' x'' = elim x'' [ ]
-aside-by (unwritten w) (Whole n m) aside aside' x3 = elim x3 [ ]
+aside-by (written bs) (Ok p) aside aside' (whole c h) = text h
+aside-by (unwritten w) (Err v) aside aside' fault = nothing
+aside-by (written bs) (Err v) aside aside' x'' = elim x'' [ ]
+aside-by (unwritten w) (Ok p) aside aside' x3 = elim x3 [ ]
 
 -- from the start of a type and subtype
 module _ (kind subtype : ℕ) (sheet out : List ℕ) (x : Start) (e : x ≡ start_of kind subtype) where
-  pub sheet-known : (pass : Pass) (out' : List ℕ) (start : State) → x ≡ Known start → WritePass sheet out start pass out' → SheetPass kind subtype sheet out pass out'
+  pub sheet-known : (pass : Pass) (out' : List ℕ) (start : State) → x ≡ Some start → WritePass sheet out start pass out' → SheetPass kind subtype sheet out pass out'
   sheet-known pass out' start q w =
       let k = started kind subtype x start e q in
       record {
@@ -231,23 +228,23 @@ module _ (kind subtype : ℕ) (sheet out : List ℕ) (x : Start) (e : x ≡ star
         small = w.small;
       }
 
-  pub sheet-unknown : x ≡ Unknown → SheetPass kind subtype sheet out (Fault (nowhere refusal.UnknownType)) out
+  pub sheet-unknown : x ≡ None → SheetPass kind subtype sheet out (Err (nowhere refusal.UnknownType)) out
   sheet-unknown q =
       record {
-        puts = subst (λ o. PutBy out out o (Fault (nowhere refusal.UnknownType))) (sym (ap (written_with sheet) (not-started kind subtype x e q))) fault;
+        puts = subst (λ o. PutBy out out o (Err (nowhere refusal.UnknownType))) (sym (ap (written_with sheet) (not-started kind subtype x e q))) fault;
         small = omega arith;
       }
 
 module _ {kind subtype : ℕ} {sheet aside : List ℕ} (dry : Pass) (aside' : List ℕ) (p : SheetPass kind subtype sheet aside dry aside') where
-  pub keep-fault : (why : answer.Fault) → dry ≡ Fault why → SheetKept kind subtype sheet aside (writer.Refused why) aside'
+  pub keep-fault : (why : answer.Fault) → dry ≡ Err why → SheetKept kind subtype sheet aside (Err why) aside'
   keep-fault why e =
       record {
         judged = record { answers = judged-fault (written_of kind subtype sheet) dry aside' aside why p.puts e; round = refl; good = omega arith };
         keeps = aside-by (written_of kind subtype sheet) dry aside aside' p.puts;
       }
 
-  module _ (entries count : ℕ) (e : dry ≡ Whole entries count) (b : Bool) (m : b ≡ bad_length (bytes_for count)) where
-    pub keep-length : b ≡ true → SheetKept kind subtype sheet aside (writer.Refused (nowhere refusal.Length)) aside'
+  module _ (entries count : ℕ) (e : dry ≡ Ok (record { entries = entries; bits = count })) (b : Bool) (m : b ≡ bad_length (bytes_for count)) where
+    pub keep-length : b ≡ true → SheetKept kind subtype sheet aside (Err (nowhere refusal.Length)) aside'
     keep-length n =
         record {
           judged = record {
@@ -258,7 +255,7 @@ module _ {kind subtype : ℕ} {sheet aside : List ℕ} (dry : Pass) (aside' : Li
           keeps = aside-by (written_of kind subtype sheet) dry aside aside' p.puts;
         }
 
-    pub keep-whole : b ≡ false → SheetKept kind subtype sheet aside (writer.Written count (bytes_for count)) aside'
+    pub keep-whole : b ≡ false → SheetKept kind subtype sheet aside (Ok (record { bits = count; bytes = bytes_for count })) aside'
     keep-whole n =
         record {
           judged = record {
@@ -271,7 +268,7 @@ module _ {kind subtype : ℕ} {sheet aside : List ℕ} (dry : Pass) (aside' : Li
 
 -- a refusal leaves the bytes; the bits kept aside are copied, with the fill behind them
 module _ (out : List ℕ) where
-  refused-leaves : (o : Written) (why : answer.Fault) → writer.Refused why ≡ write_answer_by o → to_bits out ≡ out_by o out
+  refused-leaves : (o : Written) (why : answer.Fault) → Err why ≡ write_answer_by o → to_bits out ≡ out_by o out
   refused-leaves (unwritten w) why e = refl
   refused-leaves (written bs) why e = let z : ◌≡◌ {A = ℕ} 0 1 = cc in absurd (omega arith)
 
@@ -288,23 +285,23 @@ module _ (out : List ℕ) where
       = ap (drop (n + w)) e ∙ drop-append-add bs (drop n (to_bits out)) w ∙ drop-drop w n (to_bits out) ∙ ap (λ (x : ℕ). drop x (to_bits out)) last in
       p ∙ leaves-there out₁ n w 0 (omega arith) (omega arith) ∙ ap₂ (λ x y. x ++ (bits_of w 0 ++ y)) front back
 
-  stored-leaves : (o : Written) (out₁ out₂ : List ℕ) (bits bytes : ℕ) → writer.Written bits bytes ≡ write_answer_by (then_length o)
+  stored-leaves : (o : Written) (out₁ out₂ : List ℕ) (bits bytes : ℕ) → Ok (record { bits = bits; bytes = bytes }) ≡ write_answer_by (then_length o)
       → longest_payload ≤ length out → length out₁ ≡ length out → AsideBits out out₁ o → to_bits out₂ ≡ leaves out₁ bits (8 * bytes - bits) 0
       → to_bits out₂ ≡ out_by (then_length o) out
   stored-leaves (unwritten w) out₁ out₂ bits bytes e room same d p = let z : ◌≡◌ {A = ℕ} 0 1 = cc in absurd (omega arith)
   stored-leaves (written bs) out₁ out₂ bits bytes e room same (text h) p = go (bad_length (bytes_for (length bs))) refl
     where
       go : (x : Bool) → bad_length (bytes_for (length bs)) ≡ x → to_bits out₂ ≡ out_by (then_length (written bs)) out
-      go true k = let z : writer.Written bits bytes ≡ writer.Refused (nowhere refusal.Length) = rw k at e in let y : ◌≡◌ {A = ℕ} 0 1 = cc in absurd (omega arith)
+      go true k = let z : Ok (record { bits = bits; bytes = bytes }) ≡ Err (nowhere refusal.Length) = rw k at e in let y : ◌≡◌ {A = ℕ} 0 1 = cc in absurd (omega arith)
       go false k =
-          let z : writer.Written bits bytes ≡ writer.Written (length bs) (bytes_for (length bs)) = rw k at e in
+          let z : Ok (record { bits = bits; bytes = bytes }) ≡ Ok (record { bits = length bs; bytes = bytes_for (length bs) }) = rw k at e in
           let i : bits ≡ length bs = cc in
           let j : bytes ≡ bytes_for (length bs) = cc in
           let few : bytes_for (length bs) ≤ longest_payload = (good-some (bytes_for (length bs)) k).1 in
           rw k (filled bs out₁ out₂ (omega arith) room same (h (omega arith) (omega arith)) (p ∙ ap₂ (λ (x y : ℕ). leaves out₁ x (8 * y - x) 0) i j))
 
 -- the bytes kept aside, in place of the first ones of `out`
-copied-leaves : (o : Written) (aside aside' out : List ℕ) (bits bytes : ℕ) → writer.Written bits bytes ≡ write_answer_by o → bytes ≤ longest_payload → longest_payload ≤ length out
+copied-leaves : (o : Written) (aside aside' out : List ℕ) (bits bytes : ℕ) → Ok (record { bits = bits; bytes = bytes }) ≡ write_answer_by o → bytes ≤ longest_payload → longest_payload ≤ length out
     → longest_payload ≤ length aside' → to_bits aside' ≡ out_by o aside → to_bits (take bytes aside' ++ drop bytes out) ≡ out_by o out
 copied-leaves (unwritten w) aside aside' out bits bytes e few room k p = let z : ◌≡◌ {A = ℕ} 0 1 = cc in absurd (omega arith)
 copied-leaves (written bs) aside aside' out bits bytes e few room k p =
@@ -320,14 +317,14 @@ copied-leaves (written bs) aside aside' out bits bytes e few room k p =
     ∙ append_assoc bs fill (drop (8 * bytes_for n) (to_bits out))
 
 module _ {kind subtype : ℕ} {sheet aside : List ℕ} (judged : WriteAnswer) (aside' : List ℕ) (p : SheetKept kind subtype sheet aside judged aside') where
-  pub whole-refused : {out : List ℕ} (why : answer.Fault) → judged ≡ writer.Refused why → WriteWhole kind subtype sheet out (writer.Refused why) out
+  pub whole-refused : {out : List ℕ} (why : answer.Fault) → judged ≡ Err why → WriteWhole kind subtype sheet out (Err why) out
   whole-refused {out} why e =
       record {
         answers = sym e ∙ p.judged.answers;
         leaves = refused-leaves out (then_length (written_of kind subtype sheet)) why (sym e ∙ p.judged.answers);
       }
 
-  module _ (bits bytes : ℕ) (e : judged ≡ writer.Written bits bytes) where
+  module _ (bits bytes : ℕ) (e : judged ≡ Ok (record { bits = bits; bytes = bytes })) where
     -- the count of bits is small enough to be taken from that of the bytes
     whole-bytes : bytes ≡ bytes_for bits
     whole-bytes = let r : bytes_written judged ≡ bytes_for (bits_written judged) = p.judged.round in rw e at r
@@ -357,7 +354,7 @@ module _ {kind subtype : ℕ} {sheet aside : List ℕ} (judged : WriteAnswer) (a
     pub whole-written : {out : List ℕ} (aside₂ out' : List ℕ) → longest_payload ≤ length out → longest_payload ≤ length aside → length aside' ≡ length aside
         → length aside₂ ≡ length aside' → to_bits aside₂ ≡ leaves aside' bits (8 * bytes - bits) 0
         → out' ≡ take bytes aside₂ ++ drop bytes out
-        → WriteWhole kind subtype sheet out (writer.Written bits bytes) out'
+        → WriteWhole kind subtype sheet out (Ok (record { bits = bits; bytes = bytes })) out'
     whole-written {out} aside₂ out' room k same same₂ put c =
         let s : bytes ≤ longest_payload = whole-short in
         record {
@@ -367,7 +364,7 @@ module _ {kind subtype : ℕ} {sheet aside : List ℕ} (judged : WriteAnswer) (a
         }
 
 -- the count of a pass is small enough to be rounded up to bytes
-pub count_small : {kind subtype : ℕ} {sheet aside : List ℕ} {dry : Pass} {aside' : List ℕ} {entries count : ℕ} → SheetPass kind subtype sheet aside dry aside' → dry ≡ Whole entries count → count + 7 < 2 ^ 64
+pub count_small : {kind subtype : ℕ} {sheet aside : List ℕ} {dry : Pass} {aside' : List ℕ} {entries count : ℕ} → SheetPass kind subtype sheet aside dry aside' → dry ≡ Ok (record { entries = entries; bits = count }) → count + 7 < 2 ^ 64
 count_small {count} p e = let h : count < 2 ^ 33 = subst (λ x. bits_of_pass x < 2 ^ 33) e p.small in omega arith
 
 -- ---- `judge_sheet`
@@ -402,7 +399,7 @@ module _ (kind subtype : ℕ) (sheet out : List ℕ) where
   unfolding write_answer out_after
   meets o out' e p = record { says = ap write_answer_by (sym e); leaves = p ∙ ap (λ x. out_by x out) (sym e) }
 
-  pub write-room : length out < longest_payload → Met kind subtype sheet out (writer.Refused (nowhere refusal.Room)) out
+  pub write-room : length out < longest_payload → Met kind subtype sheet out (Err (nowhere refusal.Room)) out
   write-room h = meets (unwritten (nowhere refusal.Room)) out (writing-with kind subtype sheet out (lt-ltb (length out) longest_payload h) refl) refl
 
   pub write-met : (r : WriteAnswer) (out' : List ℕ) → longest_payload ≤ length out → WriteWhole kind subtype sheet out r out' → Met kind subtype sheet out r out'

@@ -1,4 +1,5 @@
 -- A row in a pass over a sheet, over plain variables: what the proof of `write_pass` cites.
+use Rattle.std.specs.Prelude.{Ok, Err}
 use mathlib.Core.Path.{◌≡◌, sym, ◌∙◌, subst}
 use mathlib.Core.List.{List}
 use Prim.Native.Nat.{ℕ, ◌-◌, ◌<◌}
@@ -19,9 +20,7 @@ use Rattle.message.specs.Messages.{Message}
 use Rattle.message.specs.Rows.{row_of, last_of}
 use Rattle.sheet.specs.Passes.{WritePass}
 use Rattle.sheet.specs.Walked.{Walked}
-use Rattle.sheet.specs.declared.Pass.TheVariants.{Fault}
-use Rattle.sheet.specs.declared.row.Ran.{Ran}
-use Rattle.sheet.specs.declared.row.Ran.TheVariants.{To, Stopped}
+use Rattle.sheet.specs.Results.{Ran}
 use Rattle.sheet.proofs.Writing.{Turn, ended-fault}
 use Rattle.sheet.proofs.Walking.{wrote-to, row-stopped, row-to}
 
@@ -32,7 +31,7 @@ module _ {sheet out₀ : List ℕ} {s₀ : State} {out : List ℕ} {s : State} {
       let o = t.on l w in
       record { place = o.place; bits = o.bits; kept = o.kept; inside = t.inside; same = o.on.same }
 
-  pub row-fault : (why : answer.Fault) → r ≡ Stopped why → WritePass sheet out₀ s₀ (Fault why) out'
+  pub row-fault : (why : answer.Fault) → r ≡ Err why → WritePass sheet out₀ s₀ (Err why) out'
   row-fault why e =
       record {
         puts = λ l w. ended-fault (write_l l sheet) (length sheet) why out₀ out'
@@ -40,7 +39,7 @@ module _ {sheet out₀ : List ℕ} {s₀ : State} {out : List ℕ} {s : State} {
         small = omega arith;
       }
 
-  module _ (p a c : ℕ) (e : r ≡ To p a c) where
+  module _ (p a c : ℕ) (e : r ≡ Ok (record { pos = p; at = a; last = c })) where
     pub row-less : length sheet - a < length sheet - at
     row-less =
         let k = wrote-to p a c sheet wrote e t.inside t.small in

@@ -1,6 +1,6 @@
 -- Demand 2, acceptance: when the calls read and when they write, in the words of their contracts. So a reader or a writer that refuses more than it must meets
 -- neither. Proved.
-use Rattle.std.specs.Prelude.{◌≡◌, false, List, [], ◌++◌, ℕ, ◌*◌, ◌≤◌, ◌<◌, length, take, drop}
+use Rattle.std.specs.Prelude.{◌≡◌, false, List, [], ◌++◌, ℕ, ◌*◌, ◌≤◌, ◌<◌, length, take, drop, Ok}
 use Rattle.std.proofs.Common.{ap, sym, ◌∙◌, subst, arith, pos_of_ne-zero, le-ltb, take-append-drop, take_at}
 use Rattle.sizes.specs.Sizes.{longest_payload, sheet_room}
 use Rattle.answer.specs.Stop.{stop}
@@ -16,14 +16,12 @@ use Rattle.layout.specs.RoundTrip.{write_read, read-write}
 use Rattle.layout.specs.Acceptance.{holds-written, codes-few, Begins, begins-read, read-begins}
 use Rattle.layout.specs.Walks.{Walks}
 use Rattle.message.specs.declared.State.{State}
-use Rattle.message.specs.declared.Start.{Start}
+use Rattle.message.specs.Results.{Start}
 use Rattle.message.specs.Messages.{Message, layout_for}
 use Rattle.message.specs.Machine.{field_of, step_of, Starts, known, unknown, starts}
 use Rattle.sheet.specs.Sheet.{bad_length, judging, reading, read_answer_by, judged, read_answer, sheet_after}
 use Rattle.sheet.specs.Sheet.{bytes_for, judging_sheet, writing, write_answer_by, judged_sheet, write_answer, out_after, fill_for}
 use Rattle.sheet.specs.Laws.{good-some, some_good, has-bit, begins-for, WasRead, was_read, WasWritten, was-written, reads_so, writes-so}
-use Rattle.sheet.specs.declared.ReadAnswer.TheVariants as reader
-use Rattle.sheet.specs.declared.WriteAnswer.TheVariants as writer
 
 -- ---- every layout is walked by the machine, so its fields are as every reader and writer wants them
 
@@ -50,7 +48,7 @@ pub record Writable (kind subtype : ℕ) (sheet out : List ℕ) : Type 0 where
 
 -- A sheet is written exactly when it is so, and the bits are those of its fields: it is written if it is so ..
 pub writable-written : (kind subtype : ℕ) (sheet out : List ℕ) (w : Writable kind subtype sheet out)
-    → write_answer kind subtype sheet out ≡ writer.Written (bits_from w.layout sheet 0) (bytes_for (bits_from w.layout sheet 0))
+    → write_answer kind subtype sheet out ≡ Ok (record { bits = bits_from w.layout sheet 0; bytes = bytes_for (bits_from w.layout sheet 0) })
 writable-written kind subtype sheet out w =
     let m = holds-written (walked kind subtype w.layout w.type-known).walks sheet w.holds in
     let back = read-write w.layout sheet m.bits m.writes in
@@ -60,10 +58,10 @@ writable-written kind subtype sheet out w =
     let few : length m.bits ≤ 8 * longest_payload = omega (arith, w.fits) in
     let good : bad_length (bytes_for (length m.bits)) ≡ false = some_good (bytes_for (length m.bits)) (λ z. omega arith) (omega arith) in
     (writes-so kind subtype sheet out w.layout m.bits w.type-known m.writes w.room good).0
-    ∙ ap (λ (x : ℕ). writer.Written x (bytes_for x)) size
+    ∙ ap (λ (x : ℕ). Ok (record { bits = x; bytes = bytes_for x })) size
 
 -- .. and if it is written it is so.
-pub written-writable : (kind subtype : ℕ) (sheet out : List ℕ) (bits bytes : ℕ) → write_answer kind subtype sheet out ≡ writer.Written bits bytes
+pub written-writable : (kind subtype : ℕ) (sheet out : List ℕ) (bits bytes : ℕ) → write_answer kind subtype sheet out ≡ Ok (record { bits = bits; bytes = bytes })
     → Writable kind subtype sheet out
 written-writable kind subtype sheet out bits bytes e =
     let w : WasWritten kind subtype sheet out bits bytes = was-written kind subtype sheet out bits bytes e in
@@ -93,7 +91,7 @@ pub record Readable (kind subtype : ℕ) (payload sheet : List ℕ) : Type 0 whe
 
 -- A payload is accepted exactly when it is so, and the sheet is then the one that writes that beginning: it is accepted if it is so ..
 pub readable-read : (kind subtype : ℕ) (payload sheet : List ℕ) (r : Readable kind subtype payload sheet)
-    → (read_answer kind subtype payload sheet ≡ reader.Read (length r.begins.said) (length r.begins.sheet))
+    → (read_answer kind subtype payload sheet ≡ Ok (record { bits = length r.begins.said; entries = length r.begins.sheet }))
     × (sheet_after kind subtype payload sheet ≡ r.begins.sheet ++ drop (length r.begins.sheet) sheet)
 readable-read kind subtype payload sheet r =
     reads_so kind subtype payload sheet r.layout _ r.begins.sheet (length r.begins.said) r.type-known
@@ -101,7 +99,7 @@ readable-read kind subtype payload sheet r =
     (some_good (length payload) (λ z. omega (arith, r.some)) r.few)
 
 -- .. and if it is accepted it is so.
-pub read-readable : (kind subtype : ℕ) (payload sheet : List ℕ) (bits entries : ℕ) → read_answer kind subtype payload sheet ≡ reader.Read bits entries
+pub read-readable : (kind subtype : ℕ) (payload sheet : List ℕ) (bits entries : ℕ) → read_answer kind subtype payload sheet ≡ Ok (record { bits = bits; entries = entries })
     → Readable kind subtype payload sheet
 read-readable kind subtype payload sheet bits entries e =
     let w : WasRead kind subtype payload sheet bits entries = was_read kind subtype payload sheet bits entries e in
@@ -118,10 +116,10 @@ read-readable kind subtype payload sheet bits entries e =
 -- ---- what was written, with any further bits behind it
 
 -- A payload of 1 to 1,023 bytes whose bits begin with those of a written message reads as the sheet that was written, whatever follows them.
-pub written-then-more : (kind subtype : ℕ) (sheet out : List ℕ) (bits bytes : ℕ) → write_answer kind subtype sheet out ≡ writer.Written bits bytes
+pub written-then-more : (kind subtype : ℕ) (sheet out : List ℕ) (bits bytes : ℕ) → write_answer kind subtype sheet out ≡ Ok (record { bits = bits; bytes = bytes })
     → (payload back : List ℕ) → take bits (to_bits payload) ≡ take bits (out_after kind subtype sheet out) → 1 ≤ length payload → length payload ≤ longest_payload
     → sheet_room ≤ length back
-    → (read_answer kind subtype payload back ≡ reader.Read bits (length sheet))
+    → (read_answer kind subtype payload back ≡ Ok (record { bits = bits; entries = length sheet }))
     × (sheet_after kind subtype payload back ≡ sheet ++ drop (length sheet) back)
 written-then-more kind subtype sheet out bits bytes e payload back same some few room =
     let w : WasWritten kind subtype sheet out bits bytes = was-written kind subtype sheet out bits bytes e in
@@ -143,12 +141,12 @@ written-then-more kind subtype sheet out bits bytes e payload back same some few
         begins = sym (take-append-drop bits (to_bits payload)) ∙ ap (λ x. x ++ drop bits (to_bits payload)) text;
       };
     }) in
-    (r.0 ∙ ap (λ (x : ℕ). reader.Read x (length sheet)) (sym w.count), r.1)
+    (r.0 ∙ ap (λ (x : ℕ). Ok (record { bits = x; entries = length sheet })) (sym w.count), r.1)
 
 -- ---- the room of a sheet
 
 -- A message has at most 8 entries a payload byte; so the 8,184 entries of a sheet are always enough.
-pub entries-few : (kind subtype : ℕ) (payload sheet : List ℕ) (bits entries : ℕ) → read_answer kind subtype payload sheet ≡ reader.Read bits entries
+pub entries-few : (kind subtype : ℕ) (payload sheet : List ℕ) (bits entries : ℕ) → read_answer kind subtype payload sheet ≡ Ok (record { bits = bits; entries = entries })
     → (entries ≤ 8 * length payload) × (entries ≤ sheet_room)
 entries-few kind subtype payload sheet bits entries e =
     let w : WasRead kind subtype payload sheet bits entries = was_read kind subtype payload sheet bits entries e in

@@ -4,8 +4,8 @@ use Rattle.std.specs.Prelude.{ℕ, List, ◌≡◌}
 use Rattle.bits.specs.Bits.{Bytes, to_bits}
 use Rattle.bits.specs.Laws.{to_bits-injective}
 use Rattle.sheet.specs.Sheet.{judged, judged_sheet, number_of_read, number_of_written, out_after, read_answer, sheet_after, write_answer}
-use Rattle.sheet.specs.declared.ReadAnswer.{ReadAnswer}
-use Rattle.sheet.specs.declared.WriteAnswer.{WriteAnswer}
+use Rattle.sheet.specs.Results.{ReadAnswer}
+use Rattle.sheet.specs.Results.{WriteAnswer}
 use Rattle.std.proofs.Common.{◌∙◌, sym}
 
 pub judge-determined : (kind subtype : ℕ) (payload : List ℕ) (r₁ r₂ : ReadAnswer)

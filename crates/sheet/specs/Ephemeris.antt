@@ -2,7 +2,7 @@
 -- `write` where there is room), whatever comes behind it; every other payload and sheet means what it meant while types were kept as sent, and by that all four answer and store. Proved.
 use Rattle.std.proofs.Math.Path.{◌≡◌, refl, ap}
 use Rattle.std.proofs.Common.{sym, ◌∙◌, subst, true≢false, arith, lit≤, lit<, drop-cons, get_or-drop}
-use Rattle.std.specs.Prelude.{Bool, true, false, not, ◌&&◌, leb, ltb, get_or, take}
+use Rattle.std.specs.Prelude.{Bool, true, false, not, ◌&&◌, leb, ltb, get_or, take, Ok, Err}
 use Rattle.std.proofs.lemmas.Bool.{false≢true}
 use mathlib.Core.List.{List, [], ◌∷◌}
 use Prim.Native.Nat.{ℕ, ◌+◌, ◌*◌, ◌≤◌, ◌<◌}
@@ -17,7 +17,6 @@ use Rattle.bits.specs.Bits as bits
 use Rattle.bits.specs.Bits.{to_bits, number, Bits}
 use Rattle.bits.specs.Laws.{length-to_bits, bits-to_bits}
 use Rattle.layout.specs.declared.Field.{Field}
-use Rattle.layout.specs.declared.Verdict.TheVariants.{Taken, Fault}
 use Rattle.layout.specs.Layout.{Layout, done, field, judge, Outcome, accepted, refused, read_l, write_l}
 use Rattle.layout.specs.Alike.{fault-behind, same-behind, same_here, same-short, accepted-goes, same_after, same-entry}
 use Rattle.layout.specs.Parts.{present, free, each}
@@ -37,8 +36,6 @@ use Rattle.sheet.specs.Sheet.{bad_length, judging, read_answer_by, read_answer, 
 use Rattle.sheet.specs.Laws.{judging_with, judging-with, judging_sheet_with, judging-sheet-with}
 use Rattle.sheet.specs.Places.{stops-judged-sheet}
 use Rattle.sheet.specs.Acceptance.{Writable, written-writable, judges-as-read, judges-as-written}
-use Rattle.sheet.specs.declared.ReadAnswer.TheVariants as reader
-use Rattle.sheet.specs.declared.WriteAnswer.TheVariants as writer
 
 -- ---- the request's words
 
@@ -116,12 +113,12 @@ both : (a b : Bool) → (a && b) ≡ true → (a ≡ true) × (b ≡ true)
 both true b e = (refl, e)
 both false b e = absurd (false≢true e)
 
-above-refused : (n w most type : ℕ) → most < type → judge (field_of n w most most) type ≡ Fault refusal.Field
+above-refused : (n w most type : ℕ) → most < type → judge (field_of n w most most) type ≡ Err refusal.Field
 unfolding judge
 above-refused n w most type h = rw (ne_eqb type most (λ z. omega arith), le-ltb type 0 (omega arith), lt-ltb most type h)
 
 module _ (n w most top type : ℕ) where
-  between-refused : (leb (most + 1) type && leb type top) ≡ true → judge (field_of n w most most) type ≡ Fault refusal.Field
+  between-refused : (leb (most + 1) type && leb type top) ≡ true → judge (field_of n w most most) type ≡ Err refusal.Field
   between-refused e =
       let low : most + 1 ≤ type = leb-true (most + 1) type (both (leb (most + 1) type) (leb type top) e).0 in
       above-refused n w most type (omega arith)
@@ -139,7 +136,7 @@ module _ (n w most top type : ℕ) where
       go true true p q e = absurd (true≢false e)
 
 -- It refuses each TBD value ..
-pub tbd-judged : (c : Constellation) (type : ℕ) → is_tbd c type ≡ true → judge (sf (ephemeris_sf c)) type ≡ Fault refusal.Field
+pub tbd-judged : (c : Constellation) (type : ℕ) → is_tbd c type ≡ true → judge (sf (ephemeris_sf c)) type ≡ Err refusal.Field
 unfolding sf line_of find table
 tbd-judged Gps type e = between-refused 16 2 0 3 type e
 tbd-judged Glonass type e = between-refused 17 2 0 3 type e
@@ -182,7 +179,7 @@ head-same l f g c e =
 
 -- an accepted message's type is taken
 head-taken : (l : List ℕ) (c : Constellation) {m : Message} {cs : List ℕ} {n : ℕ} → read_l (ocb_layout c) l ≡ accepted m cs n
-    → judge (sf (ephemeris_sf c)) (number (take (sf (ephemeris_sf c)).width (drop 13 l))) ≡ Taken
+    → judge (sf (ephemeris_sf c)) (number (take (sf (ephemeris_sf c)).width (drop 13 l))) ≡ Ok tt
 unfolding sf line_of find table
 head-taken l c e =
     let g1 = accepted-goes l (sf 5) _ 0 e in
@@ -199,14 +196,14 @@ ocb-known subtype c e = ap (by_constellation ocb_layout) e
 module _ (subtype : ℕ) (c : Constellation) (known : constellation_of subtype ≡ present c) (payload : List ℕ) where
   first-fault : (why : Refusal) → bad_length (length payload) ≡ false → 13 ≤ 8 * length payload
       → ((next : ℕ → Layout Message) → read_l (field (sf (ephemeris_sf c)) next) (drop 13 (to_bits payload)) ≡ refused (fault_at why (ephemeris_sf c) 0))
-      → sheet.judged 0 subtype payload ≡ reader.Refused (fault_at why (ephemeris_sf c) 13)
+      → sheet.judged 0 subtype payload ≡ Err (fault_at why (ephemeris_sf c) 13)
   unfolding sheet.judged
   first-fault why good h e =
       ap read_answer_by (judging-with 0 subtype payload (ocb-known subtype c known) good
       ∙ head-fault (to_bits payload) (bits-to_bits payload) (sf (ephemeris_sf c)) c why (ephemeris_sf c) (omega (arith, length-to_bits payload)) e)
 
   -- "FIELD at the ephemeris field": whatever stands behind it, an empty mask, too few bits or no orbit.
-  pub tbd-refused : has_tbd c payload ≡ true → sheet.judged 0 subtype payload ≡ reader.Refused (fault_at refusal.Field (ephemeris_sf c) 13)
+  pub tbd-refused : has_tbd c payload ≡ true → sheet.judged 0 subtype payload ≡ Err (fault_at refusal.Field (ephemeris_sf c) 13)
   unfolding read_l bits.field
   tbd-refused e =
       let a = both (not (bad_length (length payload))) _ e in
@@ -215,18 +212,18 @@ module _ (subtype : ℕ) (c : Constellation) (known : constellation_of subtype �
       let m : List ℕ = drop 13 (to_bits payload) in
       let w : ℕ = (sf (ephemeris_sf c)).width in
       let long : w ≤ length m = omega (arith, length-drop 13 (to_bits payload), length-to_bits payload, type-width c) in
-      let j : judge (sf (ephemeris_sf c)) (number (take w m)) ≡ Fault refusal.Field
+      let j : judge (sf (ephemeris_sf c)) (number (take w m)) ≡ Err refusal.Field
       = tbd-judged c (number (take w m)) (ap (λ (x : ℕ). is_tbd c (number (take x m))) (type-width c) ∙ b.1) in
       first-fault refusal.Field (not-true (bad_length (length payload)) a.0) (omega arith) (λ next. rw (le-leb w (length m) long, j, type-number c))
 
   -- `read` answers so too, where there is room for a sheet.
   pub tbd-unread : (lent : List ℕ) → sheet_room ≤ length lent → has_tbd c payload ≡ true
-      → read_answer 0 subtype payload lent ≡ reader.Refused (fault_at refusal.Field (ephemeris_sf c) 13)
+      → read_answer 0 subtype payload lent ≡ Err (fault_at refusal.Field (ephemeris_sf c) 13)
   tbd-unread lent room e = sym (judges-as-read 0 subtype payload lent room) ∙ tbd-refused e
 
   -- "after SHORT there": a payload that ends within the type is SHORT there. Payloads are whole bytes, so that is a BeiDou payload of two bytes; one of a single byte is SHORT at SF005.
   pub type-short : bad_length (length payload) ≡ false → 13 ≤ 8 * length payload → 8 * length payload < 13 + type_bits c
-      → sheet.judged 0 subtype payload ≡ reader.Refused (fault_at refusal.Short (ephemeris_sf c) 13)
+      → sheet.judged 0 subtype payload ≡ Err (fault_at refusal.Short (ephemeris_sf c) 13)
   unfolding read_l
   type-short good h k =
       let m : List ℕ = drop 13 (to_bits payload) in
@@ -262,26 +259,26 @@ module _ (subtype : ℕ) (c : Constellation) (known : constellation_of subtype �
       go false true true p q r e = absurd (true≢false e)
 
   -- .. and no payload that has one of them is accepted.
-  pub accepted-means : {used entries : ℕ} → sheet.judged 0 subtype payload ≡ reader.Read used entries → is_tbd c (type_of c payload) ≡ false
+  pub accepted-means : {used entries : ℕ} → sheet.judged 0 subtype payload ≡ Ok (record { bits = used; entries = entries }) → is_tbd c (type_of c payload) ≡ false
   unfolding sheet.judged bits.field
   accepted-means {used} {entries} e = go (bad_length (length payload)) (is_tbd c (type_of c payload)) refl refl
     where
-      taken : (o : Outcome Message) → read_l (ocb_layout c) (to_bits payload) ≡ o → read_answer_by o ≡ reader.Read used entries
-          → judge (sf (ephemeris_sf c)) (number (take (sf (ephemeris_sf c)).width (drop 13 (to_bits payload)))) ≡ Taken
+      taken : (o : Outcome Message) → read_l (ocb_layout c) (to_bits payload) ≡ o → read_answer_by o ≡ Ok (record { bits = used; entries = entries })
+          → judge (sf (ephemeris_sf c)) (number (take (sf (ephemeris_sf c)).width (drop 13 (to_bits payload)))) ≡ Ok tt
       taken (accepted m cs n) q e = head-taken (to_bits payload) c q
       taken (refused why) q e = let z : ◌≡◌ {A = ℕ} 0 1 = cc in absurd (omega arith)
 
       go : (b t : Bool) → bad_length (length payload) ≡ b → is_tbd c (type_of c payload) ≡ t → t ≡ false
       go b false q r = refl
       go true true q r =
-          let e' : reader.Refused (nowhere refusal.Length) ≡ reader.Read used entries = sym (ap read_answer_by (judging-with 0 subtype payload (ocb-known subtype c known) q)) ∙ e in
+          let e' : Err (nowhere refusal.Length) ≡ Ok (record { bits = used; entries = entries }) = sym (ap read_answer_by (judging-with 0 subtype payload (ocb-known subtype c known) q)) ∙ e in
           let z : ◌≡◌ {A = ℕ} 0 1 = cc in absurd (omega arith)
       go false true q r =
           let m : List ℕ = drop 13 (to_bits payload) in
           let w : ℕ = (sf (ephemeris_sf c)).width in
           let t = taken (read_l (ocb_layout c) (to_bits payload)) refl (sym (ap read_answer_by (judging-with 0 subtype payload (ocb-known subtype c known) q)) ∙ e) in
           let j = tbd-judged c (number (take w m)) (ap (λ (x : ℕ). is_tbd c (number (take x m))) (type-width c) ∙ r) in
-          let x : Fault refusal.Field ≡ Taken = sym j ∙ t in
+          let x : Err refusal.Field ≡ Ok tt = sym j ∙ t in
           let z : ◌≡◌ {A = ℕ} 0 1 = cc in absurd (omega arith)
 
 -- ---- writing
@@ -342,7 +339,7 @@ head_of c entries e =
 module _ (subtype : ℕ) (c : Constellation) (known : constellation_of subtype ≡ present c) where
   stops-at-type : (siou end_of_set reserved yaw_present datum : ℕ) (rest : List ℕ) (why : Refusal) → siou < 512 → end_of_set < 2 → reserved < 2 → yaw_present < 2 → datum < 2
       → WriteCause (sf (ephemeris_sf c)) rest why
-      → judged_sheet 0 subtype (siou ∷ end_of_set ∷ reserved ∷ yaw_present ∷ datum ∷ rest) ≡ writer.Refused (fault_at why (ephemeris_sf c) 5)
+      → judged_sheet 0 subtype (siou ∷ end_of_set ∷ reserved ∷ yaw_present ∷ datum ∷ rest) ≡ Err (fault_at why (ephemeris_sf c) 5)
   unfolding sf line_of find table
   stops-at-type siou end_of_set reserved yaw_present datum rest why h1 h2 h3 h4 h5 cause =
       stops-judged-sheet 0 subtype (siou ∷ end_of_set ∷ reserved ∷ yaw_present ∷ datum ∷ rest) (ocb_layout c) (fault_at why (ephemeris_sf c) 5) (ocb-known subtype c known)
@@ -355,7 +352,7 @@ module _ (subtype : ℕ) (c : Constellation) (known : constellation_of subtype �
       refl cause refl)
 
   -- FIELD at entry 5, whatever comes behind it.
-  pub tbd-refused-sheet : (entries : List ℕ) → has_tbd_in c entries ≡ true → judged_sheet 0 subtype entries ≡ writer.Refused (fault_at refusal.Field (ephemeris_sf c) 5)
+  pub tbd-refused-sheet : (entries : List ℕ) → has_tbd_in c entries ≡ true → judged_sheet 0 subtype entries ≡ Err (fault_at refusal.Field (ephemeris_sf c) 5)
   tbd-refused-sheet entries e =
       let h : Head c entries = head_of c entries e in
       ap (judged_sheet 0 subtype) (six entries (type-there c entries h.type))
@@ -364,12 +361,12 @@ module _ (subtype : ℕ) (c : Constellation) (known : constellation_of subtype �
 
   -- `write` answers so too, where there is room for a payload.
   pub tbd-unwritten : (entries out : List ℕ) → longest_payload ≤ length out → has_tbd_in c entries ≡ true
-      → write_answer 0 subtype entries out ≡ writer.Refused (fault_at refusal.Field (ephemeris_sf c) 5)
+      → write_answer 0 subtype entries out ≡ Err (fault_at refusal.Field (ephemeris_sf c) 5)
   tbd-unwritten entries out room e = sym (judges-as-written 0 subtype entries out room) ∙ tbd-refused-sheet entries e
 
   -- SHORT there, if the sheet ends in front of it.
   pub type-missing : (siou end_of_set reserved yaw_present datum : ℕ) → siou < 512 → end_of_set < 2 → reserved < 2 → yaw_present < 2 → datum < 2
-      → judged_sheet 0 subtype (siou ∷ end_of_set ∷ reserved ∷ yaw_present ∷ datum ∷ []) ≡ writer.Refused (fault_at refusal.Short (ephemeris_sf c) 5)
+      → judged_sheet 0 subtype (siou ∷ end_of_set ∷ reserved ∷ yaw_present ∷ datum ∷ []) ≡ Err (fault_at refusal.Short (ephemeris_sf c) 5)
   type-missing siou end_of_set reserved yaw_present datum h1 h2 h3 h4 h5 = stops-at-type siou end_of_set reserved yaw_present datum [] refusal.Short h1 h2 h3 h4 h5 ended
 
   -- Every other sheet is written, or refused, as before ..
@@ -398,7 +395,7 @@ module _ (subtype : ℕ) (c : Constellation) (known : constellation_of subtype �
           absurd (true≢false (sym t ∙ e))
 
   -- .. and no sheet that has one of them is written.
-  pub written-means : (entries out : List ℕ) {used bytes : ℕ} → write_answer 0 subtype entries out ≡ writer.Written used bytes → is_tbd c (get_or entries 5 0) ≡ false
+  pub written-means : (entries out : List ℕ) {used bytes : ℕ} → write_answer 0 subtype entries out ≡ Ok (record { bits = used; bytes = bytes }) → is_tbd c (get_or entries 5 0) ≡ false
   unfolding Holds
   written-means entries out {used} {bytes} e = go (is_tbd c (get_or entries 5 0)) refl
     where
@@ -411,11 +408,11 @@ module _ (subtype : ℕ) (c : Constellation) (known : constellation_of subtype �
           let layout : w.layout ≡ ocb_layout c = cc in
           subst (λ l. Holds l entries 0) layout w.holds
 
-      taken : judge (sf (ephemeris_sf c)) (get_or entries 5 0) ≡ Taken
+      taken : judge (sf (ephemeris_sf c)) (get_or entries 5 0) ≡ Ok tt
       taken = holds.2.2.2.2.2.1
 
       go : (t : Bool) → is_tbd c (get_or entries 5 0) ≡ t → t ≡ false
       go false r = refl
       go true r =
-          let x : Fault refusal.Field ≡ Taken = sym (tbd-judged c (get_or entries 5 0) r) ∙ taken in
+          let x : Err refusal.Field ≡ Ok tt = sym (tbd-judged c (get_or entries 5 0) r) ∙ taken in
           let z : ◌≡◌ {A = ℕ} 0 1 = cc in absurd (omega arith)

@@ -1,5 +1,5 @@
 -- Serves proofs, and is proved: what a successful reading or writing says, and that a message has a bit.
-use Rattle.std.specs.Prelude.{◌≡◌, refl, Bool, true, false, ◌||◌, List, ◌++◌, ℕ, ◌+◌, ◌≤◌, ◌<◌, eqb, ltb, leb, length, take, drop}
+use Rattle.std.specs.Prelude.{◌≡◌, refl, Bool, true, false, ◌||◌, List, ◌++◌, ℕ, ◌+◌, ◌≤◌, ◌<◌, eqb, ltb, leb, length, take, drop, Ok, Err}
 use Rattle.std.proofs.Common.{ap, ap₂, sym, ◌∙◌, arith, le-ltb, ltb-false, ne_eqb}
 use Rattle.std.proofs.lemmas.Bool.{eqb-false}
 use Rattle.sizes.specs.Sizes.{longest_payload, sheet_room}
@@ -9,8 +9,7 @@ use Rattle.codes.specs.declared.Constellation.{Constellation}
 use Rattle.codes.specs.declared.Constellation.TheVariants.{Gps, Glonass, Galileo, BeiDou, Qzss}
 use Rattle.fields.specs.Fields.{table, find, line_of, sf}
 use Rattle.layout.specs.declared.Field.{Field}
-use Rattle.layout.specs.declared.Verdict.{Verdict}
-use Rattle.layout.specs.declared.Verdict.TheVariants.{Taken, Fault}
+use Rattle.layout.specs.Results.{Verdict}
 use Rattle.bits.specs.Bits.{to_bits, number}
 use Rattle.layout.specs.Layout.{done, Layout, field, pick, judge, enough, judged, before, Outcome, accepted, refused, read_l, Written, written, unwritten, write_l}
 use Rattle.layout.specs.Parts.{Part, absent, present}
@@ -18,8 +17,6 @@ use Rattle.message.specs.Messages.{Message, ocb_layout, hpac_layout, constellati
 use Rattle.answer.specs.Stop.{stop}
 use Rattle.sheet.specs.Sheet.{bad_length, known, judging, reading, read_answer_by, sheet_by, read_answer, sheet_after}
 use Rattle.sheet.specs.Sheet.{bytes_for, then_length, judging_sheet, writing, write_answer_by, out_by, write_answer, out_after}
-use Rattle.sheet.specs.declared.ReadAnswer.TheVariants as reader
-use Rattle.sheet.specs.declared.WriteAnswer.TheVariants as writer
 
 -- ---- a length that is not bad
 
@@ -66,9 +63,9 @@ begins-for kind subtype =
     no-layout)))
 
 first_read : (w c sf : ℕ) (b : Bool) (v : Verdict) (o : Outcome Message) {m : Message} {cs : List ℕ} {n : ℕ} → enough sf b (judged sf v (before c w o)) ≡ accepted m cs n → w ≤ n
-first_read w c sf true Taken (accepted m' cs' n') {m} {cs} {n} e = let q : w + n' ≡ n = cc in omega arith
-first_read w c sf true Taken (refused why) e = let z : ◌≡◌ {A = ℕ} 0 1 = cc in absurd (omega arith)
-first_read w c sf true (Fault why) o e = let z : ◌≡◌ {A = ℕ} 0 1 = cc in absurd (omega arith)
+first_read w c sf true (Ok _) (accepted m' cs' n') {m} {cs} {n} e = let q : w + n' ≡ n = cc in omega arith
+first_read w c sf true (Ok _) (refused why) e = let z : ◌≡◌ {A = ℕ} 0 1 = cc in absurd (omega arith)
+first_read w c sf true (Err why) o e = let z : ◌≡◌ {A = ℕ} 0 1 = cc in absurd (omega arith)
 first_read w c sf false v o e = let z : ◌≡◌ {A = ℕ} 0 1 = cc in absurd (omega arith)
 
 pub has-bit : (p : Part (Layout Message)) → Begins p → (l : Layout Message) (bits cs : List ℕ) (n : ℕ) {m : Message} → p ≡ present l → read_l l bits ≡ accepted m cs n → 0 < n
@@ -135,14 +132,14 @@ pub record WasRead (kind subtype : ℕ) (payload sheet : List ℕ) (bits entries
   pub count : entries ≡ length codes
   pub leaves : sheet_after kind subtype payload sheet ≡ codes ++ drop (length codes) sheet
 
-pub was_read : (kind subtype : ℕ) (payload sheet : List ℕ) (bits entries : ℕ) → read_answer kind subtype payload sheet ≡ reader.Read bits entries
+pub was_read : (kind subtype : ℕ) (payload sheet : List ℕ) (bits entries : ℕ) → read_answer kind subtype payload sheet ≡ Ok (record { bits = bits; entries = entries })
     → WasRead kind subtype payload sheet bits entries
 unfolding read_answer sheet_after
 was_read kind subtype payload sheet bits entries e =
     go (ltb (length sheet) sheet_room) (layout_for kind subtype) (bad_length (length payload)) refl refl refl
   where
     last : (l : Layout Message) (o : Outcome Message) → sheet_room ≤ length sheet → layout_for kind subtype ≡ present l → bad_length (length payload) ≡ false → read_l l (to_bits payload) ≡ o
-        → sheet_after kind subtype payload sheet ≡ sheet_by o sheet → read_answer_by o ≡ reader.Read bits entries → WasRead kind subtype payload sheet bits entries
+        → sheet_after kind subtype payload sheet ≡ sheet_by o sheet → read_answer_by o ≡ Ok (record { bits = bits; entries = entries }) → WasRead kind subtype payload sheet bits entries
     last l (accepted m cs n) h p g r s e =
         let q : n ≡ bits = cc in
         record {
@@ -163,7 +160,7 @@ was_read kind subtype payload sheet bits entries e =
     go x p y a b c = by x p y a b c (reading-with kind subtype payload sheet a b c) (ap read_answer_by (sym (reading-with kind subtype payload sheet a b c)) ∙ e)
       where
         by : (x : Bool) (p : Part (Layout Message)) (y : Bool) → ltb (length sheet) sheet_room ≡ x → layout_for kind subtype ≡ p → bad_length (length payload) ≡ y
-            → reading kind subtype payload sheet ≡ reading_with payload x p y → read_answer_by (reading_with payload x p y) ≡ reader.Read bits entries
+            → reading kind subtype payload sheet ≡ reading_with payload x p y → read_answer_by (reading_with payload x p y) ≡ Ok (record { bits = bits; entries = entries })
             → WasRead kind subtype payload sheet bits entries
         by true p y a b c r e = let z : ◌≡◌ {A = ℕ} 0 1 = cc in absurd (omega arith)
         by false absent y a b c r e = let z : ◌≡◌ {A = ℕ} 0 1 = cc in absurd (omega arith)
@@ -189,7 +186,7 @@ abbrev bad_of : Written → Bool
 bad_of (written text) = bad_length (bytes_for (length text))
 bad_of (unwritten why) = false
 
-pub was-written : (kind subtype : ℕ) (sheet out : List ℕ) (bits bytes : ℕ) → write_answer kind subtype sheet out ≡ writer.Written bits bytes
+pub was-written : (kind subtype : ℕ) (sheet out : List ℕ) (bits bytes : ℕ) → write_answer kind subtype sheet out ≡ Ok (record { bits = bits; bytes = bytes })
     → WasWritten kind subtype sheet out bits bytes
 unfolding write_answer out_after
 was-written kind subtype sheet out bits bytes e =
@@ -197,17 +194,17 @@ was-written kind subtype sheet out bits bytes e =
   where
     last : (l : Layout Message) (o : Written) → layout_for kind subtype ≡ present l → longest_payload ≤ length out → write_l l sheet ≡ o → (y : Bool)
         → ((text : List ℕ) → o ≡ written text → bad_length (bytes_for (length text)) ≡ y)
-        → out_after kind subtype sheet out ≡ out_by (then_length o) out → write_answer_by (then_length o) ≡ writer.Written bits bytes
+        → out_after kind subtype sheet out ≡ out_by (then_length o) out → write_answer_by (then_length o) ≡ Ok (record { bits = bits; bytes = bytes })
         → WasWritten kind subtype sheet out bits bytes
     last l (unwritten why) p r w y k s e = let z : ◌≡◌ {A = ℕ} 0 1 = cc in absurd (omega arith)
     last l (written text) p r w true k s e =
         let g : bad_length (bytes_for (length text)) ≡ true = k text refl in
-        let e' : writer.Refused (nowhere refusal.Length) ≡ writer.Written bits bytes
+        let e' : Err (nowhere refusal.Length) ≡ Ok (record { bits = bits; bytes = bytes })
         = ap (λ x. write_answer_by (stop x (unwritten (nowhere refusal.Length)) (written text))) (sym g) ∙ e in
         let z : ◌≡◌ {A = ℕ} 0 1 = cc in absurd (omega arith)
     last l (written text) p r w false k s e =
         let g : bad_length (bytes_for (length text)) ≡ false = k text refl in
-        let e' : writer.Written (length text) (bytes_for (length text)) ≡ writer.Written bits bytes
+        let e' : Ok (record { bits = length text; bytes = bytes_for (length text) }) ≡ Ok (record { bits = bits; bytes = bytes })
         = ap (λ x. write_answer_by (stop x (unwritten (nowhere refusal.Length)) (written text))) (sym g) ∙ e in
         let b : bytes_for (length text) ≡ bytes = cc in
         record {
@@ -226,7 +223,7 @@ was-written kind subtype sheet out bits bytes e =
     go x p a b = by x p a b (writing-with kind subtype sheet out a b) (ap write_answer_by (sym (writing-with kind subtype sheet out a b)) ∙ e)
       where
         by : (x : Bool) (p : Part (Layout Message)) → ltb (length out) longest_payload ≡ x → layout_for kind subtype ≡ p
-            → writing kind subtype sheet out ≡ writing_with sheet x p → write_answer_by (writing_with sheet x p) ≡ writer.Written bits bytes
+            → writing kind subtype sheet out ≡ writing_with sheet x p → write_answer_by (writing_with sheet x p) ≡ Ok (record { bits = bits; bytes = bytes })
             → WasWritten kind subtype sheet out bits bytes
         by true p a b r e = let z : ◌≡◌ {A = ℕ} 0 1 = cc in absurd (omega arith)
         by false absent a b r e = let z : ◌≡◌ {A = ℕ} 0 1 = cc in absurd (omega arith)
@@ -237,7 +234,7 @@ was-written kind subtype sheet out bits bytes e =
 
 pub reads_so : (kind subtype : ℕ) (payload sheet : List ℕ) (l : Layout Message) (m : Message) (cs : List ℕ) (n : ℕ) → layout_for kind subtype ≡ present l
     → read_l l (to_bits payload) ≡ accepted m cs n → sheet_room ≤ length sheet → bad_length (length payload) ≡ false
-    → (read_answer kind subtype payload sheet ≡ reader.Read n (length cs)) × (sheet_after kind subtype payload sheet ≡ cs ++ drop (length cs) sheet)
+    → (read_answer kind subtype payload sheet ≡ Ok (record { bits = n; entries = length cs })) × (sheet_after kind subtype payload sheet ≡ cs ++ drop (length cs) sheet)
 unfolding read_answer sheet_after
 reads_so kind subtype payload sheet l m cs n p r room good =
     let e : reading kind subtype payload sheet ≡ accepted m cs n
@@ -246,7 +243,7 @@ reads_so kind subtype payload sheet l m cs n p r room good =
 
 pub writes-so : (kind subtype : ℕ) (sheet out : List ℕ) (l : Layout Message) (text : List ℕ) → layout_for kind subtype ≡ present l
     → write_l l sheet ≡ written text → longest_payload ≤ length out → bad_length (bytes_for (length text)) ≡ false
-    → (write_answer kind subtype sheet out ≡ writer.Written (length text) (bytes_for (length text))) × (out_after kind subtype sheet out ≡ out_by (written text) out)
+    → (write_answer kind subtype sheet out ≡ Ok (record { bits = length text; bytes = bytes_for (length text) })) × (out_after kind subtype sheet out ≡ out_by (written text) out)
 unfolding write_answer out_after
 writes-so kind subtype sheet out l text p w room good =
     let e : writing kind subtype sheet out ≡ written text

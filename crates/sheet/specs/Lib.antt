@@ -1,3 +1,4 @@
+pub mod Results
 pub mod Sheet
 pub mod Passes
 pub mod Walked

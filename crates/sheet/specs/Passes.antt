@@ -1,5 +1,5 @@
 -- Serves proofs: what one pass of the code over a payload or a sheet must come to, by the layout that its start walks.
-use Rattle.std.specs.Prelude.{◌≡◌, Bool, true, false, List, [], ◌++◌, ℕ, ◌*◌, ◌^◌, ◌≤◌, ◌<◌, length, drop}
+use Rattle.std.specs.Prelude.{◌≡◌, Bool, true, false, List, [], ◌++◌, ℕ, ◌*◌, ◌^◌, ◌≤◌, ◌<◌, length, drop, Ok, Err, Some, None}
 use Rattle.sizes.specs.Sizes.{longest_payload}
 use Rattle.answer.specs.declared.Fault as answer
 use Rattle.answer.specs.declared.Refusal.TheVariants.{UnknownType}
@@ -11,17 +11,14 @@ use Rattle.layout.specs.Parts.{Part, absent, present}
 use Rattle.layout.specs.Walks.{Walks}
 use Rattle.rows.specs.Puts.{Counted}
 use Rattle.message.specs.declared.State.{State}
-use Rattle.message.specs.declared.Start.{Start}
-use Rattle.message.specs.declared.Start.TheVariants.{Known, Unknown}
+use Rattle.message.specs.Results.{Start}
 use Rattle.message.specs.Machine.{field_of, step_of, start_of}
 use Rattle.message.specs.Messages.{Message, layout_for}
 use Rattle.sheet.specs.Stores.{Finishes}
 use Rattle.sheet.specs.Sheet.{read_answer_by, bytes_for, then_length, write_answer_by, out_by}
-use Rattle.sheet.specs.declared.ReadAnswer.{ReadAnswer}
-use Rattle.sheet.specs.declared.WriteAnswer.{WriteAnswer}
-use Rattle.sheet.specs.declared.WriteAnswer.TheVariants as writer
-use Rattle.sheet.specs.declared.Pass.{Pass}
-use Rattle.sheet.specs.declared.Pass.TheVariants.{Whole, Fault}
+use Rattle.sheet.specs.Results.{ReadAnswer}
+use Rattle.sheet.specs.Results.{WriteAnswer}
+use Rattle.sheet.specs.Results.{Pass}
 
 -- for the layout of a message that starts at s
 abbrev pub ForLayout : State → (Layout Message → Type 0) → Type 0
@@ -29,12 +26,12 @@ ForLayout s claim = (l : Layout Message) → Walks field_of step_of s l → clai
 
 -- a pass over a payload, which stores nothing
 abbrev pub ended_by : Pass → Ended
-ended_by (Whole entries bits) = finished entries bits []
-ended_by (Fault why) = stopped why
+ended_by (Ok p) = finished p.entries p.bits []
+ended_by (Err why) = stopped why
 
 abbrev pub bits_of_pass : Pass → ℕ
-bits_of_pass (Whole entries bits) = bits
-bits_of_pass (Fault why) = 0
+bits_of_pass (Ok p) = p.bits
+bits_of_pass (Err why) = 0
 
 pub record ReadPass (payload : List ℕ) (start : State) (pass : Pass) : Type 0 where
   pub ends : ForLayout start (λ l. ended_by pass ≡ run_l l (to_bits payload) 0 0 [])
@@ -45,14 +42,14 @@ pub record ReadJudged (payload : List ℕ) (start : State) (answer : ReadAnswer)
 
 -- a type and subtype that has a start, and a pass and a judgement from there
 abbrev pub is_known_start : Start → Bool
-is_known_start (Known s) = true
-is_known_start Unknown = false
+is_known_start (Some s) = true
+is_known_start None = false
 
 pub record StartedPass (kind subtype : ℕ) (payload : List ℕ) (pass : Pass) : Type 0 where
-  pub from : (start : State) → start_of kind subtype ≡ Known start → ReadPass payload start pass
+  pub from : (start : State) → start_of kind subtype ≡ Some start → ReadPass payload start pass
 
 pub record StartedJudged (kind subtype : ℕ) (payload : List ℕ) (answer : ReadAnswer) : Type 0 where
-  pub from : (start : State) → start_of kind subtype ≡ Known start → ReadJudged payload start answer
+  pub from : (start : State) → start_of kind subtype ≡ Some start → ReadJudged payload start answer
 
 -- an accepted payload stored by its layout: the codes are on the sheet
 pub record Fills (e : Ended) (sheet' : List ℕ) : Type 0 where
@@ -69,20 +66,20 @@ pub record Filled (kind subtype : ℕ) (payload sheet sheet' : List ℕ) : Type 
 pub data PutBy (out out' : List ℕ) : Written → Pass → Type 0 where
   whole : {bits : List ℕ} {entries count : ℕ} → Counted count (length bits)
       → (length bits ≤ 8 * longest_payload → length bits ≤ 8 * length out → to_bits out' ≡ bits ++ drop (length bits) (to_bits out))
-      → PutBy out out' (written bits) (Whole entries count)
-  fault : {why : answer.Fault} → PutBy out out' (unwritten why) (Fault why)
+      → PutBy out out' (written bits) (Ok (record { entries = entries; bits = count }))
+  fault : {why : answer.Fault} → PutBy out out' (unwritten why) (Err why)
 
 pub record WritePass (sheet out : List ℕ) (start : State) (pass : Pass) (out' : List ℕ) : Type 0 where
   pub puts : ForLayout start (λ l. PutBy out out' (write_l l sheet) pass)
   pub small : bits_of_pass pass < 2 ^ 33
 
 abbrev pub bits_written : WriteAnswer → ℕ
-bits_written (writer.Written bits bytes) = bits
-bits_written (writer.Refused why) = 0
+bits_written (Ok p) = p.bits
+bits_written (Err why) = 0
 
 abbrev pub bytes_written : WriteAnswer → ℕ
-bytes_written (writer.Written bits bytes) = bytes
-bytes_written (writer.Refused why) = 0
+bytes_written (Ok p) = p.bytes
+bytes_written (Err why) = 0
 
 -- what is written of a sheet of a type and subtype, LENGTH left aside
 abbrev pub written_with : List ℕ → Part (Layout Message) → Written

@@ -1,5 +1,5 @@
 -- Theorems, in the words of the contracts (document 02, request 2): which refusals of `read`, `judge`, `write` and `judge_sheet` have a place, and what it is. Proved.
-use Rattle.std.specs.Prelude.{◌≡◌, refl, Bool, true, false, List, ℕ, ◌*◌, ◌^◌, ◌≤◌, ◌<◌, ltb, length}
+use Rattle.std.specs.Prelude.{◌≡◌, refl, Bool, true, false, List, ℕ, ◌*◌, ◌^◌, ◌≤◌, ◌<◌, ltb, length, Err}
 use Rattle.std.proofs.Math.Path.{ap}
 use Rattle.std.proofs.Common.{sym, ◌∙◌, arith, length-append}
 use Rattle.sizes.specs.Sizes.{longest_payload, sheet_room}
@@ -18,8 +18,6 @@ use Rattle.message.specs.Messages.{Message, layout_for}
 use Rattle.sheet.specs.Sheet.{bad_length, bytes_for, judging, reading, read_answer_by, judged, read_answer, then_length, judging_sheet, writing, write_answer_by, judged_sheet, write_answer}
 use Rattle.sheet.specs.Laws.{good-some, judging_with, judging-with, judging_sheet_with, judging-sheet-with}
 use Rattle.sheet.specs.Acceptance.{walked}
-use Rattle.sheet.specs.declared.ReadAnswer.TheVariants as reader
-use Rattle.sheet.specs.declared.WriteAnswer.TheVariants as writer
 
 -- ---- payloads
 
@@ -30,7 +28,7 @@ pub data PayloadFault (kind subtype : ℕ) (payload : List ℕ) (why : answer.Fa
   at_field : (l : Layout Message) → layout_for kind subtype ≡ present l → bad_length (length payload) ≡ false → Placed why → ReadStop l (to_bits payload) why
       → PayloadFault kind subtype payload why
 
-refused-by : (o : Outcome Message) (why : answer.Fault) → read_answer_by o ≡ reader.Refused why → o ≡ refused why
+refused-by : (o : Outcome Message) (why : answer.Fault) → read_answer_by o ≡ Err why → o ≡ refused why
 refused-by (accepted v cs n) why e = let z : ◌≡◌ {A = ℕ} 0 1 = cc in absurd (omega arith)
 refused-by (refused why') why e = let z : why' ≡ why = cc in ap refused z
 
@@ -49,13 +47,13 @@ module _ (kind subtype : ℕ) (payload : List ℕ) where
       go p b q r = by p b q r (sym (judging-with kind subtype payload q r) ∙ e)
 
   -- What `judge` refuses is refused so ..
-  pub judged-faults : (why : answer.Fault) → judged kind subtype payload ≡ reader.Refused why → PayloadFault kind subtype payload why
+  pub judged-faults : (why : answer.Fault) → judged kind subtype payload ≡ Err why → PayloadFault kind subtype payload why
   unfolding judged
   judged-faults why e = judging-faults why (refused-by (judging kind subtype payload) why e)
 
   -- .. and a payload of a good length whose bits stop so is refused so.
   pub stops-judged : (l : Layout Message) (why : answer.Fault) → layout_for kind subtype ≡ present l → bad_length (length payload) ≡ false → ReadStop l (to_bits payload) why
-      → judged kind subtype payload ≡ reader.Refused why
+      → judged kind subtype payload ≡ Err why
   unfolding judged
   stops-judged l why q g s = ap read_answer_by (judging-with kind subtype payload q g ∙ stops-refused l (to_bits payload) why s)
 
@@ -73,11 +71,11 @@ pub data ReadFault (kind subtype : ℕ) (payload sheet : List ℕ) (why : answer
   no_room : ltb (length sheet) sheet_room ≡ true → why ≡ nowhere refusal.Room → ReadFault kind subtype payload sheet why
   payload-fault : ltb (length sheet) sheet_room ≡ false → PayloadFault kind subtype payload why → ReadFault kind subtype payload sheet why
 
-pub read-faults : (kind subtype : ℕ) (payload sheet : List ℕ) (why : answer.Fault) → read_answer kind subtype payload sheet ≡ reader.Refused why → ReadFault kind subtype payload sheet why
+pub read-faults : (kind subtype : ℕ) (payload sheet : List ℕ) (why : answer.Fault) → read_answer kind subtype payload sheet ≡ Err why → ReadFault kind subtype payload sheet why
 unfolding read_answer reading
 read-faults kind subtype payload sheet why e = go (ltb (length sheet) sheet_room) refl e
   where
-    go : (b : Bool) → ltb (length sheet) sheet_room ≡ b → read_answer_by (stop b (refused (nowhere refusal.Room)) (judging kind subtype payload)) ≡ reader.Refused why → ReadFault kind subtype payload sheet why
+    go : (b : Bool) → ltb (length sheet) sheet_room ≡ b → read_answer_by (stop b (refused (nowhere refusal.Room)) (judging kind subtype payload)) ≡ Err why → ReadFault kind subtype payload sheet why
     go true h e = no_room h (let z : nowhere refusal.Room ≡ why = cc in sym z)
     go false h e = payload-fault h (judging-faults kind subtype payload why (refused-by (judging kind subtype payload) why e))
 
@@ -90,7 +88,7 @@ pub data EntryFault (kind subtype : ℕ) (sheet : List ℕ) (why : answer.Fault)
       → why ≡ nowhere refusal.Length → EntryFault kind subtype sheet why
   by_layout : (l : Layout Message) → layout_for kind subtype ≡ present l → SheetFault why → WriteStop l sheet why → EntryFault kind subtype sheet why
 
-unwritten-by : (o : Written) (why : answer.Fault) → write_answer_by o ≡ writer.Refused why → o ≡ unwritten why
+unwritten-by : (o : Written) (why : answer.Fault) → write_answer_by o ≡ Err why → o ≡ unwritten why
 unwritten-by (written bits) why e = let z : ◌≡◌ {A = ℕ} 0 1 = cc in absurd (omega arith)
 unwritten-by (unwritten why') why e = let z : why' ≡ why = cc in ap unwritten z
 
@@ -124,12 +122,12 @@ module _ (kind subtype : ℕ) (sheet : List ℕ) where
       go p q = by p q (sym (judging-sheet-with kind subtype sheet q) ∙ e)
 
   -- What `judge_sheet` refuses is refused so ..
-  pub judged-sheet-faults : (why : answer.Fault) → judged_sheet kind subtype sheet ≡ writer.Refused why → EntryFault kind subtype sheet why
+  pub judged-sheet-faults : (why : answer.Fault) → judged_sheet kind subtype sheet ≡ Err why → EntryFault kind subtype sheet why
   unfolding judged_sheet
   judged-sheet-faults why e = judging-sheet-faults why (unwritten-by (judging_sheet kind subtype sheet) why e)
 
   -- .. and a sheet that stops so is refused so.
-  pub stops-judged-sheet : (l : Layout Message) (why : answer.Fault) → layout_for kind subtype ≡ present l → WriteStop l sheet why → judged_sheet kind subtype sheet ≡ writer.Refused why
+  pub stops-judged-sheet : (l : Layout Message) (why : answer.Fault) → layout_for kind subtype ≡ present l → WriteStop l sheet why → judged_sheet kind subtype sheet ≡ Err why
   unfolding judged_sheet
   stops-judged-sheet l why q s = ap write_answer_by (judging-sheet-with kind subtype sheet q ∙ ap then_length (stops-unwritten l sheet why s))
 
@@ -173,10 +171,10 @@ pub data WriteFault (kind subtype : ℕ) (sheet out : List ℕ) (why : answer.Fa
   no_room : ltb (length out) longest_payload ≡ true → why ≡ nowhere refusal.Room → WriteFault kind subtype sheet out why
   entry-fault : ltb (length out) longest_payload ≡ false → EntryFault kind subtype sheet why → WriteFault kind subtype sheet out why
 
-pub write-faults : (kind subtype : ℕ) (sheet out : List ℕ) (why : answer.Fault) → write_answer kind subtype sheet out ≡ writer.Refused why → WriteFault kind subtype sheet out why
+pub write-faults : (kind subtype : ℕ) (sheet out : List ℕ) (why : answer.Fault) → write_answer kind subtype sheet out ≡ Err why → WriteFault kind subtype sheet out why
 unfolding write_answer writing
 write-faults kind subtype sheet out why e = go (ltb (length out) longest_payload) refl e
   where
-    go : (b : Bool) → ltb (length out) longest_payload ≡ b → write_answer_by (stop b (unwritten (nowhere refusal.Room)) (judging_sheet kind subtype sheet)) ≡ writer.Refused why → WriteFault kind subtype sheet out why
+    go : (b : Bool) → ltb (length out) longest_payload ≡ b → write_answer_by (stop b (unwritten (nowhere refusal.Room)) (judging_sheet kind subtype sheet)) ≡ Err why → WriteFault kind subtype sheet out why
     go true h e = no_room h (let z : nowhere refusal.Room ≡ why = cc in sym z)
     go false h e = entry-fault h (judging-sheet-faults kind subtype sheet why (unwritten-by (judging_sheet kind subtype sheet) why e))

@@ -1,5 +1,5 @@
 -- Definitions to believe: a payload read into a sheet and a sheet written into bytes, for all inputs (document 01, "Payloads" and "Answer numbers").
-use Rattle.std.specs.Prelude.{Bool, ◌||◌, List, ◌++◌, ℕ, ◌+◌, ◌-◌, ◌*◌, ◌/◌, eqb, ltb, length, drop}
+use Rattle.std.specs.Prelude.{Bool, ◌||◌, List, ◌++◌, ℕ, ◌+◌, ◌-◌, ◌*◌, ◌/◌, eqb, ltb, length, drop, Ok, Err}
 use Rattle.sizes.specs.Sizes.{longest_payload, sheet_room}
 use Rattle.answer.specs.Stop.{stop}
 use Rattle.answer.specs.Number.{number_of}
@@ -9,10 +9,8 @@ use Rattle.bits.specs.Bits.{to_bits, bits_of}
 use Rattle.layout.specs.Layout.{Layout, Outcome, accepted, refused, read_l, Written, written, unwritten, write_l}
 use Rattle.layout.specs.Parts.{Part, absent, present}
 use Rattle.message.specs.Messages.{Message, layout_for}
-use Rattle.sheet.specs.declared.ReadAnswer.{ReadAnswer}
-use Rattle.sheet.specs.declared.ReadAnswer.TheVariants as reader
-use Rattle.sheet.specs.declared.WriteAnswer.{WriteAnswer}
-use Rattle.sheet.specs.declared.WriteAnswer.TheVariants as writer
+use Rattle.sheet.specs.Results.{ReadAnswer}
+use Rattle.sheet.specs.Results.{WriteAnswer}
 
 -- LENGTH: "payload of 0 or over 1,023 bytes"
 abbrev pub bad_length : ℕ → Bool
@@ -38,8 +36,8 @@ reading kind subtype payload sheet = stop (ltb (length sheet) sheet_room) (refus
 
 -- the count of bits read and of entries written, or the refusal with its place
 abbrev pub read_answer_by : Outcome Message → ReadAnswer
-read_answer_by (accepted message codes bits) = reader.Read bits (length codes)
-read_answer_by (refused why) = reader.Refused why
+read_answer_by (accepted message codes bits) = Ok (record { bits = bits; entries = length codes })
+read_answer_by (refused why) = Err why
 
 -- the codes in reading order, later entries as lent; a refusal alters nothing
 abbrev pub sheet_by : Outcome Message → List ℕ → List ℕ
@@ -79,8 +77,8 @@ writing kind subtype sheet out = stop (ltb (length out) longest_payload) (unwrit
 
 -- the count of bits and of bytes written, or the refusal with its place
 abbrev pub write_answer_by : Written → WriteAnswer
-write_answer_by (written bits) = writer.Written (length bits) (bytes_for (length bits))
-write_answer_by (unwritten why) = writer.Refused why
+write_answer_by (written bits) = Ok (record { bits = length bits; bytes = bytes_for (length bits) })
+write_answer_by (unwritten why) = Err why
 
 -- "The writer fills the last byte with zeros": the zeros behind so many bits
 abbrev pub fill_for : ℕ → List ℕ
@@ -105,9 +103,9 @@ out_after kind subtype sheet out = out_by (writing kind subtype sheet out) out
 -- ---- the answers' numbers in document 01
 
 abbrev pub number_of_read : ReadAnswer → ℕ
-number_of_read (reader.Read bits entries) = 0
-number_of_read (reader.Refused fault) = number_of fault.refusal
+number_of_read (Ok p) = 0
+number_of_read (Err fault) = number_of fault.refusal
 
 abbrev pub number_of_written : WriteAnswer → ℕ
-number_of_written (writer.Written bits bytes) = 0
-number_of_written (writer.Refused fault) = number_of fault.refusal
+number_of_written (Ok p) = 0
+number_of_written (Err fault) = number_of fault.refusal

@@ -1,6 +1,6 @@
 -- Serves proofs, and is proved: a pass over a payload that is known to be accepted. It stores each code that it meets and asks nothing: since the run to the end
 -- finishes, each field has its bits and takes its code.
-use Rattle.std.specs.Prelude.{◌≡◌, Bool, true, false, List, [], ◌∷◌, leb, length, take, drop, set}
+use Rattle.std.specs.Prelude.{◌≡◌, Bool, true, false, List, [], ◌∷◌, leb, length, take, drop, set, Ok, Err}
 use Rattle.std.proofs.Math.Path.{refl}
 use Rattle.std.proofs.Common.{ap, sym, ◌∙◌, subst, zero-mul, suc-mul, arith, leb-true, length-drop, drop-drop}
 use Prim.Native.Nat.{ℕ, zero, suc, ◌+◌, ◌*◌, ◌≤◌, ◌<◌}
@@ -10,8 +10,7 @@ use Rattle.bits.specs.Laws.{length-to_bits, got-there}
 use Rattle.answer.specs.declared.Refusal.TheVariants as refusal
 use Rattle.answer.specs.Place.{fault_at}
 use Rattle.layout.specs.declared.Field.{Field}
-use Rattle.layout.specs.declared.Verdict.{Verdict}
-use Rattle.layout.specs.declared.Verdict.TheVariants.{Taken, Fault}
+use Rattle.layout.specs.Results.{Verdict}
 use Rattle.layout.specs.Layout.{Layout, field, pick, judge}
 use Rattle.layout.specs.Parts.{times}
 use Rattle.layout.specs.Run.{Ended, finished, stopped, judged_e, run_l}
@@ -49,12 +48,12 @@ module _ (payload : List ℕ) (f : Field) (next : ℕ → Layout Message) (pos a
       go : (b : Bool) → leb w (length l) ≡ b → (v : Verdict) → judge f c ≡ v → Finishes (pick b (judged_e f.sf pos v rest) (stopped (fault_at refusal.Short f.sf pos)))
           → pick b (judged_e f.sf pos v rest) (stopped (fault_at refusal.Short f.sf pos))
           ≡ run_at payload (next (got payload pos w)) (pos + w) (at + 1) (set sheet at (got payload pos w))
-      go true e Taken j h =
+      go true e (Ok _) j h =
           let long : w ≤ length l = leb-true w (length l) e in
           let is : c ≡ got payload pos w = sym (got-there payload pos w word (omega (arith, length-drop pos (to_bits payload), length-to_bits payload))) in
           ap (λ (x : List ℕ). run_l (next c) x (pos + w) (at + 1) (set sheet at c)) (drop-drop w pos (to_bits payload))
           ∙ ap (λ (x : ℕ). run_at payload (next x) (pos + w) (at + 1) (set sheet at x)) is
-      go true e (Fault why) j h = let q : stopped (fault_at why f.sf pos) ≡ finished h.count h.used h.filled = h.is in let z : ◌≡◌ {A = ℕ} 0 1 = cc in absurd (omega arith)
+      go true e (Err why) j h = let q : stopped (fault_at why f.sf pos) ≡ finished h.count h.used h.filled = h.is in let z : ◌≡◌ {A = ℕ} 0 1 = cc in absurd (omega arith)
       go false e v j h = let q : stopped (fault_at refusal.Short f.sf pos) ≡ finished h.count h.used h.filled = h.is in let z : ◌≡◌ {A = ℕ} 0 1 = cc in absurd (omega arith)
 
 -- a field whose run goes on has its bits

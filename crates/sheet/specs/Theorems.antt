@@ -1,5 +1,5 @@
 -- Demand 2 for the calls themselves, in the words of their contracts. Proved.
-use Rattle.std.specs.Prelude.{◌≡◌, false, List, ◌++◌, ℕ, ◌-◌, ◌*◌, ◌≤◌, length, take, drop}
+use Rattle.std.specs.Prelude.{◌≡◌, false, List, ◌++◌, ℕ, ◌-◌, ◌*◌, ◌≤◌, length, take, drop, Ok}
 use Rattle.std.proofs.Common.{ap, sym, ◌∙◌, append_assoc, arith, length-append, length-drop, take_at, length-take-le}
 use Rattle.sizes.specs.Sizes.{longest_payload, sheet_room}
 use Rattle.bits.specs.Bits.{to_bits}
@@ -9,13 +9,11 @@ use Rattle.layout.specs.Parts.{present}
 use Rattle.layout.specs.RoundTrip.{write_read, read-write, write-injective}
 use Rattle.sheet.specs.Sheet.{bad_length, bytes_for, fill_for, read_answer, sheet_after, write_answer, out_after}
 use Rattle.sheet.specs.Laws.{good-some, some_good, WasRead, was_read, read-has-bit, WasWritten, was-written, reads_so, writes-so}
-use Rattle.sheet.specs.declared.ReadAnswer.TheVariants as reader
-use Rattle.sheet.specs.declared.WriteAnswer.TheVariants as writer
 
 -- After a successful read, write of the entries read succeeds and gives the payload's bits up to the count read.
-pub read-then-write : (kind subtype : ℕ) (payload sheet out : List ℕ) (bits entries : ℕ) → read_answer kind subtype payload sheet ≡ reader.Read bits entries
+pub read-then-write : (kind subtype : ℕ) (payload sheet out : List ℕ) (bits entries : ℕ) → read_answer kind subtype payload sheet ≡ Ok (record { bits = bits; entries = entries })
     → longest_payload ≤ length out
-    → (write_answer kind subtype (take entries (sheet_after kind subtype payload sheet)) out ≡ writer.Written bits (bytes_for bits))
+    → (write_answer kind subtype (take entries (sheet_after kind subtype payload sheet)) out ≡ Ok (record { bits = bits; bytes = bytes_for bits }))
     × (take bits (out_after kind subtype (take entries (sheet_after kind subtype payload sheet)) out) ≡ take bits (to_bits payload))
 read-then-write kind subtype payload sheet out bits entries e room =
     let w : WasRead kind subtype payload sheet bits entries = was_read kind subtype payload sheet bits entries e in
@@ -27,7 +25,7 @@ read-then-write kind subtype payload sheet out bits entries e room =
     let read : take entries (sheet_after kind subtype payload sheet) ≡ w.codes
     = ap (take entries) w.leaves ∙ take_at w.codes (drop (length w.codes) sheet) entries (sym w.count) in
     let so = writes-so kind subtype w.codes out w.layout text w.here back.0 room (ap (λ (x : ℕ). bad_length (bytes_for x)) size ∙ good) in (
-      ap (λ x. write_answer kind subtype x out) read ∙ so.0 ∙ ap (λ (x : ℕ). writer.Written x (bytes_for x)) size,
+      ap (λ x. write_answer kind subtype x out) read ∙ so.0 ∙ ap (λ (x : ℕ). Ok (record { bits = x; bytes = bytes_for x })) size,
       ap (λ x. take bits (out_after kind subtype x out)) read ∙ ap (take bits) so.1
           ∙ take_at text (fill_for (length text) ++ drop (8 * bytes_for (length text)) (to_bits out)) bits size,
     )
@@ -49,9 +47,9 @@ written-bytes kind subtype sheet out out' bits bytes w e =
     (length-take-le bytes out' i, to_bits-take bytes out' i ∙ ap (take (8 * bytes)) (a ∙ sym (append_assoc text fill rest)) ∙ take_at (text ++ fill) rest (8 * bytes) whole)
 
 -- After a successful write, read of the bytes written gives the sheet, and as many bits.
-pub write-then-read : (kind subtype : ℕ) (sheet out out' back : List ℕ) (bits bytes : ℕ) → write_answer kind subtype sheet out ≡ writer.Written bits bytes
+pub write-then-read : (kind subtype : ℕ) (sheet out out' back : List ℕ) (bits bytes : ℕ) → write_answer kind subtype sheet out ≡ Ok (record { bits = bits; bytes = bytes })
     → to_bits out' ≡ out_after kind subtype sheet out → sheet_room ≤ length back
-    → (read_answer kind subtype (take bytes out') back ≡ reader.Read bits (length sheet))
+    → (read_answer kind subtype (take bytes out') back ≡ Ok (record { bits = bits; entries = length sheet }))
     × (sheet_after kind subtype (take bytes out') back ≡ sheet ++ drop (length sheet) back)
 write-then-read kind subtype sheet out out' back bits bytes e o room =
     let w : WasWritten kind subtype sheet out bits bytes = was-written kind subtype sheet out bits bytes e in
@@ -60,12 +58,12 @@ write-then-read kind subtype sheet out out' back bits bytes e o room =
     let reads : read_l w.layout (to_bits (take bytes out')) ≡ accepted r.0 sheet (length w.text)
     = ap (read_l w.layout) b.1 ∙ r.1 (fill_for (length w.text)) in
     let so = reads_so kind subtype (take bytes out') back w.layout r.0 sheet (length w.text) w.here reads room (ap bad_length b.0 ∙ w.good) in
-    (so.0 ∙ ap (λ (x : ℕ). reader.Read x (length sheet)) (sym w.count), so.1)
+    (so.0 ∙ ap (λ (x : ℕ). Ok (record { bits = x; entries = length sheet })) (sym w.count), so.1)
 
 -- Two sheets that write the same bytes and as many bits are the same.
 pub written_known : (kind subtype : ℕ) (sheet₁ sheet₂ out₁ out₂ out₁' out₂' : List ℕ) (bits bytes : ℕ)
-    → write_answer kind subtype sheet₁ out₁ ≡ writer.Written bits bytes → to_bits out₁' ≡ out_after kind subtype sheet₁ out₁
-    → write_answer kind subtype sheet₂ out₂ ≡ writer.Written bits bytes → to_bits out₂' ≡ out_after kind subtype sheet₂ out₂
+    → write_answer kind subtype sheet₁ out₁ ≡ Ok (record { bits = bits; bytes = bytes }) → to_bits out₁' ≡ out_after kind subtype sheet₁ out₁
+    → write_answer kind subtype sheet₂ out₂ ≡ Ok (record { bits = bits; bytes = bytes }) → to_bits out₂' ≡ out_after kind subtype sheet₂ out₂
     → take bytes out₁' ≡ take bytes out₂' → sheet₁ ≡ sheet₂
 written_known kind subtype sheet₁ sheet₂ out₁ out₂ out₁' out₂' bits bytes e₁ o₁ e₂ o₂ same =
     let w₁ : WasWritten kind subtype sheet₁ out₁ bits bytes = was-written kind subtype sheet₁ out₁ bits bytes e₁ in

@@ -7,7 +7,6 @@ ghost use Rattle.bits.specs.Bits.{to_bits};
 ghost use Rattle.sheet.specs.Sheet.{bad_length, judged, read_answer, sheet_after, judged_sheet, write_answer, out_after, number_of_read, number_of_written};
 ghost use Rattle.answer.specs.Place.{fault_at};
 ghost use Rattle.message.specs.Machine.{start_of};
-ghost use Rattle.sheet.specs.declared.Pass.TheVariants as pass;
 ghost use Rattle.sheet.specs.Passes.{ReadPass, is_known_start, StartedPass, StartedJudged, Filled, WritePass, SheetPass, SheetKept, WriteWhole};
 
 mod row;
@@ -16,6 +15,8 @@ mod store_bpac;
 mod store_gad;
 mod store_ocb;
 
+use crate::row::Reached;
+use quick::Extent;
 use answer::{Fault, Place, Refusal};
 use layout::{Field, Verdict};
 use message::{Start, State, Subtype};
@@ -24,25 +25,19 @@ use row::{Ran, write_row};
 
 // What `read` answers: the count of bits read and of entries written, or the refusal; SHORT, FIELD and MASK_EMPTY with the field's number and the bit where its
 // entry begins.
-#[derive(Clone, Copy)]
-pub enum ReadAnswer {
-    Read { bits: usize, entries: usize },
-    Refused(Fault),
-}
+pub type ReadAnswer = Result<Extent, Fault>;
 
 // What `write` answers: the count of bits and of bytes written, or the refusal; SHORT, FIELD and MASK_EMPTY with the field's number and its entry of the sheet.
 #[derive(Clone, Copy)]
-pub enum WriteAnswer {
-    Written { bits: usize, bytes: usize },
-    Refused(Fault),
+pub struct Written {
+    pub bits: usize,
+    pub bytes: usize,
 }
 
+pub type WriteAnswer = Result<Written, Fault>;
+
 // What a pass over a message came to: its entries and its bits, or its first fault.
-#[derive(Clone, Copy)]
-enum Pass {
-    Whole { entries: usize, bits: usize },
-    Fault(Fault),
-}
+type Pass = Result<Extent, Fault>;
 
 // LENGTH: "payload of 0 or over 1,023 bytes".
 fn bad_length(bytes: usize) -> bool
@@ -56,14 +51,14 @@ fn bad_length(bytes: usize) -> bool
 
 // A fault at the entry of a field, which begins here.
 fn fault_at(field: Field, why: Refusal, here: usize) -> Pass
-    ensures { result ≡ pass.Fault (fault_at why field.sf here) }
+    ensures { result ≡ Err (fault_at why field.sf here) }
 {
-    Pass::Fault(Fault {
+    Err(Fault {
         refusal: why,
-        place: Place::At {
+        place: Some(Place {
             sf: field.sf,
             at: here,
-        },
+        }),
     })
 }
 
@@ -80,10 +75,10 @@ fn judge_pass(payload: &[u8], start: State) -> Pass
         let field = message::field_of(s);
         let width = field.width;
         if width == 0 {
-            return Pass::Whole {
+            return Ok(Extent {
                 entries: at,
                 bits: pos,
-            };
+            });
         }
         let bits = width as usize;
         if total - pos < bits {
@@ -92,10 +87,10 @@ fn judge_pass(payload: &[u8], start: State) -> Pass
         let code = bits::get(payload, pos, width);
         let next = pos + bits;
         match layout::judge(field, code) {
-            Verdict::Fault(why) => {
+            Err(why) => {
                 return fault_at(field, why, pos);
             }
-            Verdict::Taken => {
+            Ok(()) => {
                 at += 1;
                 pos = next;
                 s = message::advance(s, code);
@@ -110,11 +105,11 @@ fn pass_of(kind: u8, subtype: u8, payload: &[u8]) -> Pass
     ensures { StartedPass kind subtype payload.now result }
 {
     match message::start_of(kind, subtype) {
-        Start::Unknown => Pass::Fault(Fault {
+        None => Err(Fault {
             refusal: Refusal::UnknownType,
-            place: Place::Nowhere,
+            place: None,
         }),
-        Start::Known(start) => judge_pass(payload, start),
+        Some(start) => judge_pass(payload, start),
     }
 }
 
@@ -124,8 +119,8 @@ fn judge_from(kind: u8, subtype: u8, payload: &[u8]) -> ReadAnswer
     ensures { StartedJudged kind subtype payload.now result }
 {
     match pass_of(kind, subtype, payload) {
-        Pass::Fault(why) => ReadAnswer::Refused(why),
-        Pass::Whole { entries, bits } => ReadAnswer::Read { bits, entries },
+        Err(why) => Err(why),
+        Ok(Extent { entries, bits }) => Ok(Extent { bits, entries }),
     }
 }
 
@@ -135,8 +130,8 @@ fn judge_known(kind: u8, subtype: u8, payload: &[u8]) -> ReadAnswer
     ensures { result ≡ judged kind subtype payload.now }
 {
     match quick::judge(kind, subtype, payload) {
-        Quick::Unknown => judge_from(kind, subtype, payload),
-        Quick::Reads { bits, entries } => ReadAnswer::Read { bits, entries },
+        None => judge_from(kind, subtype, payload),
+        Some(Extent { bits, entries }) => Ok(Extent { bits, entries }),
     }
 }
 
@@ -145,8 +140,8 @@ fn store_ocb_codes(subtype: u8, payload: &[u8], sheet: &mut [u64])
     ensures { Filled 0 subtype payload.now sheet.old sheet.new }
 {
     match message::constellation_of(subtype) {
-        Subtype::Known(constellation) => store_ocb::ocb(constellation, payload, sheet),
-        Subtype::Unknown => {}
+        Some(constellation) => store_ocb::ocb(constellation, payload, sheet),
+        None => {}
     }
 }
 
@@ -155,8 +150,8 @@ fn store_hpac_codes(subtype: u8, payload: &[u8], sheet: &mut [u64])
     ensures { Filled 1 subtype payload.now sheet.old sheet.new }
 {
     match message::constellation_of(subtype) {
-        Subtype::Known(constellation) => store::hpac(constellation, payload, sheet),
-        Subtype::Unknown => {}
+        Some(constellation) => store::hpac(constellation, payload, sheet),
+        None => {}
     }
 }
 
@@ -189,10 +184,10 @@ fn read_known(kind: u8, subtype: u8, payload: &[u8], sheet: &mut [u64]) -> ReadA
 {
     let judged = judge_known(kind, subtype, payload);
     match judged {
-        ReadAnswer::Refused(why) => ReadAnswer::Refused(why),
-        ReadAnswer::Read { bits, entries } => {
+        Err(why) => Err(why),
+        Ok(Extent { bits, entries }) => {
             store_codes(kind, subtype, payload, sheet);
-            ReadAnswer::Read { bits, entries }
+            Ok(Extent { bits, entries })
         }
     }
 }
@@ -202,15 +197,15 @@ pub fn judge(kind: u8, subtype: u8, payload: &[u8]) -> ReadAnswer
     ensures { result ≡ judged kind subtype payload.now }
 {
     match message::start_of(kind, subtype) {
-        Start::Unknown => ReadAnswer::Refused(Fault {
+        None => Err(Fault {
             refusal: Refusal::UnknownType,
-            place: Place::Nowhere,
+            place: None,
         }),
-        Start::Known(start) => {
+        Some(start) => {
             if bad_length(payload.len()) {
-                return ReadAnswer::Refused(Fault {
+                return Err(Fault {
                     refusal: Refusal::Length,
-                    place: Place::Nowhere,
+                    place: None,
                 });
             }
             judge_known(kind, subtype, payload)
@@ -224,21 +219,21 @@ pub fn read(kind: u8, subtype: u8, payload: &[u8], sheet: &mut [u64]) -> ReadAns
     ensures sheet_after { sheet.new ≡ sheet_after kind subtype payload.now sheet.old }
 {
     if sheet.len() < sizes::SHEET_ROOM {
-        return ReadAnswer::Refused(Fault {
+        return Err(Fault {
             refusal: Refusal::Room,
-            place: Place::Nowhere,
+            place: None,
         });
     }
     match message::start_of(kind, subtype) {
-        Start::Unknown => ReadAnswer::Refused(Fault {
+        None => Err(Fault {
             refusal: Refusal::UnknownType,
-            place: Place::Nowhere,
+            place: None,
         }),
-        Start::Known(start) => {
+        Some(start) => {
             if bad_length(payload.len()) {
-                return ReadAnswer::Refused(Fault {
+                return Err(Fault {
                     refusal: Refusal::Length,
-                    place: Place::Nowhere,
+                    place: None,
                 });
             }
             read_known(kind, subtype, payload, sheet)
@@ -257,14 +252,14 @@ fn write_pass(sheet: &[u64], out: &mut [u8], start: State) -> Pass
         let row = message::row::row_of(s);
         if row.group != 0 {
             match write_row(sheet, out, row, pos, at) {
-                Ran::Stopped(why) => {
-                    return Pass::Fault(why);
+                Err(why) => {
+                    return Err(why);
                 }
-                Ran::To {
+                Ok(Reached {
                     pos: p,
                     at: a,
                     last,
-                } => {
+                }) => {
                     pos = p;
                     at = a;
                     s = message::row::after(s, last);
@@ -275,15 +270,15 @@ fn write_pass(sheet: &[u64], out: &mut [u8], start: State) -> Pass
             let width = field.width;
             if width == 0 {
                 if at < sheet.len() {
-                    return Pass::Fault(Fault {
+                    return Err(Fault {
                         refusal: Refusal::Leftover,
-                        place: Place::Nowhere,
+                        place: None,
                     });
                 }
-                return Pass::Whole {
+                return Ok(Extent {
                     entries: at,
                     bits: pos,
-                };
+                });
             }
             if sheet.len() <= at {
                 return fault_at(field, Refusal::Short, at);
@@ -291,10 +286,10 @@ fn write_pass(sheet: &[u64], out: &mut [u8], start: State) -> Pass
             let code = sheet[at];
             let next = at + 1;
             match layout::judge(field, code) {
-                Verdict::Fault(why) => {
+                Err(why) => {
                     return fault_at(field, why, at);
                 }
-                Verdict::Taken => {
+                Ok(()) => {
                     bits::put(out, pos, width, code);
                     at = next;
                     pos = rows::counted(pos, width);
@@ -310,11 +305,11 @@ fn sheet_pass(kind: u8, subtype: u8, sheet: &[u64], out: &mut [u8]) -> Pass
     ensures { SheetPass kind subtype sheet.now out.old result out.new }
 {
     match message::start_of(kind, subtype) {
-        Start::Unknown => Pass::Fault(Fault {
+        None => Err(Fault {
             refusal: Refusal::UnknownType,
-            place: Place::Nowhere,
+            place: None,
         }),
-        Start::Known(start) => write_pass(sheet, out, start),
+        Some(start) => write_pass(sheet, out, start),
     }
 }
 
@@ -323,16 +318,16 @@ fn keep_sheet(kind: u8, subtype: u8, sheet: &[u64], aside: &mut [u8]) -> WriteAn
     ensures { SheetKept kind subtype sheet.now aside.old result aside.new }
 {
     match sheet_pass(kind, subtype, sheet, aside) {
-        Pass::Fault(why) => WriteAnswer::Refused(why),
-        Pass::Whole { entries: _, bits } => {
+        Err(why) => Err(why),
+        Ok(Extent { entries: _, bits }) => {
             let bytes = (bits + 7) / 8;
             if bad_length(bytes) {
-                return WriteAnswer::Refused(Fault {
+                return Err(Fault {
                     refusal: Refusal::Length,
-                    place: Place::Nowhere,
+                    place: None,
                 });
             }
-            WriteAnswer::Written { bits, bytes }
+            Ok(Written { bits, bytes })
         }
     }
 }
@@ -344,12 +339,12 @@ fn write_by(kind: u8, subtype: u8, sheet: &[u64], out: &mut [u8], aside: &mut [u
 {
     let judged = keep_sheet(kind, subtype, sheet, aside);
     match judged {
-        WriteAnswer::Refused(why) => WriteAnswer::Refused(why),
-        WriteAnswer::Written { bits, bytes } => {
+        Err(why) => Err(why),
+        Ok(Written { bits, bytes }) => {
             let fill = (8 * bytes - bits) as u32;
             bits::put(aside, bits, fill, 0);
             out[..bytes].copy_from_slice(&aside[..bytes]);
-            WriteAnswer::Written { bits, bytes }
+            Ok(Written { bits, bytes })
         }
     }
 }
@@ -376,9 +371,9 @@ pub fn write(kind: u8, subtype: u8, sheet: &[u64], out: &mut [u8]) -> WriteAnswe
     ensures out_after { to_bits out.new ≡ out_after kind subtype sheet.now out.old }
 {
     if out.len() < sizes::LONGEST_PAYLOAD {
-        return WriteAnswer::Refused(Fault {
+        return Err(Fault {
             refusal: Refusal::Room,
-            place: Place::Nowhere,
+            place: None,
         });
     }
     write_whole(kind, subtype, sheet, out)
@@ -389,11 +384,11 @@ pub fn number_read(answer: ReadAnswer) -> u8
     ensures { result ≡ number_of_read answer }
 {
     match answer {
-        ReadAnswer::Read {
+        Ok(Extent {
             bits: _,
             entries: _,
-        } => 0,
-        ReadAnswer::Refused(fault) => {
+        }) => 0,
+        Err(fault) => {
             let refusal = fault.refusal;
             answer::number(refusal)
         }
@@ -405,8 +400,8 @@ pub fn number_written(answer: WriteAnswer) -> u8
     ensures { result ≡ number_of_written answer }
 {
     match answer {
-        WriteAnswer::Written { bits: _, bytes: _ } => 0,
-        WriteAnswer::Refused(fault) => {
+        Ok(Written { bits: _, bytes: _ }) => 0,
+        Err(fault) => {
             let refusal = fault.refusal;
             answer::number(refusal)
         }

@@ -4,7 +4,6 @@ ghost use Rattle.bits.specs.Bits.{to_bits, leaves};
 ghost use Rattle.rows.specs.Rows.{cells_in, cells_of};
 ghost use Rattle.rows.specs.Puts.{writing};
 ghost use Rattle.answer.specs.Place.{fault_at};
-ghost use Rattle.sheet.specs.declared.row.Ran.TheVariants.{Stopped};
 ghost use Rattle.sheet.specs.Walked.{line_in, one_cell, Walked};
 
 use answer::{Fault, Place, Refusal};
@@ -16,10 +15,13 @@ const ONE_BIT: u64 = 0x1_000001_01;
 
 // What a row came to: the place after it and its last code, or its first fault.
 #[derive(Clone, Copy)]
-pub enum Ran {
-    To { pos: usize, at: usize, last: u64 },
-    Stopped(Fault),
+pub struct Reached {
+    pub pos: usize,
+    pub at: usize,
+    pub last: u64,
 }
+
+pub type Ran = Result<Reached, Fault>;
 
 // The bits and the codes of a cell. A number that no field has, which no row holds, counts one bit, so that every cell takes some.
 fn line_in(cell: u64) -> u64
@@ -34,11 +36,11 @@ fn line_in(cell: u64) -> u64
 
 // A fault at the entry of a cell, which begins here.
 fn stopped_at(cell: u64, why: Refusal, here: usize) -> Ran
-    ensures { result ≡ Stopped (fault_at why cell here) }
+    ensures { result ≡ Err (fault_at why cell here) }
 {
-    Ran::Stopped(Fault {
+    Err(Fault {
         refusal: why,
-        place: Place::At { sf: cell, at: here },
+        place: Some(Place { sf: cell, at: here }),
     })
 }
 
@@ -86,7 +88,7 @@ fn write_cells(sheet: &[u64], out: &mut [u8], word: u64, pos: usize, at: usize, 
         last = code;
         word = word / 256;
     }
-    Ran::To { pos, at, last }
+    Ok(Reached { pos, at, last })
 }
 
 fn write_groups(sheet: &[u64], out: &mut [u8], row: Row, pos: usize, at: usize) -> Ran
@@ -100,14 +102,14 @@ fn write_groups(sheet: &[u64], out: &mut [u8], row: Row, pos: usize, at: usize) 
     let mut last: u64 = 0;
     loop {
         match write_cells(sheet, out, group, pos, at, last) {
-            Ran::Stopped(why) => {
-                return Ran::Stopped(why);
+            Err(why) => {
+                return Err(why);
             }
-            Ran::To {
+            Ok(Reached {
                 pos: p,
                 at: a,
                 last: l,
-            } => {
+            }) => {
                 if more == 0 {
                     return write_cells(sheet, out, tail, p, a, l);
                 }

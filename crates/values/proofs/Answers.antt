@@ -20,10 +20,10 @@ use Rattle.values.specs.declared.Value.TheVariants.{Metres, Degrees, Tecu, Coeff
 use Rattle.fields.specs.declared.Numbers.{Numbers}
 use Rattle.values.specs.declared.Residual.{Residual}
 use Rattle.values.specs.declared.Yaw.{Yaw}
-use Rattle.values.specs.declared.ResidualAnswer.{ResidualAnswer}
-use Rattle.values.specs.declared.YawAnswer.{YawAnswer}
-use Rattle.values.specs.declared.CountAnswer.{CountAnswer}
-use Rattle.values.specs.declared.OrbitAnswer.{OrbitAnswer}
+use Rattle.values.specs.Results.{ResidualAnswer}
+use Rattle.values.specs.Results.{YawAnswer}
+use Rattle.values.specs.Results.{CountAnswer}
+use Rattle.values.specs.Results.{OrbitAnswer}
 use Rattle.values.specs.contracts.Value.{the_type}
 use types.Run.{OneOf, miss}
 use denote.Enum.Declared.{tag_of}

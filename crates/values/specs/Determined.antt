@@ -2,11 +2,11 @@
 -- Written by tests/determined from the contracts in src/.
 use Rattle.std.specs.Prelude.{ℕ, ◌≡◌}
 use Rattle.values.specs.Values.{count_of, number_of_count, number_of_orbit, number_of_residual, number_of_value, number_of_yaw, orbit_of, residual_of, value_of, yaw_of}
-use Rattle.values.specs.declared.CountAnswer.{CountAnswer}
-use Rattle.values.specs.declared.OrbitAnswer.{OrbitAnswer}
-use Rattle.values.specs.declared.ResidualAnswer.{ResidualAnswer}
+use Rattle.values.specs.Results.{CountAnswer}
+use Rattle.values.specs.Results.{OrbitAnswer}
+use Rattle.values.specs.Results.{ResidualAnswer}
 use Rattle.values.specs.declared.Value.{Value}
-use Rattle.values.specs.declared.YawAnswer.{YawAnswer}
+use Rattle.values.specs.Results.{YawAnswer}
 use Rattle.std.proofs.Common.{◌∙◌, sym}
 
 pub value-of-determined : (sf code : ℕ) (r₁ r₂ : Value)

@@ -1,3 +1,4 @@
+pub mod Results
 pub mod Values
 pub mod Columns
 pub mod Laws

@@ -9,10 +9,10 @@ use Rattle.fields.specs.Fields.{Meaning, metres, degrees, tecu, coefficient, cou
 use Rattle.answer.specs.declared.Refusal.TheVariants.{Field}
 use Rattle.values.specs.declared.Residual.TheVariants as Residual
 use Rattle.values.specs.declared.Yaw.TheVariants as Yaw
-use Rattle.values.specs.declared.ResidualAnswer.{ResidualAnswer}
-use Rattle.values.specs.declared.YawAnswer.{YawAnswer}
-use Rattle.values.specs.declared.CountAnswer.{CountAnswer}
-use Rattle.values.specs.declared.OrbitAnswer.{OrbitAnswer}
+use Rattle.values.specs.Results.{ResidualAnswer}
+use Rattle.values.specs.Results.{YawAnswer}
+use Rattle.values.specs.Results.{CountAnswer}
+use Rattle.values.specs.Results.{OrbitAnswer}
 use Rattle.values.specs.declared.Value.{Value}
 use Rattle.values.specs.declared.Value.TheVariants.{Metres, Degrees, Tecu, Coefficient, Count, OfResidual, OfYaw, Refused}
 

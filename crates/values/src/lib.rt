@@ -46,29 +46,13 @@ pub struct Orbit {
 }
 
 // What a call below answers: the value, or the refusal.
-#[derive(Clone, Copy)]
-pub enum OrbitAnswer {
-    Is(Orbit),
-    Refused(Refusal),
-}
+pub type OrbitAnswer = Result<Orbit, Refusal>;
 
-#[derive(Clone, Copy)]
-pub enum ResidualAnswer {
-    Is(Residual),
-    Refused(Refusal),
-}
+pub type ResidualAnswer = Result<Residual, Refusal>;
 
-#[derive(Clone, Copy)]
-pub enum YawAnswer {
-    Is(Yaw),
-    Refused(Refusal),
-}
+pub type YawAnswer = Result<Yaw, Refusal>;
 
-#[derive(Clone, Copy)]
-pub enum CountAnswer {
-    Is(u64),
-    Refused(Refusal),
-}
+pub type CountAnswer = Result<u64, Refusal>;
 
 // n / per_unit, rounded once.
 fn quotient_of(n: u32, per_unit: u16) -> f64
@@ -190,8 +174,8 @@ pub fn residual_of(sf: u16, code: u64) -> ResidualAnswer
     ensures { result ≡ residual_of sf code }
 {
     match value_of(sf, code) {
-        Value::OfResidual(r) => ResidualAnswer::Is(r),
-        _ => ResidualAnswer::Refused(Refusal::Field),
+        Value::OfResidual(r) => Ok(r),
+        _ => Err(Refusal::Field),
     }
 }
 
@@ -200,8 +184,8 @@ pub fn yaw_of(code: u64) -> YawAnswer
     ensures { result ≡ yaw_of code }
 {
     match value_of(21, code) {
-        Value::OfYaw(y) => YawAnswer::Is(y),
-        _ => YawAnswer::Refused(Refusal::Field),
+        Value::OfYaw(y) => Ok(y),
+        _ => Err(Refusal::Field),
     }
 }
 
@@ -210,8 +194,8 @@ pub fn count_of(sf: u16, code: u64) -> CountAnswer
     ensures { result ≡ count_of sf code }
 {
     match value_of(sf, code) {
-        Value::Count(n) => CountAnswer::Is(n),
-        _ => CountAnswer::Refused(Refusal::Field),
+        Value::Count(n) => Ok(n),
+        _ => Err(Refusal::Field),
     }
 }
 
@@ -221,7 +205,7 @@ pub fn orbit_of(radial: u64, along_track: u64, cross_track: u64) -> OrbitAnswer
 {
     match value_of(20, radial) {
         Value::Metres(x) => along_and_cross(x, along_track, cross_track),
-        _ => OrbitAnswer::Refused(Refusal::Field),
+        _ => Err(Refusal::Field),
     }
 }
 
@@ -231,7 +215,7 @@ fn along_and_cross(radial: f64, along_track: u64, cross_track: u64) -> OrbitAnsw
 {
     match value_of(20, along_track) {
         Value::Metres(x) => cross(radial, x, cross_track),
-        _ => OrbitAnswer::Refused(Refusal::Field),
+        _ => Err(Refusal::Field),
     }
 }
 
@@ -240,12 +224,12 @@ fn cross(radial: f64, along_track: f64, cross_track: u64) -> OrbitAnswer
     ensures { result ≡ orbit_with radial along_track cross_track }
 {
     match value_of(20, cross_track) {
-        Value::Metres(x) => OrbitAnswer::Is(Orbit {
+        Value::Metres(x) => Ok(Orbit {
             radial,
             along_track,
             cross_track: x,
         }),
-        _ => OrbitAnswer::Refused(Refusal::Field),
+        _ => Err(Refusal::Field),
     }
 }
 
@@ -263,8 +247,8 @@ pub fn number_of_residual(answer: ResidualAnswer) -> u8
     ensures { result ≡ number_of_residual answer }
 {
     match answer {
-        ResidualAnswer::Is(_) => 0,
-        ResidualAnswer::Refused(refusal) => answer::number(refusal),
+        Ok(_) => 0,
+        Err(refusal) => answer::number(refusal),
     }
 }
 
@@ -272,8 +256,8 @@ pub fn number_of_yaw(answer: YawAnswer) -> u8
     ensures { result ≡ number_of_yaw answer }
 {
     match answer {
-        YawAnswer::Is(_) => 0,
-        YawAnswer::Refused(refusal) => answer::number(refusal),
+        Ok(_) => 0,
+        Err(refusal) => answer::number(refusal),
     }
 }
 
@@ -281,8 +265,8 @@ pub fn number_of_count(answer: CountAnswer) -> u8
     ensures { result ≡ number_of_count answer }
 {
     match answer {
-        CountAnswer::Is(_) => 0,
-        CountAnswer::Refused(refusal) => answer::number(refusal),
+        Ok(_) => 0,
+        Err(refusal) => answer::number(refusal),
     }
 }
 
@@ -290,7 +274,7 @@ pub fn number_of_orbit(answer: OrbitAnswer) -> u8
     ensures { result ≡ number_of_orbit answer }
 {
     match answer {
-        OrbitAnswer::Is(_) => 0,
-        OrbitAnswer::Refused(refusal) => answer::number(refusal),
+        Ok(_) => 0,
+        Err(refusal) => answer::number(refusal),
     }
 }

@@ -116,8 +116,8 @@ fn put_sealing(rt: &HostRuntime, out: &mut [u8], at: usize, sealing: Sealing) ->
 
 fn put_seal(rt: &HostRuntime, out: &mut [u8], at: usize, seal: Seal) -> usize {
     match seal {
-        Seal::Plain => say(rt, out, at, b"TF004 0 should be 1\n"),
-        Seal::Sealed(sealing) => {
+        None => say(rt, out, at, b"TF004 0 should be 1\n"),
+        Some(sealing) => {
             let next = say(rt, out, at, b"TF004 1 should be 1\n");
             put_sealing(rt, out, next, sealing)
         }

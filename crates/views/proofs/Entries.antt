@@ -1,4 +1,5 @@
 -- One lemma for each answer of the functions of units.rt, over plain variables, worded as the code makes its tests.
+use Rattle.std.specs.Prelude.{Ok, Err}
 use mathlib.Core.Path.{◌≡◌, ap, sym, ◌∙◌}
 use Prim.Native.Nat.{ℕ}
 use lib.IntN.{pos}
@@ -8,12 +9,10 @@ use Rattle.values.specs.Values.{value_of, count_of, yaw_of}
 use Rattle.values.specs.declared.Value.{Value}
 use Rattle.values.specs.declared.Value.TheVariants.{Metres, Degrees, Tecu, Coefficient, Count, OfResidual, OfYaw, Refused}
 use Rattle.values.specs.declared.Residual.{Residual}
-use Rattle.values.specs.declared.CountAnswer.{CountAnswer}
-use Rattle.values.specs.declared.CountAnswer.TheVariants as count
+use Rattle.values.specs.Results.{CountAnswer}
 use Rattle.values.specs.declared.Yaw.{Yaw}
 use Rattle.values.specs.declared.Yaw.TheVariants as yaw
-use Rattle.values.specs.declared.YawAnswer.{YawAnswer}
-use Rattle.values.specs.declared.YawAnswer.TheVariants as yaw_answer
+use Rattle.values.specs.Results.{YawAnswer}
 use Rattle.views.specs.Units.{float_of, in_unit, number_in, count_in, yaw_said, yaw_in}
 
 module _ (sf code : ℕ) {v : Value} (e : v ≡ value_of sf code) where
@@ -47,19 +46,19 @@ module _ (sf code : ℕ) {v : Value} (e : v ≡ value_of sf code) where
     unit-refused why q = h ∙ unit-is (Refused why) q
 
 module _ (sf code : ℕ) {a : CountAnswer} (e : a ≡ count_of sf code) where
-  pub count-is : (n : ℕ) → a ≡ count.Is n → n ≡ count_in sf code
+  pub count-is : (n : ℕ) → a ≡ Ok n → n ≡ count_in sf code
   unfolding count_in
   count-is n q = ap number_in (sym q ∙ e)
 
-  pub count-refused : (why : Refusal) → a ≡ count.Refused why → 0 ≡ count_in sf code
+  pub count-refused : (why : Refusal) → a ≡ Err why → 0 ≡ count_in sf code
   unfolding count_in
   count-refused why q = ap number_in (sym q ∙ e)
 
 module _ (code : ℕ) {a : YawAnswer} (e : a ≡ yaw_of code) where
-  pub yaw-is : (y : Yaw) → a ≡ yaw_answer.Is y → y ≡ yaw_in code
+  pub yaw-is : (y : Yaw) → a ≡ Ok y → y ≡ yaw_in code
   unfolding yaw_in
   yaw-is y q = ap yaw_said (sym q ∙ e)
 
-  pub yaw-refused : (why : Refusal) → a ≡ yaw_answer.Refused why → yaw.Invalid ≡ yaw_in code
+  pub yaw-refused : (why : Refusal) → a ≡ Err why → yaw.Invalid ≡ yaw_in code
   unfolding yaw_in
   yaw-refused why q = ap yaw_said (sym q ∙ e)

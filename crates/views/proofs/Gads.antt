@@ -1,4 +1,5 @@
 -- The answers of gadarea.rt: what the machine finds is the first block with the ID, and each answer of the code, worded as the code makes its tests.
+use Rattle.std.specs.Prelude.{Ok, Err, Some, None}
 use mathlib.Core.Path.{◌≡◌, refl, ap, sym, ◌∙◌}
 use mathlib.Core.List.{List}
 use Prim.Native.Nat.{ℕ}
@@ -11,10 +12,8 @@ use Rattle.layout.specs.Walks.{Walks}
 use Rattle.message.specs.declared.State.{State}
 use Rattle.message.specs.Machine.{field_of, step_of}
 use Rattle.message.specs.Messages.{gad_message, gad_layout}
-use Rattle.views.specs.declared.gadarea.GadAnswer.{GadAnswer}
-use Rattle.views.specs.declared.gadarea.GadAnswer.TheVariants.{Is, Absent, Refused}
-use Rattle.views.specs.declared.places.Opened.{Opened}
-use Rattle.views.specs.declared.places.Opened.TheVariants as opening
+use Rattle.views.specs.Results.{GadAnswer}
+use Rattle.views.specs.Results.{Opened}
 use Rattle.views.specs.declared.places.Place.{Place}
 use Rattle.views.specs.Along.{headed, goes-finds, finds-first}
 use Rattle.views.specs.AlongGad.{gad_seen, gad_found, over-block, over-head}
@@ -26,11 +25,11 @@ gad-finds : (id : ℕ) (sheet : List ℕ) (s : State) → Walks field_of step_of
     → gad_found sheet (found 31 id sheet (record { state = s; at = 0 })) ≡ first_gad id (gad_blocks sheet)
 unfolding sf
 gad-finds id sheet s w h =
-    let shown : (at : ℕ) (code : (sf before : ℕ) → ℕ) → GadAnswer = λ at code. Is (gad_seen code) in
+    let shown : (at : ℕ) (code : (sf before : ℕ) → ℕ) → GadAnswer = λ at code. Ok (Some (gad_seen code)) in
     let said : gad.Gad → GadAnswer = λ b. first_gad id b.blocks in
-    over-head (goes-finds sheet 31 id Absent shown said) (λ b. done (gad_message b)) (λ b. done b) (λ n body e.
-    finds-first sheet 31 id Absent shown said gad.block gad.block (λ (b : gad.Block). b.id) (λ b. 7) (λ at b. Is (gad_area b))
-    (λ Q g k k' at f rest. over-block g k k' at f (λ x to i e v met. rest x to i e (ap Is v)))
+    over-head (goes-finds sheet 31 id (Ok None) shown said) (λ b. done (gad_message b)) (λ b. done b) (λ n body e.
+    finds-first sheet 31 id (Ok None) shown said gad.block gad.block (λ (b : gad.Block). b.id) (λ b. 7) (λ at b. Ok (Some (gad_area b)))
+    (λ Q g k k' at f rest. over-block g k k' at f (λ x to i e v met. rest x to i e (ap Ok (Some v))))
     (λ k. headed refl)
     n (λ bs. gad_message (body bs)) body 4 (λ bs. ap (first_gad id) (e bs))) s w h
 
@@ -38,13 +37,13 @@ module _ (id : ℕ) (sheet : List ℕ) where
   abbrev look : Place → GadAnswer
   look p = gad_found sheet (found 31 id sheet p)
 
-  gad-answers : opened_as Refused look (opened 2 0 sheet) ≡ gad_answer_of id sheet
+  gad-answers : opened_as Err look (opened 2 0 sheet) ≡ gad_answer_of id sheet
   unfolding gad_answer_of
-  gad-answers = opens 2 0 sheet Refused look (first_gad id (gad_blocks sheet)) (gad-finds id sheet)
+  gad-answers = opens 2 0 sheet Err look (first_gad id (gad_blocks sheet)) (gad-finds id sheet)
 
   module _ (o : Opened) (e : o ≡ opened 2 0 sheet) where
-    pub gad-refused : (why : Fault) → o ≡ opening.Refused why → Refused why ≡ gad_answer_of id sheet
-    gad-refused why q = ap (opened_as Refused look) (sym q ∙ e) ∙ gad-answers
+    pub gad-refused : (why : Fault) → o ≡ Err why → Err why ≡ gad_answer_of id sheet
+    gad-refused why q = ap (opened_as Err look) (sym q ∙ e) ∙ gad-answers
 
-    pub gad-said : (p : Place) → o ≡ opening.At p → (wide : ℕ) (r : GadAnswer) → wide ≡ id → r ≡ gad_found sheet (found 31 wide sheet p) → r ≡ gad_answer_of id sheet
-    gad-said p q wide r i h = h ∙ ap (λ x. gad_found sheet (found 31 x sheet p)) i ∙ ap (opened_as Refused look) (sym q ∙ e) ∙ gad-answers
+    pub gad-said : (p : Place) → o ≡ Ok p → (wide : ℕ) (r : GadAnswer) → wide ≡ id → r ≡ gad_found sheet (found 31 wide sheet p) → r ≡ gad_answer_of id sheet
+    gad-said p q wide r i h = h ∙ ap (λ x. gad_found sheet (found 31 x sheet p)) i ∙ ap (opened_as Err look) (sym q ∙ e) ∙ gad-answers

@@ -1,4 +1,5 @@
 -- The answers of hpacarea.rt: what the machine finds is the first block with the ID, and each answer of the code, worded as the code makes its tests.
+use Rattle.std.specs.Prelude.{Ok, Err, Some, None}
 use mathlib.Core.Path.{◌≡◌, refl, ap, sym, ◌∙◌}
 use mathlib.Core.List.{List}
 use Prim.Native.Nat.{ℕ}
@@ -15,10 +16,8 @@ use Rattle.layout.specs.Walks.{Walks}
 use Rattle.message.specs.declared.State.{State}
 use Rattle.message.specs.Machine.{field_of, step_of}
 use Rattle.message.specs.Messages.{hpac_message, hpac_layout, by_constellation, constellation_of}
-use Rattle.views.specs.declared.hpacarea.HpacAnswer.{HpacAnswer}
-use Rattle.views.specs.declared.hpacarea.HpacAnswer.TheVariants.{Is, Absent, Refused}
-use Rattle.views.specs.declared.places.Opened.{Opened}
-use Rattle.views.specs.declared.places.Opened.TheVariants as opening
+use Rattle.views.specs.Results.{HpacAnswer}
+use Rattle.views.specs.Results.{Opened}
 use Rattle.views.specs.declared.places.Place.{Place}
 use Rattle.views.specs.Along.{headed, goes-finds, finds-first}
 use Rattle.views.specs.AlongHpac.{hpac_seen, hpac_found, over-area, over-head}
@@ -31,11 +30,11 @@ hpac-finds : (c : Constellation) (id : ℕ) (sheet : List ℕ) (s : State) → W
     → hpac_found sheet (found 31 id sheet (record { state = s; at = 0 })) ≡ first_hpac id (hpac_areas c sheet)
 unfolding sf
 hpac-finds c id sheet s w h =
-    let shown : (at : ℕ) (code : (sf before : ℕ) → ℕ) → HpacAnswer = λ at code. Is (hpac_seen at code) in
+    let shown : (at : ℕ) (code : (sf before : ℕ) → ℕ) → HpacAnswer = λ at code. Ok (Some (hpac_seen at code)) in
     let said : hpac.Hpac → HpacAnswer = λ b. first_hpac id b.areas in
-    over-head (goes-finds sheet 31 id Absent shown said) c (λ b. done ((hpac_message c) b)) (λ b. done b) (λ n body e.
-    finds-first sheet 31 id Absent shown said (hpac.area c) (hpac.area c) (λ (b : hpac.Area). b.id) hpac_entries (λ at b. Is (hpac_area at b))
-    (λ Q g k k' at f rest. over-area g c k k' at f (λ x to i e v. rest x to i e (ap Is v)))
+    over-head (goes-finds sheet 31 id (Ok None) shown said) c (λ b. done ((hpac_message c) b)) (λ b. done b) (λ n body e.
+    finds-first sheet 31 id (Ok None) shown said (hpac.area c) (hpac.area c) (λ (b : hpac.Area). b.id) hpac_entries (λ at b. Ok (Some (hpac_area at b)))
+    (λ Q g k k' at f rest. over-area g c k k' at f (λ x to i e v. rest x to i e (ap Ok (Some v))))
     (λ k. headed refl)
     n (λ bs. (hpac_message c) (body bs)) body 4 (λ bs. ap (first_hpac id) (e bs))) s w h
 
@@ -43,20 +42,20 @@ module _ (subtype id : ℕ) (sheet : List ℕ) where
   abbrev look : Place → HpacAnswer
   look p = hpac_found sheet (found 31 id sheet p)
 
-  hpac-answers : opened_as Refused look (opened 1 subtype sheet) ≡ hpac_answer_of subtype id sheet
+  hpac-answers : opened_as Err look (opened 1 subtype sheet) ≡ hpac_answer_of subtype id sheet
   unfolding hpac_answer_of
-  hpac-answers = opens 1 subtype sheet Refused look (of (constellation_of subtype)) (go (constellation_of subtype))
+  hpac-answers = opens 1 subtype sheet Err look (of (constellation_of subtype)) (go (constellation_of subtype))
     where
       of : Part Constellation → HpacAnswer
-      of p = for_constellation p (Refused (nowhere refusal.UnknownType)) (λ c. first_hpac id (hpac_areas c sheet))
+      of p = for_constellation p (Err (nowhere refusal.UnknownType)) (λ c. first_hpac id (hpac_areas c sheet))
 
-      go : (p : Part Constellation) → Looks 1 subtype sheet Refused look (of p) (by_constellation hpac_layout p)
+      go : (p : Part Constellation) → Looks 1 subtype sheet Err look (of p) (by_constellation hpac_layout p)
       go absent = refl
       go (present c) = hpac-finds c id sheet
 
   module _ (o : Opened) (e : o ≡ opened 1 subtype sheet) where
-    pub hpac-refused : (why : Fault) → o ≡ opening.Refused why → Refused why ≡ hpac_answer_of subtype id sheet
-    hpac-refused why q = ap (opened_as Refused look) (sym q ∙ e) ∙ hpac-answers
+    pub hpac-refused : (why : Fault) → o ≡ Err why → Err why ≡ hpac_answer_of subtype id sheet
+    hpac-refused why q = ap (opened_as Err look) (sym q ∙ e) ∙ hpac-answers
 
-    pub hpac-said : (p : Place) → o ≡ opening.At p → (wide : ℕ) (r : HpacAnswer) → wide ≡ id → r ≡ hpac_found sheet (found 31 wide sheet p) → r ≡ hpac_answer_of subtype id sheet
-    hpac-said p q wide r i h = h ∙ ap (λ x. hpac_found sheet (found 31 x sheet p)) i ∙ ap (opened_as Refused look) (sym q ∙ e) ∙ hpac-answers
+    pub hpac-said : (p : Place) → o ≡ Ok p → (wide : ℕ) (r : HpacAnswer) → wide ≡ id → r ≡ hpac_found sheet (found 31 wide sheet p) → r ≡ hpac_answer_of subtype id sheet
+    hpac-said p q wide r i h = h ∙ ap (λ x. hpac_found sheet (found 31 x sheet p)) i ∙ ap (opened_as Err look) (sym q ∙ e) ∙ hpac-answers

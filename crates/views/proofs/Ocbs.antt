@@ -1,4 +1,5 @@
 -- What the functions of satellites.rt find at the places of an OCB sheet: one lemma for each answer and each turn, worded as the code makes its tests.
+use Rattle.std.specs.Prelude.{Ok, Err, Some, None}
 use mathlib.Core.Path.{◌≡◌, refl, ap, ap₂, sym, ◌∙◌, subst}
 use mathlib.Core.Bool.{true, false}
 use mathlib.Core.List.{List, [], ◌∷◌}
@@ -24,16 +25,12 @@ use Rattle.values.specs.declared.Yaw.TheVariants as yaws
 use Rattle.views.specs.Units.{in_unit, yaw_in}
 use Rattle.views.specs.Satellites.{orbit_view, yaw_view, clock_view, bias_places, bias_view, satellite_view, nth_from, nth}
 use Rattle.views.specs.SatellitePlaces.{orbit_of, clock_start, clock_of, bias_start, bias_at, bias_of, phases_at, code_mask_at, codes_at, state_at, satellite_from, satellite_end, numbers_in, body_of, phase_at, reaches-satellite, reaches-satellites, satellites-in, Listed, Seats}
-use Rattle.views.specs.declared.satellites.OrbitBlock.{OrbitBlock}
-use Rattle.views.specs.declared.satellites.ClockBlock.{ClockBlock}
-use Rattle.views.specs.declared.satellites.BiasBlock.{BiasBlock}
-use Rattle.views.specs.declared.satellites.OrbitBlock.TheVariants as orbit_block
-use Rattle.views.specs.declared.satellites.ClockBlock.TheVariants as clock_block
-use Rattle.views.specs.declared.satellites.BiasBlock.TheVariants as bias_block
+use Rattle.views.specs.Results.{OrbitBlock}
+use Rattle.views.specs.Results.{ClockBlock}
+use Rattle.views.specs.Results.{BiasBlock}
 use Rattle.views.specs.declared.satellites.Biases.{Biases}
 use Rattle.views.specs.declared.satellites.Satellite.{Satellite}
 use Rattle.views.specs.declared.satellites.Satellite.TheVariants.{OutOfUse, InUse}
-use Rattle.views.specs.declared.satellites.SatelliteAnswer.TheVariants as answer
 
 -- ---- the blocks, by SF014
 
@@ -73,16 +70,16 @@ module _ (sheet : List ℕ) (yaw at p : ℕ) (c : p ≡ get_or sheet (at + 1) 0)
     bias-straight f = rw (clock-not f) (omega arith)
 
     pub clock-is : p / 2 % 2 ≡ 1 → (x y z : ℕ) (v : Float) → x ≡ get_or sheet (start + 1) 0 → v ≡ in_unit 20 x → y ≡ get_or sheet start 0 → z ≡ get_or sheet (start + 2) 0
-        → clock_block.Present y v z ≡ clock_view (clock_of sheet yaw at)
+        → Some (y, v, z) ≡ clock_view (clock_of sheet yaw at)
     clock-is f x y z v ex ev ey ez =
-        rw (clock-there f) (ap₂ (λ (a : ℕ) (b : Float). clock_block.Present a b z) ey (ev ∙ ap (in_unit 20) ex)
-        ∙ ap (λ a. clock_block.Present (get_or sheet start 0) (in_unit 20 (get_or sheet (start + 1) 0)) a) ez
-        ∙ ap (λ (a : ℕ). clock_block.Present (get_or sheet a 0) (in_unit 20 (get_or sheet (a + 1) 0)) (get_or sheet (a + 2) 0)) s)
+        rw (clock-there f) (ap₂ (λ (a : ℕ) (b : Float). Some (a, b, z)) ey (ev ∙ ap (in_unit 20) ex)
+        ∙ ap (λ a. Some (get_or sheet start 0, in_unit 20 (get_or sheet (start + 1) 0), a)) ez
+        ∙ ap (λ (a : ℕ). Some (get_or sheet a 0, in_unit 20 (get_or sheet (a + 1) 0), get_or sheet (a + 2) 0)) s)
 
-    pub clock-none : (p / 2 % 2 ≡ 1 → ⊥) → clock_block.Absent ≡ clock_view (clock_of sheet yaw at)
+    pub clock-none : (p / 2 % 2 ≡ 1 → ⊥) → None ≡ clock_view (clock_of sheet yaw at)
     clock-none f = rw (clock-not f)
 
-  pub orbit-none : (p / 4 % 2 ≡ 1 → ⊥) → orbit_block.Absent ≡ orbit_view (orbit_of sheet yaw at)
+  pub orbit-none : (p / 4 % 2 ≡ 1 → ⊥) → None ≡ orbit_view (orbit_of sheet yaw at)
   orbit-none f = rw (orbit-not f)
 
   pub yaw-none : (p / 4 % 2 ≡ 1 → ⊥) → yaws.Absent ≡ yaw_view (orbit_of sheet yaw at)
@@ -98,7 +95,7 @@ module _ (sheet : List ℕ) (yaw at p : ℕ) (c : p ≡ get_or sheet (at + 1) 0)
 
   pub orbit-is : p / 4 % 2 ≡ 1 → (i x y z : ℕ) (u v w : Float) → i ≡ get_or sheet (at + 3) 0
       → x ≡ get_or sheet (at + 4) 0 → u ≡ in_unit 20 x → y ≡ get_or sheet (at + 5) 0 → v ≡ in_unit 20 y → z ≡ get_or sheet (at + 6) 0 → w ≡ in_unit 20 z
-      → orbit_block.Present i (record { radial = u; along_track = v; cross_track = w }) ≡ orbit_view (orbit_of sheet yaw at)
+      → Some (i, record { radial = u; along_track = v; cross_track = w }) ≡ orbit_view (orbit_of sheet yaw at)
   orbit-is f i x y z u v w ei ex eu ey ev ez ew =
       let a4 : at + 4 ≡ at + 3 + 1 = omega arith in
       let a5 : at + 5 ≡ at + 3 + 2 = omega arith in
@@ -110,10 +107,10 @@ module _ (sheet : List ℕ) (yaw at p : ℕ) (c : p ≡ get_or sheet (at + 1) 0)
 
   module _ (start : ℕ) (s : start ≡ bias_start sheet yaw at) where
     pub bias-is : p % 2 ≡ 1 → (b : Biases) → b ≡ bias_places start (bias_at sheet start)
-        → bias_block.Present b ≡ bias_view (bias_start sheet yaw at) (bias_of sheet yaw at)
-    bias-is f b e = rw (bias-there f) (ap bias_block.Present (e ∙ ap (λ x. bias_places x (bias_at sheet x)) s))
+        → Some b ≡ bias_view (bias_start sheet yaw at) (bias_of sheet yaw at)
+    bias-is f b e = rw (bias-there f) (ap Some (e ∙ ap (λ x. bias_places x (bias_at sheet x)) s))
 
-    pub bias-none : (p % 2 ≡ 1 → ⊥) → bias_block.Absent ≡ bias_view (bias_start sheet yaw at) (bias_of sheet yaw at)
+    pub bias-none : (p % 2 ≡ 1 → ⊥) → None ≡ bias_view (bias_start sheet yaw at) (bias_of sheet yaw at)
     bias-none f = rw (bias-not f)
 
     module _ (x : ℕ) (q : x ≡ get_or sheet at 0) (used : x ≡ 1 → ⊥) where
@@ -209,7 +206,7 @@ module _ (sheet : List ℕ) (yaw place left at : ℕ) (p : Passing sheet yaw pla
 
 module _ (sheet : List ℕ) (yaw : ℕ) where
   nth_past : (ms : List ℕ) (at place : ℕ) → length ms ≤ place
-      → nth_from at (many_of (satellite_from sheet yaw) (satellite_end sheet yaw) ms at) place ≡ answer.Refused (nowhere refusal.Field)
+      → nth_from at (many_of (satellite_from sheet yaw) (satellite_end sheet yaw) ms at) place ≡ Err (nowhere refusal.Field)
   unfolding nth_from
   nth_past [] at place h = refl
   nth_past (m ∷ ms) at zero h = absurd (omega arith)
@@ -217,7 +214,7 @@ module _ (sheet : List ℕ) (yaw : ℕ) where
 
   nth-there : (ms : List ℕ) (at place : ℕ) → place < length ms
       → nth_from at (many_of (satellite_from sheet yaw) (satellite_end sheet yaw) ms at) place
-      ≡ answer.Is (get_or ms place 0) (satellite_view (many_end (satellite_end sheet yaw) place at) (state_at sheet yaw (many_end (satellite_end sheet yaw) place at)))
+      ≡ Ok (get_or ms place 0, satellite_view (many_end (satellite_end sheet yaw) place at) (state_at sheet yaw (many_end (satellite_end sheet yaw) place at)))
   unfolding nth_from
   nth-there [] at place h = absurd (omega arith)
   nth-there (m ∷ ms) at zero h = refl
@@ -231,7 +228,7 @@ module _ (c : Constellation) (sheet : List ℕ) (place size mask count : ℕ) (e
   count-are : count ≡ length (numbers_in sheet c)
   count-are = ec ∙ ap length numbers-are
 
-  pub nth-field : count ≤ place → answer.Refused (nowhere refusal.Field) ≡ nth c sheet place
+  pub nth-field : count ≤ place → Err (nowhere refusal.Field) ≡ nth c sheet place
   nth-field h =
       let n : count ≡ length (numbers_in sheet c) = count-are in
       sym (ap (λ ss. nth_from 8 ss place) (satellites-in c sheet) ∙ nth_past sheet (get_or sheet 3 0) (numbers_in sheet c) 8 place (omega arith))
@@ -243,7 +240,7 @@ module _ (c : Constellation) (sheet : List ℕ) (place size mask count : ℕ) (e
         record { constellation = c; listed = h; flag = ey; inside = omega arith }
 
     pub nth-is : (number at : ℕ) (s : Satellite) → number ≡ satellite_at (satellites_of c size mask) (count - 1 - place)
-        → at ≡ many_end (satellite_end sheet yaw) place 8 → s ≡ satellite_view at (state_at sheet yaw at) → answer.Is number s ≡ nth c sheet place
+        → at ≡ many_end (satellite_end sheet yaw) place 8 → s ≡ satellite_view at (state_at sheet yaw at) → Ok (number, s) ≡ nth c sheet place
     nth-is number at s en ea ev =
         let n : count ≡ length (numbers_in sheet c) = count-are in
         let ms : List ℕ = numbers_in sheet c in
@@ -254,4 +251,4 @@ module _ (c : Constellation) (sheet : List ℕ) (place size mask count : ℕ) (e
         let sat : s ≡ satellite_view (many_end (satellite_end sheet (get_or sheet 3 0)) place 8) (state_at sheet (get_or sheet 3 0) (many_end (satellite_end sheet (get_or sheet 3 0)) place 8))
         = ev ∙ ap (λ x. satellite_view x (state_at sheet yaw x)) ea
         ∙ ap (λ y. satellite_view (many_end (satellite_end sheet y) place 8) (state_at sheet y (many_end (satellite_end sheet y) place 8))) ey in
-        ap₂ answer.Is num sat ∙ sym (ap (λ ss. nth_from 8 ss place) (satellites-in c sheet) ∙ nth-there sheet (get_or sheet 3 0) ms 8 place (omega arith))
+        ap₂ Ok (num, sat) ∙ sym (ap (λ ss. nth_from 8 ss place) (satellites-in c sheet) ∙ nth-there sheet (get_or sheet 3 0) ms 8 place (omega arith))

@@ -1,4 +1,5 @@
 -- The turns of the loops of places.rt, worded as the code makes its tests.
+use Rattle.std.specs.Prelude.{Some, None}
 use mathlib.Core.Path.{◌≡◌, refl, ap, sym, ◌∙◌}
 use mathlib.Core.Bool.{Bool, true, false, ◌&&◌}
 use mathlib.Core.List.{List}
@@ -14,8 +15,7 @@ use Rattle.layout.specs.Tests.{one_less}
 use Rattle.message.specs.declared.State.{State}
 use Rattle.message.specs.Machine.{field_of, step_of}
 use Rattle.views.specs.declared.places.Place.{Place}
-use Rattle.views.specs.declared.places.Found.{Found}
-use Rattle.views.specs.declared.places.Found.TheVariants.{Nothing, At}
+use Rattle.views.specs.Results.{Found}
 use Rattle.views.specs.Places.{here_or, sought_in, found_in}
 
 -- ---- `seek`
@@ -70,16 +70,16 @@ pub find_first : (sheet : List ℕ) (sf code : ℕ) (s : State) (at : ℕ) → F
 find_first sheet sf code s at = record { same = refl }
 
 module _ (sheet : List ℕ) (sf code : ℕ) (goal : Found) (s : State) (at : ℕ) (p : Finding sheet sf code goal s at) where
-  pub find-end : length sheet ≤ at → Nothing ≡ goal
+  pub find-end : length sheet ≤ at → None ≡ goal
   unfolding found_in
   find-end h = ap (found_in sf code s at) (sym (drop_of_length-le sheet h)) ∙ p.same
 
   module _ (h : at < length sheet) (b : Bool) (e : b ≡ (eqb (field_of s).sf sf && eqb (get_or sheet at 0) code)) where
-    tested : (x : Bool) → b ≡ x → pick x (At (record { state = s; at = at })) (found_in sf code (step_of s (get_or sheet at 0)) (suc at) (drop (suc at) sheet)) ≡ goal
+    tested : (x : Bool) → b ≡ x → pick x (Some (record { state = s; at = at })) (found_in sf code (step_of s (get_or sheet at 0)) (suc at) (drop (suc at) sheet)) ≡ goal
     unfolding found_in
     tested x q = (rw (sym q ∙ e) (ap (found_in sf code s at) (sym (drop-cons sheet at 0 h)))) ∙ p.same
 
-    pub find-here : b ≡ true → At (record { state = s; at = at }) ≡ goal
+    pub find-here : b ≡ true → Some (record { state = s; at = at }) ≡ goal
     find-here q = tested true q
 
     pub find-on : b ≡ false → (t : State) → t ≡ step_of s (get_or sheet at 0) → Finding sheet sf code goal t (at + 1)

@@ -1,12 +1,11 @@
 -- Serves proofs, and is proved: what a machine finds along a sheet that the writer accepts is what the message's record says. A fact of two layouts that differ
 -- in what they hand on at their ends goes from what follows a part to the part; so it is shown once for each part, whatever the fact.
-use Rattle.std.specs.Prelude.{◌≡◌, Bool, true, false, ◌&&◌, List, [], ◌∷◌, length, drop, get_or}
+use Rattle.std.specs.Prelude.{◌≡◌, Bool, true, false, ◌&&◌, List, [], ◌∷◌, length, drop, get_or, Ok, Some, None}
 use Rattle.std.proofs.Math.Path.{refl, ap, sym, fun_ext}
 use Rattle.std.proofs.Common.{◌∙◌, arith, drop_of_length-le, drop-cons}
 use Prim.Native.Nat.{ℕ, zero, suc, ◌+◌, ◌<◌}
 use Rattle.std.proofs.Math.Dec.{eqb}
 use Rattle.layout.specs.declared.Field.{Field}
-use Rattle.layout.specs.declared.Verdict.TheVariants.{Taken}
 use Rattle.layout.specs.Layout.{Layout, done, field, judge, pick}
 use Rattle.layout.specs.Parts.{Part, absent, present, optional, times, each}
 use Rattle.layout.specs.Holds.{Holds}
@@ -16,8 +15,7 @@ use Rattle.layout.specs.Walks.{Walks, ends, goes}
 use Rattle.message.specs.declared.State.{State}
 use Rattle.message.specs.Machine.{field_of, step_of}
 use Rattle.views.specs.declared.places.Place.{Place}
-use Rattle.views.specs.declared.places.Found.{Found}
-use Rattle.views.specs.declared.places.Found.TheVariants as finding
+use Rattle.views.specs.Results.{Found}
 use Rattle.views.specs.Entries.{entries_of}
 use Rattle.views.specs.First.{first}
 use Rattle.views.specs.Places.{here_or, sought_in, code_at, found_in, found}
@@ -35,7 +33,7 @@ other_pick true p q = p
 other_pick false p q = q
 
 pub record Takes (f : Field) (code : ℕ) : Type 0 where
-  pub is : judge f code ≡ Taken
+  pub is : judge f code ≡ Ok tt
 
 pub data EachOf {B : Type 0} (P : B → Type 0) : List B → Type 0 where
   no_more : EachOf P []
@@ -153,9 +151,9 @@ module _ (sheet : List ℕ) (key id : ℕ) (s : State) (at : ℕ) (h : at < leng
   after = found key id sheet (record { state = step_of s (get_or sheet at 0); at = suc at })
 
   turn : (b : Bool) → (eqb (field_of s).sf key && eqb (get_or sheet at 0) id) ≡ b
-      → found key id sheet (record { state = s; at = at }) ≡ pick b (finding.At (record { state = s; at = at })) after
+      → found key id sheet (record { state = s; at = at }) ≡ pick b (Some (record { state = s; at = at })) after
   unfolding found_in
-  turn b e = ap (found_in key id s at) (drop-cons sheet at 0 h) ∙ ap (λ x. pick x (finding.At (record { state = s; at = at })) after) e
+  turn b e = ap (found_in key id s at) (drop-cons sheet at 0 h) ∙ ap (λ x. pick x (Some (record { state = s; at = at })) after) e
 
   pub find-skips : eqb (field_of s).sf key ≡ false → found key id sheet (record { state = s; at = at }) ≡ after
   find-skips e = turn false (ap (λ x. x && eqb (get_or sheet at 0) id) e)
@@ -168,12 +166,12 @@ module _ (sheet : List ℕ) (key id : ℕ) (s : State) (at : ℕ) (h : at < leng
       go false b e = refl
 
   pub find-there : eqb (field_of s).sf key ≡ true → eqb (get_or sheet at 0) id ≡ true
-      → found key id sheet (record { state = s; at = at }) ≡ finding.At (record { state = s; at = at })
+      → found key id sheet (record { state = s; at = at }) ≡ Some (record { state = s; at = at })
   find-there p q = turn true (ap (λ x. x && eqb (get_or sheet at 0) id) p ∙ q)
 
 abbrev pub answered : {C : Type 0} → C → (Place → C) → Found → C
-answered none shown finding.Nothing = none
-answered none shown (finding.At p) = shown p
+answered none shown None = none
+answered none shown (Some p) = shown p
 
 abbrev answer_of : {C : Type 0} (sheet : List ℕ) (key id : ℕ) (none : C) (shown : (at : ℕ) (code : (sf before : ℕ) → ℕ) → C) → Place → C
 answer_of sheet key id none shown p = answered none (λ q. shown q.at (code_at sheet q)) (found key id sheet p)

@@ -1,5 +1,5 @@
 -- Serves proofs, and is proved: facts of a BPAC sheet, from what follows an area to the area.
-use Rattle.std.specs.Prelude.{◌≡◌}
+use Rattle.std.specs.Prelude.{◌≡◌, Ok, Some, None}
 use Rattle.std.proofs.Math.Path.{refl}
 use Rattle.std.proofs.Common.{ap, sym, subst, arith}
 use mathlib.Core.List.{List, [], ◌∷◌}
@@ -14,9 +14,8 @@ use Rattle.layout.specs.Holds.{Holds}
 use Rattle.layout.specs.Record.{record_from, record_of}
 use Rattle.fields.specs.Fields.{table, find, line_of, sf}
 use Rattle.views.specs.declared.bpacarea.BpacArea.{BpacArea}
-use Rattle.views.specs.declared.bpacarea.BpacAnswer.{BpacAnswer}
-use Rattle.views.specs.declared.bpacarea.BpacAnswer.TheVariants.{Is, Absent}
-use Rattle.views.specs.declared.places.Found.{Found}
+use Rattle.views.specs.Results.{BpacAnswer}
+use Rattle.views.specs.Results.{Found}
 use Rattle.views.specs.Along.{apart, other_pick, EachOf, Goes, First, Over, over-times, total, Ends, goes-ends, first_ends, code_in, answered}
 use Rattle.views.specs.Bpacs.{bpac_entries, bpac_area}
 use Rattle.views.specs.Places.{code_at}
@@ -38,7 +37,7 @@ bpac_seen start code =
     }
 
 abbrev pub bpac_found : (sheet : List ℕ) → Found → BpacAnswer
-bpac_found sheet f = answered Absent (λ p. Is (bpac_seen p.at (code_at sheet p))) f
+bpac_found sheet f = answered (Ok None) (λ p. Ok (Some (bpac_seen p.at (code_at sheet p)))) f
 
 -- each number of the view is the value of its code
 pub record BpacMet (a : bpac.Area) : Type 0 where

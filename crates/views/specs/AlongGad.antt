@@ -1,5 +1,5 @@
 -- Serves proofs, and is proved: facts of a GAD sheet, from what follows a block to the block.
-use Rattle.std.specs.Prelude.{◌≡◌, List, ℕ, suc, ◌+◌}
+use Rattle.std.specs.Prelude.{◌≡◌, List, ℕ, suc, ◌+◌, Ok, Some, None}
 use Rattle.std.proofs.Math.Path.{refl}
 use Rattle.std.proofs.Common.{sym, subst, arith}
 use Rattle.std.proofs.Math.ListN.{get_or}
@@ -10,9 +10,8 @@ use Rattle.layout.specs.Holds.{Holds}
 use Rattle.layout.specs.Record.{record_from, record_of}
 use Rattle.fields.specs.Fields.{table, find, line_of, sf}
 use Rattle.views.specs.declared.gadarea.GadArea.{GadArea}
-use Rattle.views.specs.declared.gadarea.GadAnswer.{GadAnswer}
-use Rattle.views.specs.declared.gadarea.GadAnswer.TheVariants.{Is, Absent}
-use Rattle.views.specs.declared.places.Found.{Found}
+use Rattle.views.specs.Results.{GadAnswer}
+use Rattle.views.specs.Results.{Found}
 use Rattle.views.specs.Along.{apart, EachOf, Goes, First, over-times, total, Ends, goes-ends, first_ends, code_in, answered}
 use Rattle.views.specs.Gads.{gad_area}
 use Rattle.views.specs.Places.{code_at}
@@ -32,7 +31,7 @@ gad_seen code =
     }
 
 abbrev pub gad_found : (sheet : List ℕ) → Found → GadAnswer
-gad_found sheet f = answered Absent (λ p. Is (gad_seen (code_at sheet p))) f
+gad_found sheet f = answered (Ok None) (λ p. Ok (Some (gad_seen (code_at sheet p)))) f
 
 -- each number of the view is the value of its code
 pub record GadMet (b : gad.Block) : Type 0 where

@@ -1,5 +1,5 @@
 -- Serves proofs, and is proved: facts of an HPAC sheet, from what follows an area to the area.
-use Rattle.std.specs.Prelude.{◌≡◌, false, List, eqb, leb, length}
+use Rattle.std.specs.Prelude.{◌≡◌, false, List, eqb, leb, length, Ok, Some, None}
 use Rattle.std.proofs.Math.Path.{refl}
 use Prim.Native.Nat.{ℕ, suc, ◌+◌}
 use Rattle.std.proofs.Common.{arith}
@@ -16,9 +16,8 @@ use Rattle.layout.specs.Parts.{Part, optional, times}
 use Rattle.layout.specs.Holds.{Holds}
 use Rattle.layout.specs.Record.{record_from, record_of}
 use Rattle.views.specs.declared.hpacarea.HpacArea.{HpacArea}
-use Rattle.views.specs.declared.hpacarea.HpacAnswer.{HpacAnswer}
-use Rattle.views.specs.declared.hpacarea.HpacAnswer.TheVariants.{Is, Absent}
-use Rattle.views.specs.declared.places.Found.{Found}
+use Rattle.views.specs.Results.{HpacAnswer}
+use Rattle.views.specs.Results.{Found}
 use Rattle.views.specs.Along.{Other, apart, other_pick, Goes, First, Over, over-optional, over-times, over-each, total, Ends, goes-ends, first_ends, code_in, answered}
 use Rattle.views.specs.Hpacs.{polynomial_entries, grid_entries, troposphere_entries, slant_entries, slants_entries, ionosphere_entries, hpac_entries, hpac_area}
 use Rattle.views.specs.Places.{code_at}
@@ -29,7 +28,7 @@ hpac_seen start code =
     record { start = start; points = code 39 0; troposphere_blocks = code 40 0; ionosphere_blocks = code 40 1 }
 
 abbrev pub hpac_found : (sheet : List ℕ) → Found → HpacAnswer
-hpac_found sheet f = answered Absent (λ p. Is (hpac_seen p.at (code_at sheet p))) f
+hpac_found sheet f = answered (Ok None) (λ p. Ok (Some (hpac_seen p.at (code_at sheet p)))) f
 
 -- no mask has the number of an area's ID
 mask-other : (c : Constellation) → eqb (mask_sf c) 31 ≡ false

@@ -1,5 +1,5 @@
 -- Definitions to believe: an area of a BPAC sheet by its ID (document 000, tables 6.25 to 6.28). "A BPAC area ID and an area ID are counted apart."
-use Rattle.std.specs.Prelude.{List, ℕ, ◌+◌, ◌*◌, ltb, length}
+use Rattle.std.specs.Prelude.{List, ℕ, ◌+◌, ◌*◌, ltb, length, Ok, Err, Some, None}
 use Rattle.answer.specs.Number.{number_of}
 use Rattle.answer.specs.Place.{nowhere}
 use Rattle.answer.specs.declared.Refusal.TheVariants as refusal
@@ -9,8 +9,7 @@ use Rattle.layout.specs.Layout.{done, pick}
 use Rattle.layout.specs.Record.{record_of}
 use Rattle.sheet.specs.Sheet.{judged_sheet}
 use Rattle.views.specs.declared.bpacarea.BpacArea.{BpacArea}
-use Rattle.views.specs.declared.bpacarea.BpacAnswer.{BpacAnswer}
-use Rattle.views.specs.declared.bpacarea.BpacAnswer.TheVariants as bpac_answer
+use Rattle.views.specs.Results.{BpacAnswer}
 use Rattle.views.specs.First.{first}
 use Rattle.views.specs.Judged.{if_taken}
 use Rattle.views.specs.Units.{in_unit, count_in}
@@ -39,20 +38,20 @@ bpac_area start a =
 
 -- a header of four entries, then the areas
 abbrev pub first_bpac : ℕ → List bpac.Area → BpacAnswer
-first_bpac id areas = first (λ (a : bpac.Area). a.id) bpac_entries (λ at a. bpac_answer.Is (bpac_area at a)) bpac_answer.Absent id 4 areas
+first_bpac id areas = first (λ (a : bpac.Area). a.id) bpac_entries (λ at a. Ok (Some (bpac_area at a))) (Ok None) id 4 areas
 
 -- SF072 has two bits: an ID over 3 is an argument outside its range, FIELD
 abbrev pub if_bpac_id : (id : ℕ) → BpacAnswer → BpacAnswer
-if_bpac_id id rest = pick (ltb (sf 72).most id) (bpac_answer.Refused (nowhere refusal.Field)) rest
+if_bpac_id id rest = pick (ltb (sf 72).most id) (Err (nowhere refusal.Field)) rest
 
 -- what `bpac_area` answers: the sheet is judged first, then the ID
 unfoldable pub bpac_answer_of : (id : ℕ) (sheet : List ℕ) → BpacAnswer
 bpac_answer_of id sheet =
-    if_taken (judged_sheet 3 0 sheet) bpac_answer.Refused (
+    if_taken (judged_sheet 3 0 sheet) Err (
     if_bpac_id id (
     first_bpac id (bpac_areas sheet)))
 
 abbrev pub number_of_bpac : BpacAnswer → ℕ
-number_of_bpac (bpac_answer.Is area) = 0
-number_of_bpac bpac_answer.Absent = 0
-number_of_bpac (bpac_answer.Refused fault) = number_of fault.refusal
+number_of_bpac (Ok (Some area)) = 0
+number_of_bpac (Ok None) = 0
+number_of_bpac (Err fault) = number_of fault.refusal

@@ -7,10 +7,10 @@ use Rattle.views.specs.Bpacs.{bpac_answer_of, number_of_bpac}
 use Rattle.views.specs.Gads.{gad_answer_of, number_of_gad}
 use Rattle.views.specs.Hpacs.{hpac_answer_of, number_of_hpac}
 use Rattle.views.specs.Satellites.{number_of_satellite, satellite_answer_of}
-use Rattle.views.specs.declared.bpacarea.BpacAnswer.{BpacAnswer}
-use Rattle.views.specs.declared.gadarea.GadAnswer.{GadAnswer}
-use Rattle.views.specs.declared.hpacarea.HpacAnswer.{HpacAnswer}
-use Rattle.views.specs.declared.satellites.SatelliteAnswer.{SatelliteAnswer}
+use Rattle.views.specs.Results.{BpacAnswer}
+use Rattle.views.specs.Results.{GadAnswer}
+use Rattle.views.specs.Results.{HpacAnswer}
+use Rattle.views.specs.Results.{SatelliteAnswer}
 use Rattle.std.proofs.Common.{◌∙◌, sym}
 
 pub bpac-area-determined : (id : BpacAreaId) (sheet : List ℕ) (r₁ r₂ : BpacAnswer)

@@ -1,13 +1,12 @@
 -- Definitions to believe: an area of a GAD sheet by its ID (document 000, tables 6.23 and 6.24).
-use Rattle.std.specs.Prelude.{List, ℕ}
+use Rattle.std.specs.Prelude.{List, ℕ, Ok, Err, Some, None}
 use Rattle.answer.specs.Number.{number_of}
 use Rattle.gad.specs.Gad as gad
 use Rattle.layout.specs.Layout.{done}
 use Rattle.layout.specs.Record.{record_of}
 use Rattle.sheet.specs.Sheet.{judged_sheet}
 use Rattle.views.specs.declared.gadarea.GadArea.{GadArea}
-use Rattle.views.specs.declared.gadarea.GadAnswer.{GadAnswer}
-use Rattle.views.specs.declared.gadarea.GadAnswer.TheVariants as gad_answer
+use Rattle.views.specs.Results.{GadAnswer}
 use Rattle.views.specs.First.{first}
 use Rattle.views.specs.Judged.{if_taken}
 use Rattle.views.specs.Units.{in_unit, count_in}
@@ -30,14 +29,14 @@ gad_area b =
 
 -- a header of four entries, then blocks of seven
 abbrev pub first_gad : ℕ → List gad.Block → GadAnswer
-first_gad id blocks = first (λ (b : gad.Block). b.id) (λ b. 7) (λ at b. gad_answer.Is (gad_area b)) gad_answer.Absent id 4 blocks
+first_gad id blocks = first (λ (b : gad.Block). b.id) (λ b. 7) (λ at b. Ok (Some (gad_area b))) (Ok None) id 4 blocks
 
 -- what `gad_area` answers
 unfoldable pub gad_answer_of : (id : ℕ) (sheet : List ℕ) → GadAnswer
-gad_answer_of id sheet = if_taken (judged_sheet 2 0 sheet) gad_answer.Refused (first_gad id (gad_blocks sheet))
+gad_answer_of id sheet = if_taken (judged_sheet 2 0 sheet) Err (first_gad id (gad_blocks sheet))
 
 -- its number in document 01; that no block has the ID is no refusal
 abbrev pub number_of_gad : GadAnswer → ℕ
-number_of_gad (gad_answer.Is area) = 0
-number_of_gad gad_answer.Absent = 0
-number_of_gad (gad_answer.Refused fault) = number_of fault.refusal
+number_of_gad (Ok (Some area)) = 0
+number_of_gad (Ok None) = 0
+number_of_gad (Err fault) = number_of fault.refusal

@@ -1,6 +1,6 @@
 -- Definitions to believe: an area of an HPAC sheet by its ID (document 000, tables 6.13 to 6.22). HPAC has no corner and no spacing of an area, those are GAD's:
 -- the view is the block's head and where the block starts on the sheet. Residuals and coefficients stay codes (crate values).
-use Rattle.std.specs.Prelude.{List, [], ◌∷◌, ℕ, ◌+◌, length}
+use Rattle.std.specs.Prelude.{List, [], ◌∷◌, ℕ, ◌+◌, length, Ok, Err, Some, None}
 use Rattle.answer.specs.Number.{number_of}
 use Rattle.answer.specs.Place.{nowhere}
 use Rattle.answer.specs.declared.Refusal.TheVariants as refusal
@@ -11,8 +11,7 @@ use Rattle.layout.specs.Record.{record_of}
 use Rattle.message.specs.Messages.{constellation_of}
 use Rattle.sheet.specs.Sheet.{judged_sheet}
 use Rattle.views.specs.declared.hpacarea.HpacArea.{HpacArea}
-use Rattle.views.specs.declared.hpacarea.HpacAnswer.{HpacAnswer}
-use Rattle.views.specs.declared.hpacarea.HpacAnswer.TheVariants as hpac_answer
+use Rattle.views.specs.Results.{HpacAnswer}
 use Rattle.views.specs.Entries.{entries_of}
 use Rattle.views.specs.First.{first}
 use Rattle.views.specs.Judged.{if_taken, for_constellation}
@@ -60,17 +59,17 @@ hpac_area start a =
 
 -- a header of four entries, then the areas
 abbrev pub first_hpac : ℕ → List hpac.Area → HpacAnswer
-first_hpac id areas = first (λ (a : hpac.Area). a.id) hpac_entries (λ at a. hpac_answer.Is (hpac_area at a)) hpac_answer.Absent id 4 areas
+first_hpac id areas = first (λ (a : hpac.Area). a.id) hpac_entries (λ at a. Ok (Some (hpac_area at a))) (Ok None) id 4 areas
 
 -- what `hpac_area` answers
 unfoldable pub hpac_answer_of : (subtype id : ℕ) (sheet : List ℕ) → HpacAnswer
 hpac_answer_of subtype id sheet =
-    if_taken (judged_sheet 1 subtype sheet) hpac_answer.Refused (
-    for_constellation (constellation_of subtype) (hpac_answer.Refused (nowhere refusal.UnknownType)) (λ constellation.
+    if_taken (judged_sheet 1 subtype sheet) Err (
+    for_constellation (constellation_of subtype) (Err (nowhere refusal.UnknownType)) (λ constellation.
     first_hpac id (hpac_areas constellation sheet)))
 
 -- its number in document 01; that no block has the ID is no refusal
 abbrev pub number_of_hpac : HpacAnswer → ℕ
-number_of_hpac (hpac_answer.Is area) = 0
-number_of_hpac hpac_answer.Absent = 0
-number_of_hpac (hpac_answer.Refused fault) = number_of fault.refusal
+number_of_hpac (Ok (Some area)) = 0
+number_of_hpac (Ok None) = 0
+number_of_hpac (Err fault) = number_of fault.refusal

@@ -1,3 +1,4 @@
+pub mod Results
 pub mod Judged
 pub mod Entries
 pub mod Units

@@ -1,11 +1,10 @@
 -- Theorems: each field that has a value takes exactly the codes that have one (crate values). So on a sheet that the writer accepts every code has its value, and
 -- the last cases of Units.antt are not met.
-use Rattle.std.specs.Prelude.{◌≡◌, refl, Bool, true, false, List, [], ◌∷◌, ℕ, ◌≤◌, T, eqb, leb, ltb}
+use Rattle.std.specs.Prelude.{◌≡◌, refl, Bool, true, false, List, [], ◌∷◌, ℕ, ◌≤◌, T, eqb, leb, ltb, Ok, Err}
 use Rattle.std.proofs.Common.{ap, sym, ◌∙◌, subst, arith, eqb-true, leb-true, leb-false, lt-ltb, le-ltb, leb→le}
 use Rattle.answer.specs.declared.Refusal.TheVariants as refusal
 use Rattle.fields.specs.Fields.{Meaning, metres, degrees, tecu, coefficient, count, residual_metres, residual_tecu, yaw, Steps, Means, nothing, counts, Line, table, or_else, find, line_of, sf}
-use Rattle.layout.specs.declared.Verdict.{Verdict}
-use Rattle.layout.specs.declared.Verdict.TheVariants.{Taken, Fault}
+use Rattle.layout.specs.Results.{Verdict}
 use Rattle.layout.specs.Layout.{pick, judge}
 use Rattle.values.specs.declared.Value.{Value}
 use Rattle.values.specs.declared.Value.TheVariants.{Metres, Degrees, Tecu, Coefficient, Count, OfResidual, OfYaw, Refused}
@@ -23,8 +22,8 @@ has_value (OfYaw y) = true
 has_value (Refused why) = false
 
 abbrev pub is_taken : Verdict → Bool
-is_taken Taken = true
-is_taken (Fault why) = false
+is_taken (Ok _) = true
+is_taken (Err why) = false
 
 -- a code is taken just where it has a value
 abbrev pub Agree : ℕ → Type 0
@@ -78,7 +77,7 @@ taken_is number code =
     rw low (go (eqb code (line_of number).invalid) refl (leb code (line_of number).most) refl)
   where
     go : (x : Bool) → eqb code (line_of number).invalid ≡ x → (y : Bool) → leb code (line_of number).most ≡ y
-        → is_taken (pick x Taken (pick (ltb (line_of number).most code) (Fault refusal.Field) (pick x (Fault refusal.Field) Taken))) ≡ either x y
+        → is_taken (pick x (Ok tt) (pick (ltb (line_of number).most code) (Err refusal.Field) (pick x (Err refusal.Field) (Ok tt)))) ≡ either x y
     go true p y q = refl
     go false p true q = rw (le-ltb (line_of number).most code (leb-true code (line_of number).most q))
     go false p false q = rw (lt-ltb (line_of number).most code (leb-false code (line_of number).most q))

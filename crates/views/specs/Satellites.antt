@@ -1,6 +1,6 @@
 -- Definitions to believe: a satellite of an OCB sheet by its place in the mask's order (document 01, "Payloads": "a satellite is either out of use or carries
 -- blocks, and its yaw is absent, invalid or an angle"; document 000, tables 6.4 to 6.12).
-use Rattle.std.specs.Prelude.{List, [], ◌∷◌, ℕ, zero, suc, ◌+◌, ◌*◌, length}
+use Rattle.std.specs.Prelude.{List, [], ◌∷◌, ℕ, zero, suc, ◌+◌, ◌*◌, length, Ok, Err, Some, None}
 use Rattle.answer.specs.Number.{number_of}
 use Rattle.answer.specs.Place.{nowhere}
 use Rattle.answer.specs.declared.Refusal.TheVariants as refusal
@@ -16,18 +16,14 @@ use Rattle.values.specs.declared.Yaw.TheVariants as yaw
 use Rattle.views.specs.Entries.{entries_of}
 use Rattle.views.specs.Judged.{if_taken, for_constellation}
 use Rattle.views.specs.Units.{in_unit, yaw_in}
-use Rattle.views.specs.declared.satellites.OrbitBlock.{OrbitBlock}
-use Rattle.views.specs.declared.satellites.OrbitBlock.TheVariants as orbit_block
-use Rattle.views.specs.declared.satellites.ClockBlock.{ClockBlock}
-use Rattle.views.specs.declared.satellites.ClockBlock.TheVariants as clock_block
-use Rattle.views.specs.declared.satellites.BiasBlock.{BiasBlock}
-use Rattle.views.specs.declared.satellites.BiasBlock.TheVariants as bias_block
+use Rattle.views.specs.Results.{OrbitBlock}
+use Rattle.views.specs.Results.{ClockBlock}
+use Rattle.views.specs.Results.{BiasBlock}
 use Rattle.views.specs.declared.satellites.Biases.{Biases}
 use Rattle.views.specs.declared.satellites.Blocks.{Blocks}
 use Rattle.views.specs.declared.satellites.Satellite.{Satellite}
 use Rattle.views.specs.declared.satellites.Satellite.TheVariants.{OutOfUse, InUse}
-use Rattle.views.specs.declared.satellites.SatelliteAnswer.{SatelliteAnswer}
-use Rattle.views.specs.declared.satellites.SatelliteAnswer.TheVariants as answer
+use Rattle.views.specs.Results.{SatelliteAnswer}
 
 -- ---- how many entries of the sheet a block has, one a field
 
@@ -52,9 +48,9 @@ state_entries (ocb.in_use b) = 3 + (entries_of orbit_entries b.orbit + (entries_
 
 -- "The three orbit corrections are handed out together in metres", SF020
 abbrev pub orbit_view : Part ocb.Orbit → OrbitBlock
-orbit_view absent = orbit_block.Absent
+orbit_view absent = None
 orbit_view (present o) =
-    orbit_block.Present o.iode (record { radial = in_unit 20 o.radial; along_track = in_unit 20 o.along; cross_track = in_unit 20 o.cross })
+    Some (o.iode, record { radial = in_unit 20 o.radial; along_track = in_unit 20 o.along; cross_track = in_unit 20 o.cross })
 
 abbrev pub yaw_code : Part ℕ → Yaw
 yaw_code absent = yaw.Absent
@@ -67,8 +63,8 @@ yaw_view (present o) = yaw_code o.yaw
 
 -- SF022, SF020 in metres, SF024
 abbrev pub clock_view : Part ocb.Clock → ClockBlock
-clock_view absent = clock_block.Absent
-clock_view (present c) = clock_block.Present c.continuity (in_unit 20 c.correction) c.error
+clock_view absent = None
+clock_view (present c) = Some (c.continuity, in_unit 20 c.correction, c.error)
 
 -- "the biases stay on the sheet": where they start, behind the size and the bits of their mask, and how many there are
 abbrev pub bias_places : (start : ℕ) → ocb.Bias → Biases
@@ -77,8 +73,8 @@ bias_places start b =
     record { phases_at = start + 2; phases = phases; codes_at = start + (4 + 3 * phases); codes = length b.codes }
 
 abbrev pub bias_view : (start : ℕ) → Part ocb.Bias → BiasBlock
-bias_view start absent = bias_block.Absent
-bias_view start (present b) = bias_block.Present (bias_places start b)
+bias_view start absent = None
+bias_view start (present b) = Some (bias_places start b)
 
 -- of a satellite that starts at this entry of the sheet
 abbrev pub blocks_view : (start : ℕ) → ocb.Blocks → Blocks
@@ -99,8 +95,8 @@ satellite_view start (ocb.in_use b) = InUse (blocks_view start b)
 
 -- the satellites follow one another on the sheet from `start` on
 unfoldable pub nth_from : (start : ℕ) → List ocb.Satellite → (place : ℕ) → SatelliteAnswer
-nth_from start [] place = answer.Refused (nowhere refusal.Field)
-nth_from start (s ∷ ss) zero = answer.Is s.number (satellite_view start s.state)
+nth_from start [] place = Err (nowhere refusal.Field)
+nth_from start (s ∷ ss) zero = Ok (s.number, satellite_view start s.state)
 nth_from start (s ∷ ss) (suc place) = nth_from (start + state_entries s.state) ss place
 
 -- the satellites of a sheet
@@ -114,11 +110,11 @@ nth constellation sheet place = nth_from 8 (satellites_in constellation sheet) p
 -- what `satellite_at` answers
 unfoldable pub satellite_answer_of : (subtype : ℕ) (sheet : List ℕ) (place : ℕ) → SatelliteAnswer
 satellite_answer_of subtype sheet place =
-    if_taken (judged_sheet 0 subtype sheet) answer.Refused (
-    for_constellation (constellation_of subtype) (answer.Refused (nowhere refusal.UnknownType)) (λ constellation.
+    if_taken (judged_sheet 0 subtype sheet) Err (
+    for_constellation (constellation_of subtype) (Err (nowhere refusal.UnknownType)) (λ constellation.
     nth constellation sheet place))
 
 -- its number in document 01
 abbrev pub number_of_satellite : SatelliteAnswer → ℕ
-number_of_satellite (answer.Is number satellite) = 0
-number_of_satellite (answer.Refused fault) = number_of fault.refusal
+number_of_satellite (Ok (number, satellite)) = 0
+number_of_satellite (Err fault) = number_of fault.refusal

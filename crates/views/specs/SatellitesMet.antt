@@ -1,5 +1,5 @@
 -- Theorems: on an OCB sheet that the writer accepts each number of a view is the value of its code; the last cases of Units.antt are not met.
-use Rattle.std.specs.Prelude.{◌≡◌, refl, Bool, List, eqb, leb, get_or}
+use Rattle.std.specs.Prelude.{◌≡◌, refl, Bool, List, eqb, leb, get_or, Ok}
 use Rattle.std.proofs.Common.{ap, sym, add-suc, add-one}
 use Rattle.std.proofs.Math.Path.{subst}
 use Rattle.std.proofs.Math.Bool.{true, false}
@@ -8,18 +8,15 @@ use native.Mathlib.Omega.{arith}
 use Rattle.answer.specs.declared.Refusal.TheVariants as refusal
 use Rattle.codes.specs.declared.Constellation.{Constellation}
 use Rattle.fields.specs.Fields.{yaw, sixfold, table, find, line_of, sf}
-use Rattle.layout.specs.declared.Verdict.TheVariants.{Taken}
 use Rattle.layout.specs.Layout.{Layout, done, field, pick, judge}
 use Rattle.layout.specs.Parts.{Part, present, optional}
 use Rattle.layout.specs.Holds.{Holds}
 use Rattle.layout.specs.Reaches.{here, on, reaches-holds, reaches-to, part_if}
 use Rattle.message.specs.Messages.{ocb_message, ocb_layout, by_constellation, constellation_of}
 use Rattle.ocb.specs.Ocb as ocb
-use Rattle.sheet.specs.declared.WriteAnswer.TheVariants as writer
 use Rattle.sheet.specs.Sheet.{judged_sheet}
 use Rattle.values.specs.declared.Value.TheVariants.{OfYaw, Refused}
 use Rattle.values.specs.declared.Yaw.TheVariants as yaws
-use Rattle.values.specs.declared.YawAnswer.TheVariants as yaw_answer
 use Rattle.values.specs.Values as values
 use Rattle.values.specs.Values.{meant, value_of, yaw_by, yaw_of}
 use Rattle.views.specs.Along.{EachOf, PartMet, not_there, there}
@@ -53,11 +50,11 @@ pub data UseMet : ocb.Use → Type 0 where
 pub record SatelliteMet (s : ocb.Satellite) : Type 0 where
   pub state : UseMet s.state
 
-correction-met : (sheet : List ℕ) (at : ℕ) → judge (sf 20) (get_or sheet at 0) ≡ Taken → InMetres 20 (get_or sheet at 0)
+correction-met : (sheet : List ℕ) (at : ℕ) → judge (sf 20) (get_or sheet at 0) ≡ Ok tt → InMetres 20 (get_or sheet at 0)
 unfolding line_of find table
 correction-met sheet at j = metres-met 20 (get_or sheet at 0) refl (taken-has 20 (get_or sheet at 0) refl j)
 
-yaw-met : (code : ℕ) → judge (sf 21) code ≡ Taken → IsYaw code
+yaw-met : (code : ℕ) → judge (sf 21) code ≡ Ok tt → IsYaw code
 unfolding yaw_in yaw_of value_of line_of find table
 yaw-met code j =
     let h : has_value (value_of 21 code) ≡ true = taken-has 21 code refl j in
@@ -65,7 +62,7 @@ yaw-met code j =
   where
     go : (x y : Bool) → has_value (values.pick x (meant yaw sixfold 1 code) (values.pick y (OfYaw yaws.Invalid) (Refused refusal.Field))) ≡ true
         → yaw_by (values.pick x (meant yaw sixfold 1 code) (values.pick y (OfYaw yaws.Invalid) (Refused refusal.Field)))
-        ≡ yaw_answer.Is (yaw_said (yaw_by (values.pick x (meant yaw sixfold 1 code) (values.pick y (OfYaw yaws.Invalid) (Refused refusal.Field)))))
+        ≡ Ok (yaw_said (yaw_by (values.pick x (meant yaw sixfold 1 code) (values.pick y (OfYaw yaws.Invalid) (Refused refusal.Field)))))
     go true y h = refl
     go false true h = refl
     go false false h = let z : ◌≡◌ {A = ℕ} 0 1 = cc in absurd (omega arith)
@@ -127,7 +124,7 @@ module _ {A : Type 0} (sheet : List ℕ) (yaw : ℕ) where
 
 -- Each satellite of an OCB sheet that the writer accepts has its values.
 pub ocb-met : (subtype : ℕ) (c : Constellation) (sheet : List ℕ) {bits bytes : ℕ} → constellation_of subtype ≡ present c
-    → judged_sheet 0 subtype sheet ≡ writer.Written bits bytes → EachOf SatelliteMet (satellites_in c sheet)
+    → judged_sheet 0 subtype sheet ≡ Ok (record { bits = bits; bytes = bytes }) → EachOf SatelliteMet (satellites_in c sheet)
 ocb-met subtype c sheet p e =
     let yaw : ℕ = get_or sheet 3 0 in
     subst (EachOf SatelliteMet) (sym (satellites-in c sheet))

@@ -1,16 +1,13 @@
 -- Serves proofs, and is proved: a code that has a value, as a view has it; and how a fact of each block goes along a sheet.
-use Rattle.std.specs.Prelude.{◌≡◌, Bool, true, false, List, [], ◌∷◌, eqb, leb, get_or}
+use Rattle.std.specs.Prelude.{◌≡◌, Bool, true, false, List, [], ◌∷◌, eqb, leb, get_or, Ok}
 use Rattle.std.proofs.Math.Path.{refl, ap, sym}
 use Rattle.std.proofs.Common.{◌∙◌, arith}
 use Prim.Native.Nat.{ℕ}
-use Rattle.layout.specs.declared.Verdict.TheVariants.{Taken}
 use Rattle.layout.specs.Layout.{Layout, judge}
 use Rattle.layout.specs.Parts.{each}
 use Rattle.layout.specs.Holds.{Holds}
 use Rattle.layout.specs.Reaches.{Reaches, reaches-holds, many_of}
 use Rattle.values.specs.declared.Value.TheVariants.{Metres, Degrees, Tecu}
-use Rattle.values.specs.declared.CountAnswer.TheVariants as count
-use Rattle.values.specs.declared.YawAnswer.TheVariants as yaw_answer
 use Rattle.fields.specs.Fields as fields
 use Rattle.fields.specs.Fields.{Meaning, metres, degrees, tecu, Steps, Means, counts, line_of, sf}
 use Rattle.values.specs.declared.Value.{Value}
@@ -59,10 +56,10 @@ abbrev pub InTecu : (sf code : ℕ) → Type 0
 InTecu sf code = value_of sf code ≡ Tecu (in_unit sf code)
 
 abbrev pub Counts : (sf code : ℕ) → Type 0
-Counts sf code = count_of sf code ≡ count.Is (count_in sf code)
+Counts sf code = count_of sf code ≡ Ok (count_in sf code)
 
 abbrev pub IsYaw : ℕ → Type 0
-IsYaw code = yaw_of code ≡ yaw_answer.Is (yaw_in code)
+IsYaw code = yaw_of code ≡ Ok (yaw_in code)
 
 module _ (number : ℕ) {s : Steps} {per_unit : ℕ} (code : ℕ) where
   pub metres-met : (line_of number).means ≡ counts s per_unit metres → has_value (value_of number code) ≡ true → InMetres number code
@@ -87,10 +84,10 @@ module _ (number : ℕ) {s : Steps} {per_unit : ℕ} (code : ℕ) where
   unfolding count_in count_of
   count-met is h =
       let e : value_of number code ≡ meant fields.count s per_unit code = value-met number s per_unit fields.count code is refl h in
-      ap count_by e ∙ ap (λ x. count.Is (number_in x)) (sym (ap count_by e))
+      ap count_by e ∙ ap (λ x. Ok (number_in x)) (sym (ap count_by e))
 
 -- a code that a field with a value takes
-pub taken-has : (number code : ℕ) {s : Steps} {per_unit : ℕ} {m : Meaning} → (line_of number).means ≡ counts s per_unit m → judge (sf number) code ≡ Taken
+pub taken-has : (number code : ℕ) {s : Steps} {per_unit : ℕ} {m : Meaning} → (line_of number).means ≡ counts s per_unit m → judge (sf number) code ≡ Ok tt
     → has_value (value_of number code) ≡ true
 taken-has number code is j = sym (agree number is code) ∙ ap is_taken j
 

@@ -24,12 +24,7 @@ pub struct BpacArea {
 }
 
 // What `bpac_area` answers: the area, that no block has the ID, or a refusal: the writer's of the sheet with its place, or FIELD for an ID over 3.
-#[derive(Clone, Copy)]
-pub enum BpacAnswer {
-    Is(BpacArea),
-    Absent,
-    Refused(Fault),
-}
+pub type BpacAnswer = Result<Option<BpacArea>, Fault>;
 
 // The block that starts at a place.
 fn bpac_block(place: Place, sheet: &[u64]) -> BpacArea
@@ -53,14 +48,14 @@ fn bpac_from(start: Place, id: u64, sheet: &[u64]) -> BpacAnswer
 {
     let field = fields::sf(72);
     if field.most < id {
-        return BpacAnswer::Refused(Fault {
+        return Err(Fault {
             refusal: Refusal::Field,
-            place: answer::Place::Nowhere,
+            place: None,
         });
     }
     match find(start, sheet, 72, id) {
-        Found::Nothing => BpacAnswer::Absent,
-        Found::At(place) => BpacAnswer::Is(bpac_block(place, sheet)),
+        None => Ok(None),
+        Some(place) => Ok(Some(bpac_block(place, sheet))),
     }
 }
 
@@ -69,8 +64,8 @@ pub fn bpac_area(id: BpacAreaId, sheet: &[u64]) -> BpacAnswer
     ensures { result ≡ bpac_answer_of id.0 sheet.now }
 {
     match open(3, 0, sheet) {
-        Opened::Refused(why) => BpacAnswer::Refused(why),
-        Opened::At(start) => bpac_from(start, wide(id.0), sheet),
+        Err(why) => Err(why),
+        Ok(start) => bpac_from(start, wide(id.0), sheet),
     }
 }
 
@@ -79,9 +74,9 @@ pub fn number_of_bpac(answer: BpacAnswer) -> u8
     ensures { result ≡ number_of_bpac answer }
 {
     match answer {
-        BpacAnswer::Is(_) => 0,
-        BpacAnswer::Absent => 0,
-        BpacAnswer::Refused(fault) => {
+        Ok(Some(_)) => 0,
+        Ok(None) => 0,
+        Err(fault) => {
             let refusal = fault.refusal;
             answer::number(refusal)
         }

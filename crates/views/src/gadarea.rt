@@ -21,12 +21,7 @@ pub struct GadArea {
 }
 
 // What `gad_area` answers: the area, that no block has the ID, or the writer's refusal of the sheet with its place.
-#[derive(Clone, Copy)]
-pub enum GadAnswer {
-    Is(GadArea),
-    Absent,
-    Refused(Fault),
-}
+pub type GadAnswer = Result<Option<GadArea>, Fault>;
 
 // The block that starts at a place.
 fn gad_block(place: Place, sheet: &[u64]) -> GadArea
@@ -47,8 +42,8 @@ fn gad_from(start: Place, id: u64, sheet: &[u64]) -> GadAnswer
     ensures { result ≡ gad_found sheet.now (found 31 id sheet.now start) }
 {
     match find(start, sheet, 31, id) {
-        Found::Nothing => GadAnswer::Absent,
-        Found::At(place) => GadAnswer::Is(gad_block(place, sheet)),
+        None => Ok(None),
+        Some(place) => Ok(Some(gad_block(place, sheet))),
     }
 }
 
@@ -57,8 +52,8 @@ pub fn gad_area(id: AreaId, sheet: &[u64]) -> GadAnswer
     ensures { result ≡ gad_answer_of id.0 sheet.now }
 {
     match open(2, 0, sheet) {
-        Opened::Refused(why) => GadAnswer::Refused(why),
-        Opened::At(start) => gad_from(start, wide(id.0), sheet),
+        Err(why) => Err(why),
+        Ok(start) => gad_from(start, wide(id.0), sheet),
     }
 }
 
@@ -67,9 +62,9 @@ pub fn number_of_gad(answer: GadAnswer) -> u8
     ensures { result ≡ number_of_gad answer }
 {
     match answer {
-        GadAnswer::Is(_) => 0,
-        GadAnswer::Absent => 0,
-        GadAnswer::Refused(fault) => {
+        Ok(Some(_)) => 0,
+        Ok(None) => 0,
+        Err(fault) => {
             let refusal = fault.refusal;
             answer::number(refusal)
         }

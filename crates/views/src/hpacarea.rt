@@ -19,12 +19,7 @@ pub struct HpacArea {
 }
 
 // What `hpac_area` answers: the area, that no block has the ID, or the writer's refusal of the sheet with its place.
-#[derive(Clone, Copy)]
-pub enum HpacAnswer {
-    Is(HpacArea),
-    Absent,
-    Refused(Fault),
-}
+pub type HpacAnswer = Result<Option<HpacArea>, Fault>;
 
 // The block that starts at a place; the second SF040 is the ionosphere's.
 fn hpac_block(place: Place, sheet: &[u64]) -> HpacArea
@@ -43,8 +38,8 @@ fn hpac_from(start: Place, id: u64, sheet: &[u64]) -> HpacAnswer
     ensures { result ≡ hpac_found sheet.now (found 31 id sheet.now start) }
 {
     match find(start, sheet, 31, id) {
-        Found::Nothing => HpacAnswer::Absent,
-        Found::At(place) => HpacAnswer::Is(hpac_block(place, sheet)),
+        None => Ok(None),
+        Some(place) => Ok(Some(hpac_block(place, sheet))),
     }
 }
 
@@ -53,8 +48,8 @@ pub fn hpac_area(subtype: u8, id: AreaId, sheet: &[u64]) -> HpacAnswer
     ensures { result ≡ hpac_answer_of subtype id.0 sheet.now }
 {
     match open(1, subtype, sheet) {
-        Opened::Refused(why) => HpacAnswer::Refused(why),
-        Opened::At(start) => hpac_from(start, wide(id.0), sheet),
+        Err(why) => Err(why),
+        Ok(start) => hpac_from(start, wide(id.0), sheet),
     }
 }
 
@@ -63,9 +58,9 @@ pub fn number_of_hpac(answer: HpacAnswer) -> u8
     ensures { result ≡ number_of_hpac answer }
 {
     match answer {
-        HpacAnswer::Is(_) => 0,
-        HpacAnswer::Absent => 0,
-        HpacAnswer::Refused(fault) => {
+        Ok(Some(_)) => 0,
+        Ok(None) => 0,
+        Err(fault) => {
             let refusal = fault.refusal;
             answer::number(refusal)
         }

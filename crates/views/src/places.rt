@@ -4,6 +4,7 @@ ghost use Rattle.message.specs.Machine.{field_of};
 ghost use Rattle.views.specs.Units.{in_unit, count_in};
 ghost use Rattle.views.specs.Places.{sought, found, opened, code_at};
 
+use sheet::Written;
 use crate::units::{count_in, entry, in_unit};
 use answer::{Fault, Refusal};
 use message::{Start, State, start_of};
@@ -16,30 +17,22 @@ pub struct Place {
     pub at: usize,
 }
 
-#[derive(Clone, Copy)]
-pub enum Found {
-    Nothing,
-    At(Place),
-}
+pub type Found = Option<Place>;
 
 // The first entry of a sheet that the writer accepts, or its refusal.
-#[derive(Clone, Copy)]
-pub enum Opened {
-    Refused(Fault),
-    At(Place),
-}
+pub type Opened = Result<Place, Fault>;
 
 pub fn open(kind: u8, subtype: u8, sheet: &[u64]) -> Opened
     ensures { result ≡ opened kind subtype sheet.now }
 {
     match judge_sheet(kind, subtype, sheet) {
-        WriteAnswer::Refused(why) => Opened::Refused(why),
-        WriteAnswer::Written { bits: _, bytes: _ } => match start_of(kind, subtype) {
-            Start::Unknown => Opened::Refused(Fault {
+        Err(why) => Err(why),
+        Ok(Written { bits: _, bytes: _ }) => match start_of(kind, subtype) {
+            None => Err(Fault {
                 refusal: Refusal::UnknownType,
-                place: answer::Place::Nowhere,
+                place: None,
             }),
-            Start::Known(state) => Opened::At(Place {
+            Some(state) => Ok(Place {
                 state: state,
                 at: 0,
             }),
@@ -90,12 +83,12 @@ pub fn find(from: Place, sheet: &[u64], sf: u64, code: u64) -> Found
     while at < sheet.len() {
         let here = sheet[at];
         if is_of(s, sf, here, code) {
-            return Found::At(Place { state: s, at: at });
+            return Some(Place { state: s, at: at });
         }
         s = message::advance(s, here);
         at += 1;
     }
-    Found::Nothing
+    None
 }
 
 // The code of the field with this number that has so many of its like before it, from here on.

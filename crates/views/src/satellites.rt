@@ -4,6 +4,7 @@ ghost use Rattle.layout.specs.Reaches.{many_end};
 ghost use Rattle.views.specs.Satellites.{orbit_view, yaw_view, clock_view, bias_places, bias_view, satellite_view, nth, satellite_answer_of, number_of_satellite};
 ghost use Rattle.views.specs.SatellitePlaces.{orbit_of, clock_start, clock_of, bias_start, bias_at, bias_of, state_at, satellite_end, Seats, Listed};
 
+use sheet::Written;
 use crate::units::{entry, in_unit, yaw_in};
 use answer::{Fault, Place, Refusal};
 use codes::Constellation;
@@ -13,18 +14,10 @@ use sheet::{WriteAnswer, judge_sheet};
 use values::{Orbit, Yaw};
 
 // The orbit block: the issue of data of the ephemeris, and the corrections in metres.
-#[derive(Clone, Copy)]
-pub enum OrbitBlock {
-    Absent,
-    Present(u64, Orbit),
-}
+pub type OrbitBlock = Option<(u64, Orbit)>;
 
 // The clock block: SF022, the correction in metres, SF024.
-#[derive(Clone, Copy)]
-pub enum ClockBlock {
-    Absent,
-    Present(u64, f64, u64),
-}
+pub type ClockBlock = Option<(u64, f64, u64)>;
 
 // The bias block stays on the sheet. Phase biases, three entries each, start at `phases_at`, behind the size and the bits of their mask; code biases, one entry
 // each, at `codes_at`, likewise.
@@ -36,11 +29,7 @@ pub struct Biases {
     pub codes: u64,
 }
 
-#[derive(Clone, Copy)]
-pub enum BiasBlock {
-    Absent,
-    Present(Biases),
-}
+pub type BiasBlock = Option<Biases>;
 
 // The blocks of a satellite in use, with SF015.
 #[derive(Clone, Copy)]
@@ -60,11 +49,7 @@ pub enum Satellite {
 
 // What `satellite_at` answers: the satellite's number and the satellite, or a refusal: the writer's of the sheet with its place, or FIELD for a place past the
 // last satellite.
-#[derive(Clone, Copy)]
-pub enum SatelliteAnswer {
-    Is(u64, Satellite),
-    Refused(Fault),
-}
+pub type SatelliteAnswer = Result<(u64, Satellite), Fault>;
 
 // Where the clock block of the satellite that starts at `at` starts, if it has one: behind SF013 to SF015 and the orbit block. `yaw` is SF008.
 fn clock_start(sheet: &[u64], yaw: u64, at: usize) -> usize
@@ -142,9 +127,9 @@ fn orbit_view(sheet: &[u64], yaw: u64, at: usize) -> OrbitBlock
             along_track: in_unit(20, entry(sheet, at + 5)),
             cross_track: in_unit(20, entry(sheet, at + 6)),
         };
-        return OrbitBlock::Present(entry(sheet, at + 3), corrections);
+        return Some((entry(sheet, at + 3), corrections));
     }
-    OrbitBlock::Absent
+    None
 }
 
 // The yaw is absent where SF008 is 0 or the satellite has no orbit block.
@@ -172,9 +157,9 @@ fn clock_view(sheet: &[u64], yaw: u64, at: usize) -> ClockBlock
     let clock = present / 2 % 2;
     if clock == 1 {
         let correction = in_unit(20, entry(sheet, start + 1));
-        return ClockBlock::Present(entry(sheet, start), correction, entry(sheet, start + 2));
+        return Some((entry(sheet, start), correction, entry(sheet, start + 2)));
     }
-    ClockBlock::Absent
+    None
 }
 
 fn bias_view(sheet: &[u64], yaw: u64, at: usize) -> BiasBlock
@@ -185,9 +170,9 @@ fn bias_view(sheet: &[u64], yaw: u64, at: usize) -> BiasBlock
     let present = entry(sheet, at + 1);
     let bias = present % 2;
     if bias == 1 {
-        return BiasBlock::Present(biases_at(sheet, start));
+        return Some(biases_at(sheet, start));
     }
-    BiasBlock::Absent
+    None
 }
 
 // The satellite that starts at a place.
@@ -230,15 +215,15 @@ fn nth_satellite(constellation: Constellation, sheet: &[u64], place: u64) -> Sat
     let mask = entry(sheet, 7);
     let count = satellite_count(constellation, size, mask);
     if count <= place {
-        return SatelliteAnswer::Refused(Fault {
+        return Err(Fault {
             refusal: Refusal::Field,
-            place: Place::Nowhere,
+            place: None,
         });
     }
     let number = satellite_number(constellation, size, mask, count - 1 - place);
     let yaw = entry(sheet, 3);
     let at = satellite_start(sheet, yaw, place);
-    SatelliteAnswer::Is(number, satellite_view(sheet, yaw, at))
+    Ok((number, satellite_view(sheet, yaw, at)))
 }
 
 // The satellite at a place of the mask's order in an OCB sheet of a subtype, 0-0 to 0-4.
@@ -246,13 +231,13 @@ pub fn satellite_at(subtype: u8, sheet: &[u64], place: u64) -> SatelliteAnswer
     ensures { result ≡ satellite_answer_of subtype sheet.now place }
 {
     match judge_sheet(0, subtype, sheet) {
-        WriteAnswer::Refused(why) => SatelliteAnswer::Refused(why),
-        WriteAnswer::Written { bits: _, bytes: _ } => match constellation_of(subtype) {
-            Subtype::Unknown => SatelliteAnswer::Refused(Fault {
+        Err(why) => Err(why),
+        Ok(Written { bits: _, bytes: _ }) => match constellation_of(subtype) {
+            None => Err(Fault {
                 refusal: Refusal::UnknownType,
-                place: Place::Nowhere,
+                place: None,
             }),
-            Subtype::Known(constellation) => nth_satellite(constellation, sheet, place),
+            Some(constellation) => nth_satellite(constellation, sheet, place),
         },
     }
 }
@@ -262,8 +247,8 @@ pub fn number_of_satellite(answer: SatelliteAnswer) -> u8
     ensures { result ≡ number_of_satellite answer }
 {
     match answer {
-        SatelliteAnswer::Is(_, _) => 0,
-        SatelliteAnswer::Refused(fault) => {
+        Ok((_, _)) => 0,
+        Err(fault) => {
             let refusal = fault.refusal;
             answer::number(refusal)
         }

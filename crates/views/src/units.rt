@@ -43,8 +43,8 @@ pub fn count_in(sf: u16, code: u64) -> u64
     ensures { result ≡ count_in sf code }
 {
     match values::count_of(sf, code) {
-        CountAnswer::Is(n) => n,
-        CountAnswer::Refused(_) => 0,
+        Ok(n) => n,
+        Err(_) => 0,
     }
 }
 
@@ -53,8 +53,8 @@ pub fn yaw_in(code: u64) -> Yaw
     ensures { result ≡ yaw_in code }
 {
     match values::yaw_of(code) {
-        YawAnswer::Is(y) => y,
-        YawAnswer::Refused(_) => Yaw::Invalid,
+        Ok(y) => y,
+        Err(_) => Yaw::Invalid,
     }
 }
 

@@ -13,8 +13,8 @@ insert-requires-clause-image c = (search rules, search (add-room, rules), search
 pub insert-requires-clause-passed : goal.insert-requires-clause-passed
 insert-requires-clause-passed c = search (reached-passed, rules)
 
-pub returns-in-Area : goal.returns-in-Area
-returns-in-Area c = search (add_same, add_kept, rules)
+pub returns-in-Some : goal.returns-in-Some
+returns-in-Some c = search (add_same, add_kept, rules)
 
-pub returns-in-Nothing : goal.returns-in-Nothing
-returns-in-Nothing c = search (add-more, add-put, rules)
+pub returns-in-None : goal.returns-in-None
+returns-in-None c = search (add-more, add-put, rules)

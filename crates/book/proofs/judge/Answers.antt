@@ -15,8 +15,8 @@ known-requires-clause-n_le_most_blocks c = (search rules, search rules, search r
 pub loop-i-preserved : goal.loop-i-preserved
 loop-i-preserved c = (search (judge-turn, rules), search (seek-past, rules), search (blocks-below, rules), search rules)
 
-pub returns-in-Refused : goal.returns-in-Refused
-returns-in-Refused c = search (judge-refused, rules)
+pub returns-in-Err : goal.returns-in-Err
+returns-in-Err c = search (judge-refused, rules)
 
 pub returns : goal.returns
 returns c = search (judge-end, rules)

@@ -6,8 +6,8 @@ use Rattle.book.proofs.known.Goals as goal
 pub returns-then-least-wide : goal.returns-then-least-wide
 returns-then-least-wide c = search (known-new, rules)
 
-pub returns-in-Area : goal.returns-in-Area
-returns-in-Area c = search (known-area, rules)
+pub returns-in-Some : goal.returns-in-Some
+returns-in-Some c = search (known-area, rules)
 
 pub returns-else-least-wide : goal.returns-else-least-wide
 returns-else-least-wide c = search (known-before, rules)

@@ -4,5 +4,5 @@ use Rattle.answer.specs.Matched.{arm}
 use Rattle.book.specs.Take.{number_of_taken}
 use Rattle.book.proofs.number_taken.Goals as goal
 
-pub returns-in-Refused : goal.returns-in-Refused
-returns-in-Refused c = search (arm number_of_taken, rules)
+pub returns-in-Err : goal.returns-in-Err
+returns-in-Err c = search (arm number_of_taken, rules)

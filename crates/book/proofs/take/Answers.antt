@@ -12,8 +12,8 @@ returns-then-not-is_sound c = search (take-state, left-state, rules)
 pub take_blocks-requires : goal.take_blocks-requires
 take_blocks-requires c = (search rules, search (take-sound, rules), search (take-there, rules))
 
-pub returns-in-Refused : goal.returns-in-Refused
-returns-in-Refused c = search (take-fault, left-fault, rules)
+pub returns-in-Err : goal.returns-in-Err
+returns-in-Err c = search (take-fault, left-fault, rules)
 
-pub returns-in-Read : goal.returns-in-Read
-returns-in-Read c = search (take-blocks, left-blocks, rules)
+pub returns-in-Ok : goal.returns-in-Ok
+returns-in-Ok c = search (take-blocks, left-blocks, rules)

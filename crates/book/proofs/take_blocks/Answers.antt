@@ -12,8 +12,8 @@ returns-then-held-count c = search (take-held, left-same, rules)
 pub insert_all-requires : goal.insert_all-requires
 insert_all-requires c = search (count-image, count-few, is-taken, rules)
 
-pub returns-in-Refused : goal.returns-in-Refused
-returns-in-Refused c = search (take-refused, left-refused, rules)
+pub returns-in-Err : goal.returns-in-Err
+returns-in-Err c = search (take-refused, left-refused, rules)
 
 pub returns-else-held-count : goal.returns-else-held-count
 returns-else-held-count c = search (take-held, left-held, rules)

@@ -6,5 +6,5 @@ use Rattle.exportentries.proofs.aiou_plus_one.Goals as goal
 pub overflow_add-result : goal.overflow_add-result
 overflow_add-result c = record { fits = search (aiou-fits, rules) }
 
-pub returns-in-Is : goal.returns-in-Is
-returns-in-Is c = search (aiou-is, rules)
+pub returns-in-Some : goal.returns-in-Some
+returns-in-Some c = search (aiou-is, rules)

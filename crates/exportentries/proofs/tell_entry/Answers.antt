@@ -8,10 +8,10 @@ use Rattle.exportentries.proofs.tell_entry.Goals as goal
 pub put_entry-requires : goal.put_entry-requires
 put_entry-requires c = search (answer-in, rules)
 
-pub returns-in-Is : goal.returns-in-Is
+pub returns-in-Ok : goal.returns-in-Ok
 unfolding told_entry
-returns-in-Is c = search (number_in told_entry, numbers-in told_entry, rules)
+returns-in-Ok c = search (number_in told_entry, numbers-in told_entry, rules)
 
-pub returns-in-Refused : goal.returns-in-Refused
+pub returns-in-Err : goal.returns-in-Err
 unfolding told_entry
-returns-in-Refused c = search (number_in told_entry, numbers-in told_entry, laid_none, rules)
+returns-in-Err c = search (number_in told_entry, numbers-in told_entry, laid_none, rules)

@@ -5,26 +5,26 @@ use Rattle.exportviews.proofs.Laws.{number_of, numbers_of, floats-of}
 use borrow.Author.Rules.{rules}
 use Rattle.exportentries.proofs.tell_residual.Goals as goal
 
-pub returns-in-Is-clause-value : goal.returns-in-Is-clause-value
+pub returns-in-Ok-clause-value : goal.returns-in-Ok-clause-value
 unfolding told_residual
-returns-in-Is-clause-value c = search (number_of told_residual, rules)
+returns-in-Ok-clause-value c = search (number_of told_residual, rules)
 
-pub returns-in-Is-clause-what_after : goal.returns-in-Is-clause-what_after
+pub returns-in-Ok-clause-what_after : goal.returns-in-Ok-clause-what_after
 unfolding told_residual
-returns-in-Is-clause-what_after c = search (numbers_of told_residual, rules)
+returns-in-Ok-clause-what_after c = search (numbers_of told_residual, rules)
 
-pub returns-in-Is-clause-value_after : goal.returns-in-Is-clause-value_after
+pub returns-in-Ok-clause-value_after : goal.returns-in-Ok-clause-value_after
 unfolding told_residual
-returns-in-Is-clause-value_after c = search (floats-of told_residual, rules)
+returns-in-Ok-clause-value_after c = search (floats-of told_residual, rules)
 
-pub returns-in-Refused-clause-value : goal.returns-in-Refused-clause-value
+pub returns-in-Err-clause-value : goal.returns-in-Err-clause-value
 unfolding told_residual
-returns-in-Refused-clause-value c = search (number_of told_residual, rules)
+returns-in-Err-clause-value c = search (number_of told_residual, rules)
 
-pub returns-in-Refused-clause-what_after : goal.returns-in-Refused-clause-what_after
+pub returns-in-Err-clause-what_after : goal.returns-in-Err-clause-what_after
 unfolding told_residual
-returns-in-Refused-clause-what_after c = search (numbers_of told_residual, laid_none, rules)
+returns-in-Err-clause-what_after c = search (numbers_of told_residual, laid_none, rules)
 
-pub returns-in-Refused-clause-value_after : goal.returns-in-Refused-clause-value_after
+pub returns-in-Err-clause-value_after : goal.returns-in-Err-clause-value_after
 unfolding told_residual
-returns-in-Refused-clause-value_after c = search (floats-of told_residual, laid_none, rules)
+returns-in-Err-clause-value_after c = search (floats-of told_residual, laid_none, rules)

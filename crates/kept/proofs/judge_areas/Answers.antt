@@ -5,8 +5,8 @@ use Rattle.kept.proofs.judge_areas.Goals as goal
 pub loop-i-init : goal.loop-i-init
 loop-i-init c = search (walk_start, rules)
 
-pub returns-in-Refused : goal.returns-in-Refused
-returns-in-Refused c = search (walk_refused, rules)
+pub returns-in-Err : goal.returns-in-Err
+returns-in-Err c = search (walk_refused, rules)
 
 pub returns-then-not-fits : goal.returns-then-not-fits
 returns-then-not-fits c = search (walk-form, rules)

@@ -12,11 +12,11 @@ returns-then-end-kept-clause-bytes_after c = search (left_over, rules)
 pub store_areas-requires : goal.store_areas-requires
 store_areas-requires c = (search rules, search rules, search rules, search (areas-said, rules))
 
-pub returns-in-Refused-clause-value : goal.returns-in-Refused-clause-value
-returns-in-Refused-clause-value c = search (areas-refused, rules)
+pub returns-in-Err-clause-value : goal.returns-in-Err-clause-value
+returns-in-Err-clause-value c = search (areas-refused, rules)
 
-pub returns-in-Refused-clause-bytes_after : goal.returns-in-Refused-clause-bytes_after
-returns-in-Refused-clause-bytes_after c = search (left-refused, rules)
+pub returns-in-Err-clause-bytes_after : goal.returns-in-Err-clause-bytes_after
+returns-in-Err-clause-bytes_after c = search (left-refused, rules)
 
 pub returns-else-end-kept-clause-value : goal.returns-else-end-kept-clause-value
 returns-else-end-kept-clause-value c = search (areas-whole, rules)

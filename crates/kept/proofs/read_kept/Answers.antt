@@ -12,14 +12,14 @@ returns-then-bytes-lt-BOOK_BYTES-clause-bytes_after c = search (left-room, rules
 pub read_areas-requires : goal.read_areas-requires
 read_areas-requires c = (search (kept_at, rules), search (kept-count, rules), search rules)
 
-pub returns-in-Refused-clause-value : goal.returns-in-Refused-clause-value
-returns-in-Refused-clause-value c = search (kept-refused, rules)
+pub returns-in-Err-clause-value : goal.returns-in-Err-clause-value
+returns-in-Err-clause-value c = search (kept-refused, rules)
 
-pub returns-in-Refused-clause-bytes_after : goal.returns-in-Refused-clause-bytes_after
-returns-in-Refused-clause-bytes_after c = search (left-head, rules)
+pub returns-in-Err-clause-bytes_after : goal.returns-in-Err-clause-bytes_after
+returns-in-Err-clause-bytes_after c = search (left-head, rules)
 
-pub returns-in-Is-clause-value : goal.returns-in-Is-clause-value
-returns-in-Is-clause-value c = search (kept_on, rules)
+pub returns-in-Ok-clause-value : goal.returns-in-Ok-clause-value
+returns-in-Ok-clause-value c = search (kept_on, rules)
 
-pub returns-in-Is-clause-bytes_after : goal.returns-in-Is-clause-bytes_after
-returns-in-Is-clause-bytes_after c = search (left-on, rules)
+pub returns-in-Ok-clause-bytes_after : goal.returns-in-Ok-clause-bytes_after
+returns-in-Ok-clause-bytes_after c = search (left-on, rules)

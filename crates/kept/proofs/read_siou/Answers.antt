@@ -12,11 +12,11 @@ returns-then-not-siou_is_sound c = search (siou-form, rules)
 pub narrow_siou-requires : goal.narrow_siou-requires
 narrow_siou-requires c = search (siou-small, rules)
 
-pub read_count-requires-in-Number : goal.read_count-requires-in-Number
-read_count-requires-in-Number c = search (end-there, rules)
+pub read_count-requires-in-Ok : goal.read_count-requires-in-Ok
+read_count-requires-in-Ok c = search (end-there, rules)
 
-pub returns-in-Refused : goal.returns-in-Refused
-returns-in-Refused c = search (siou-refused, rules)
+pub returns-in-Err : goal.returns-in-Err
+returns-in-Err c = search (siou-refused, rules)
 
 pub returns-else-not-siou_is_sound : goal.returns-else-not-siou_is_sound
 returns-else-not-siou_is_sound c = search (siou-on, rules)

@@ -5,11 +5,11 @@ use Rattle.kept.proofs.store_areas.Goals as goal
 pub loop-i-init : goal.loop-i-init
 loop-i-init c = search (store-start, rules)
 
-pub shape_of-bytes-in-Refused : goal.shape_of-bytes-in-Refused
-shape_of-bytes-in-Refused c = search (store_length, rules)
+pub shape_of-bytes-in-Err : goal.shape_of-bytes-in-Err
+shape_of-bytes-in-Err c = search (store_length, rules)
 
-pub returns-in-Refused : goal.returns-in-Refused
-returns-in-Refused c = search (store-never, rules)
+pub returns-in-Err : goal.returns-in-Err
+returns-in-Err c = search (store-never, rules)
 
 pub loop-i-preserved : goal.loop-i-preserved
 loop-i-preserved c = search (store-turn, rules)

@@ -3,8 +3,8 @@ use borrow.Author.Rules.{rules}
 use Rattle.prepare.proofs.Returns.{answered-accepted, answered-refused}
 use Rattle.prepare.proofs.answered.Goals as goal
 
-pub returns-in-Accepted : goal.returns-in-Accepted
-returns-in-Accepted c = search (answered-accepted, rules)
+pub returns-in-Ok : goal.returns-in-Ok
+returns-in-Ok c = search (answered-accepted, rules)
 
-pub returns-in-Refused : goal.returns-in-Refused
-returns-in-Refused c = search (answered-refused, rules)
+pub returns-in-Err : goal.returns-in-Err
+returns-in-Err c = search (answered-refused, rules)

@@ -3,8 +3,8 @@ use Rattle.quick.proofs.Judging.{hpac-arm}
 use borrow.Author.Rules.{rules}
 use Rattle.quick.proofs.judge_hpac.Goals as goal
 
-pub returns-in-Known : goal.returns-in-Known
-returns-in-Known c = search (hpac-arm, rules)
+pub returns-in-Some : goal.returns-in-Some
+returns-in-Some c = search (hpac-arm, rules)
 
-pub returns-in-Unknown : goal.returns-in-Unknown
-returns-in-Unknown c = search (hpac-arm, rules)
+pub returns-in-None : goal.returns-in-None
+returns-in-None c = search (hpac-arm, rules)

@@ -3,8 +3,8 @@ use Rattle.quick.proofs.Judging.{ocb-arm}
 use borrow.Author.Rules.{rules}
 use Rattle.quick.proofs.judge_ocb.Goals as goal
 
-pub returns-in-Known : goal.returns-in-Known
-returns-in-Known c = search (ocb-arm, rules)
+pub returns-in-Some : goal.returns-in-Some
+returns-in-Some c = search (ocb-arm, rules)
 
-pub returns-in-Unknown : goal.returns-in-Unknown
-returns-in-Unknown c = search (ocb-arm, rules)
+pub returns-in-None : goal.returns-in-None
+returns-in-None c = search (ocb-arm, rules)

@@ -3,8 +3,8 @@ use Rattle.runlog.proofs.Wanting.{job-usage, job-run}
 use borrow.Author.Rules.{rules}
 use Rattle.runlog.proofs.desk_by.Goals as goal
 
-pub returns-in-Refused : goal.returns-in-Refused
-returns-in-Refused c = search (job-usage, rules)
+pub returns-in-Err : goal.returns-in-Err
+returns-in-Err c = search (job-usage, rules)
 
-pub returns-in-Made : goal.returns-in-Made
-returns-in-Made c = search (job-run, rules)
+pub returns-in-Ok : goal.returns-in-Ok
+returns-in-Ok c = search (job-run, rules)

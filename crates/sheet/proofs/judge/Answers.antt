@@ -9,5 +9,5 @@ returns-then-bad_length c = search (judge-length, rules)
 pub judge_known-requires : goal.judge_known-requires
 judge_known-requires c = search (is_known, is-good, rules)
 
-pub returns-in-Unknown : goal.returns-in-Unknown
-returns-in-Unknown c = search (judge-unknown, rules)
+pub returns-in-None : goal.returns-in-None
+returns-in-None c = search (judge-unknown, rules)

@@ -6,8 +6,8 @@ use Rattle.sheet.proofs.judge_known.Goals as goal
 pub judge_from-requires : goal.judge_from-requires
 judge_from-requires c = search (good_length, rules)
 
-pub returns-in-Unknown : goal.returns-in-Unknown
-returns-in-Unknown c = search (judge-quick, judge-machine, rules)
+pub returns-in-None : goal.returns-in-None
+returns-in-None c = search (judge-quick, judge-machine, rules)
 
-pub returns-in-Reads : goal.returns-in-Reads
-returns-in-Reads c = search (judge-quick, judge-machine, rules)
+pub returns-in-Some : goal.returns-in-Some
+returns-in-Some c = search (judge-quick, judge-machine, rules)

@@ -12,8 +12,8 @@ returns-then-width-eq0 c = search (turn-done, rules)
 pub returns-then-total-pos : goal.returns-then-total-pos
 returns-then-total-pos c = search (turn-short, rules)
 
-pub returns-in-Fault : goal.returns-in-Fault
-returns-in-Fault c = search (turn-fault, rules)
+pub returns-in-Err : goal.returns-in-Err
+returns-in-Err c = search (turn-fault, rules)
 
 pub loop-s-smaller : goal.loop-s-smaller
 loop-s-smaller c = omega arith

@@ -9,8 +9,8 @@ overflow_add-bytes c = search (count_small, rules)
 pub returns-then-bad_length : goal.returns-then-bad_length
 returns-then-bad_length c = search (keep-length, rules)
 
-pub returns-in-Fault : goal.returns-in-Fault
-returns-in-Fault c = search (keep-fault, rules)
+pub returns-in-Err : goal.returns-in-Err
+returns-in-Err c = search (keep-fault, rules)
 
 pub returns-else-bad_length : goal.returns-else-bad_length
 returns-else-bad_length c = search (keep-whole, rules)

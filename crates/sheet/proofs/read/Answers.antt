@@ -13,5 +13,5 @@ returns-then-bad_length c = two (λ a b. record { value = a; sheet_after = b }) 
 pub read_known-requires : goal.read_known-requires
 read_known-requires c = search (is_known, is-good, rules)
 
-pub returns-in-Unknown : goal.returns-in-Unknown
-returns-in-Unknown c = two (λ a b. record { value = a; sheet_after = b }) (both (search (read-unknown, rules)))
+pub returns-in-None : goal.returns-in-None
+returns-in-None c = two (λ a b. record { value = a; sheet_after = b }) (both (search (read-unknown, rules)))

@@ -4,8 +4,8 @@ use borrow.Author.Rules.{rules}
 use Rattle.bits.proofs.Clauses.{two}
 use Rattle.sheet.proofs.read_known.Goals as goal
 
-pub returns-in-Refused : goal.returns-in-Refused
-returns-in-Refused c = two (λ a b. record { value = a; sheet_after = b }) (both (search (read-refused, read-stored, rules)))
+pub returns-in-Err : goal.returns-in-Err
+returns-in-Err c = two (λ a b. record { value = a; sheet_after = b }) (both (search (read-refused, read-stored, rules)))
 
-pub returns-in-Read : goal.returns-in-Read
-returns-in-Read c = two (λ a b. record { value = a; sheet_after = b }) (both (search (read-refused, read-stored, rules)))
+pub returns-in-Ok : goal.returns-in-Ok
+returns-in-Ok c = two (λ a b. record { value = a; sheet_after = b }) (both (search (read-refused, read-stored, rules)))

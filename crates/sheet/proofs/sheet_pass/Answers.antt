@@ -3,8 +3,8 @@ use Rattle.sheet.proofs.Writing.{sheet-known, sheet-unknown}
 use borrow.Author.Rules.{rules}
 use Rattle.sheet.proofs.sheet_pass.Goals as goal
 
-pub returns-in-Unknown : goal.returns-in-Unknown
-returns-in-Unknown c = search (sheet-known, sheet-unknown, rules)
+pub returns-in-None : goal.returns-in-None
+returns-in-None c = search (sheet-known, sheet-unknown, rules)
 
-pub returns-in-Known : goal.returns-in-Known
-returns-in-Known c = search (sheet-known, sheet-unknown, rules)
+pub returns-in-Some : goal.returns-in-Some
+returns-in-Some c = search (sheet-known, sheet-unknown, rules)

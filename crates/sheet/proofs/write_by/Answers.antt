@@ -13,10 +13,10 @@ overflow_sub-fill c = search (fill-under, rules)
 pub overflow_cast-fill : goal.overflow_cast-fill
 overflow_cast-fill c = search (fill-few, rules)
 
-pub returns-in-Refused : goal.returns-in-Refused
-returns-in-Refused c = search (whole-refused, rules)
+pub returns-in-Err : goal.returns-in-Err
+returns-in-Err c = search (whole-refused, rules)
 
-pub returns-in-Written : goal.returns-in-Written
-returns-in-Written c =
-    whole-written _ _ c.in-Written.ensures _ _ refl c.put.new.s _ c.requires.0 c.requires.1 c.keep_sheet-judged.auto.aside c.put.auto.s c.put.ensures.s_after
-    (ap (λ x. x ++ drop c.in-Written.bytes c.args.out.now) c.copy_from_slice.ensures.after)
+pub returns-in-Ok : goal.returns-in-Ok
+returns-in-Ok c =
+    whole-written _ _ c.in-Ok.ensures _ _ refl c.put.new.s _ c.requires.0 c.requires.1 c.keep_sheet-judged.auto.aside c.put.auto.s c.put.ensures.s_after
+    (ap (λ x. x ++ drop c.in-Ok.bytes c.args.out.now) c.copy_from_slice.ensures.after)

@@ -5,10 +5,10 @@ use Rattle.export.specs.Stored.{laid-there}
 use borrow.Author.Rules.{rules}
 use Rattle.export.proofs.books.tell_kept.Goals as goal
 
-pub returns-in-Bytes : goal.returns-in-Bytes
+pub returns-in-Ok : goal.returns-in-Ok
 unfolding told_kept
-returns-in-Bytes c = search (number_in told_kept, numbers-in told_kept, laid-there, cons-as, rules)
+returns-in-Ok c = search (number_in told_kept, numbers-in told_kept, laid-there, cons-as, rules)
 
-pub returns-in-Refused : goal.returns-in-Refused
+pub returns-in-Err : goal.returns-in-Err
 unfolding told_kept
-returns-in-Refused c = search (number_in told_kept, numbers-in told_kept, laid_none, rules)
+returns-in-Err c = search (number_in told_kept, numbers-in told_kept, laid_none, rules)

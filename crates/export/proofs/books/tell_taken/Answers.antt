@@ -5,10 +5,10 @@ use Rattle.export.specs.Stored.{book-there}
 use borrow.Author.Rules.{rules}
 use Rattle.export.proofs.books.tell_taken.Goals as goal
 
-pub returns-in-Holds : goal.returns-in-Holds
+pub returns-in-Ok : goal.returns-in-Ok
 unfolding told_taken
-returns-in-Holds c = search (number_in told_taken, numbers-in told_taken, book-there, rules)
+returns-in-Ok c = search (number_in told_taken, numbers-in told_taken, book-there, rules)
 
-pub returns-in-Refused : goal.returns-in-Refused
+pub returns-in-Err : goal.returns-in-Err
 unfolding told_taken
-returns-in-Refused c = search (number_in told_taken, numbers-in told_taken, laid_none, rules)
+returns-in-Err c = search (number_in told_taken, numbers-in told_taken, laid_none, rules)

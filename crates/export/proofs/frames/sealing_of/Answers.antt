@@ -4,8 +4,8 @@ use Rattle.export.proofs.Laws.{arm}
 use borrow.Author.Rules.{rules}
 use Rattle.export.proofs.frames.sealing_of.Goals as goal
 
-pub returns-in-Plain : goal.returns-in-Plain
-returns-in-Plain c = search (arm sealing_of, rules)
+pub returns-in-None : goal.returns-in-None
+returns-in-None c = search (arm sealing_of, rules)
 
-pub returns-in-Sealed : goal.returns-in-Sealed
-returns-in-Sealed c = search (arm sealing_of, rules)
+pub returns-in-Some : goal.returns-in-Some
+returns-in-Some c = search (arm sealing_of, rules)

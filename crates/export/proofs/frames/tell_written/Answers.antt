@@ -5,10 +5,10 @@ use Rattle.export.specs.Stored.{laid-there}
 use borrow.Author.Rules.{rules}
 use Rattle.export.proofs.frames.tell_written.Goals as goal
 
-pub returns-in-Frame : goal.returns-in-Frame
+pub returns-in-Ok : goal.returns-in-Ok
 unfolding told_written
-returns-in-Frame c = search (number_in told_written, numbers-in told_written, laid-there, cons-as, rules)
+returns-in-Ok c = search (number_in told_written, numbers-in told_written, laid-there, cons-as, rules)
 
-pub returns-in-Refused : goal.returns-in-Refused
+pub returns-in-Err : goal.returns-in-Err
 unfolding told_written
-returns-in-Refused c = search (number_in told_written, numbers-in told_written, laid_none, rules)
+returns-in-Err c = search (number_in told_written, numbers-in told_written, laid_none, rules)

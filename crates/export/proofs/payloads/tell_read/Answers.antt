@@ -5,10 +5,10 @@ use Rattle.export.specs.Stored.{laid-there}
 use borrow.Author.Rules.{rules}
 use Rattle.export.proofs.payloads.tell_read.Goals as goal
 
-pub returns-in-Read : goal.returns-in-Read
+pub returns-in-Ok : goal.returns-in-Ok
 unfolding told_read
-returns-in-Read c = search (number_in told_read, numbers-in told_read, laid-there, cons-as, rules)
+returns-in-Ok c = search (number_in told_read, numbers-in told_read, laid-there, cons-as, rules)
 
-pub returns-in-Refused : goal.returns-in-Refused
+pub returns-in-Err : goal.returns-in-Err
 unfolding told_read
-returns-in-Refused c = search (number_in told_read, numbers-in told_read, laid_none, rules)
+returns-in-Err c = search (number_in told_read, numbers-in told_read, laid_none, rules)

@@ -5,10 +5,10 @@ use Rattle.exportdesk.specs.Stored.{desk-there}
 use borrow.Author.Rules.{rules}
 use Rattle.exportdesk.proofs.desks.tell_new.Goals as goal
 
-pub returns-in-Made : goal.returns-in-Made
+pub returns-in-Ok : goal.returns-in-Ok
 unfolding told_new
-returns-in-Made c = search (number_in told_new, numbers-in told_new, desk-there, rules)
+returns-in-Ok c = search (number_in told_new, numbers-in told_new, desk-there, rules)
 
-pub returns-in-Refused : goal.returns-in-Refused
+pub returns-in-Err : goal.returns-in-Err
 unfolding told_new
-returns-in-Refused c = search (number_in told_new, numbers-in told_new, laid_none, rules)
+returns-in-Err c = search (number_in told_new, numbers-in told_new, laid_none, rules)

@@ -6,10 +6,10 @@ use Rattle.exportdesk.specs.Stored.{desk-there}
 use borrow.Author.Rules.{rules}
 use Rattle.exportdesk.proofs.desks.tell_taken.Goals as goal
 
-pub returns-in-Accepted : goal.returns-in-Accepted
+pub returns-in-Ok : goal.returns-in-Ok
 unfolding told_said
-returns-in-Accepted c = search (said-number, said-numbers, desk-there, rules)
+returns-in-Ok c = search (said-number, said-numbers, desk-there, rules)
 
-pub returns-in-Refused : goal.returns-in-Refused
+pub returns-in-Err : goal.returns-in-Err
 unfolding told_said
-returns-in-Refused c = search (said-number, said-numbers, laid_none, rules)
+returns-in-Err c = search (said-number, said-numbers, laid_none, rules)

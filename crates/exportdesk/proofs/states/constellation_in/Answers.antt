@@ -3,8 +3,8 @@ use Rattle.exportdesk.proofs.Thirteen.{constellation-known, constellation-unknow
 use borrow.Author.Rules.{rules}
 use Rattle.exportdesk.proofs.states.constellation_in.Goals as goal
 
-pub returns-in-Known : goal.returns-in-Known
-returns-in-Known c = search (constellation-known, rules)
+pub returns-in-Some : goal.returns-in-Some
+returns-in-Some c = search (constellation-known, rules)
 
-pub returns-in-Unknown : goal.returns-in-Unknown
-returns-in-Unknown c = search (constellation-unknown, rules)
+pub returns-in-None : goal.returns-in-None
+returns-in-None c = search (constellation-unknown, rules)

@@ -4,8 +4,8 @@ use Rattle.export.proofs.Laws.{arm}
 use borrow.Author.Rules.{rules}
 use Rattle.exportdesk.proofs.states.run_book.Goals as goal
 
-pub returns-in-Closed : goal.returns-in-Closed
-returns-in-Closed c = search (arm run_book, rules)
+pub returns-in-None : goal.returns-in-None
+returns-in-None c = search (arm run_book, rules)
 
-pub returns-in-Open : goal.returns-in-Open
-returns-in-Open c = search (arm run_book, rules)
+pub returns-in-Some : goal.returns-in-Some
+returns-in-Some c = search (arm run_book, rules)

@@ -5,38 +5,38 @@ use Rattle.exportviews.proofs.Laws.{number_of, numbers_of, floats-of}
 use borrow.Author.Rules.{rules}
 use Rattle.exportviews.proofs.areas.tell_gad.Goals as goal
 
-pub returns-in-Is-clause-value : goal.returns-in-Is-clause-value
+pub returns-in-Ok-Some-clause-value : goal.returns-in-Ok-Some-clause-value
 unfolding told_gad
-returns-in-Is-clause-value c = search (number_of told_gad, rules)
+returns-in-Ok-Some-clause-value c = search (number_of told_gad, rules)
 
-pub returns-in-Is-clause-view_after : goal.returns-in-Is-clause-view_after
+pub returns-in-Ok-Some-clause-view_after : goal.returns-in-Ok-Some-clause-view_after
 unfolding told_gad
-returns-in-Is-clause-view_after c = search (numbers_of told_gad, rules)
+returns-in-Ok-Some-clause-view_after c = search (numbers_of told_gad, rules)
 
-pub returns-in-Is-clause-floats_after : goal.returns-in-Is-clause-floats_after
+pub returns-in-Ok-Some-clause-floats_after : goal.returns-in-Ok-Some-clause-floats_after
 unfolding told_gad
-returns-in-Is-clause-floats_after c = search (floats-of told_gad, rules)
+returns-in-Ok-Some-clause-floats_after c = search (floats-of told_gad, rules)
 
-pub returns-in-Absent-clause-value : goal.returns-in-Absent-clause-value
+pub returns-in-Ok-None-clause-value : goal.returns-in-Ok-None-clause-value
 unfolding told_gad
-returns-in-Absent-clause-value c = search (number_of told_gad, rules)
+returns-in-Ok-None-clause-value c = search (number_of told_gad, rules)
 
-pub returns-in-Absent-clause-view_after : goal.returns-in-Absent-clause-view_after
+pub returns-in-Ok-None-clause-view_after : goal.returns-in-Ok-None-clause-view_after
 unfolding told_gad
-returns-in-Absent-clause-view_after c = search (numbers_of told_gad, rules)
+returns-in-Ok-None-clause-view_after c = search (numbers_of told_gad, rules)
 
-pub returns-in-Absent-clause-floats_after : goal.returns-in-Absent-clause-floats_after
+pub returns-in-Ok-None-clause-floats_after : goal.returns-in-Ok-None-clause-floats_after
 unfolding told_gad
-returns-in-Absent-clause-floats_after c = search (floats-of told_gad, laid_none, rules)
+returns-in-Ok-None-clause-floats_after c = search (floats-of told_gad, laid_none, rules)
 
-pub returns-in-Refused-clause-value : goal.returns-in-Refused-clause-value
+pub returns-in-Err-clause-value : goal.returns-in-Err-clause-value
 unfolding told_gad
-returns-in-Refused-clause-value c = search (number_of told_gad, rules)
+returns-in-Err-clause-value c = search (number_of told_gad, rules)
 
-pub returns-in-Refused-clause-view_after : goal.returns-in-Refused-clause-view_after
+pub returns-in-Err-clause-view_after : goal.returns-in-Err-clause-view_after
 unfolding told_gad
-returns-in-Refused-clause-view_after c = search (numbers_of told_gad, laid_none, rules)
+returns-in-Err-clause-view_after c = search (numbers_of told_gad, laid_none, rules)
 
-pub returns-in-Refused-clause-floats_after : goal.returns-in-Refused-clause-floats_after
+pub returns-in-Err-clause-floats_after : goal.returns-in-Err-clause-floats_after
 unfolding told_gad
-returns-in-Refused-clause-floats_after c = search (floats-of told_gad, laid_none, rules)
+returns-in-Err-clause-floats_after c = search (floats-of told_gad, laid_none, rules)

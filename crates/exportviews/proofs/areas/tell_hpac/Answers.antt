@@ -4,14 +4,14 @@ use Rattle.export.proofs.Laws.{number_in, numbers-in, laid_none}
 use borrow.Author.Rules.{rules}
 use Rattle.exportviews.proofs.areas.tell_hpac.Goals as goal
 
-pub returns-in-Is : goal.returns-in-Is
+pub returns-in-Ok-Some : goal.returns-in-Ok-Some
 unfolding told_hpac
-returns-in-Is c = search (number_in told_hpac, numbers-in told_hpac, rules)
+returns-in-Ok-Some c = search (number_in told_hpac, numbers-in told_hpac, rules)
 
-pub returns-in-Absent : goal.returns-in-Absent
+pub returns-in-Ok-None : goal.returns-in-Ok-None
 unfolding told_hpac
-returns-in-Absent c = search (number_in told_hpac, numbers-in told_hpac, rules)
+returns-in-Ok-None c = search (number_in told_hpac, numbers-in told_hpac, rules)
 
-pub returns-in-Refused : goal.returns-in-Refused
+pub returns-in-Err : goal.returns-in-Err
 unfolding told_hpac
-returns-in-Refused c = search (number_in told_hpac, numbers-in told_hpac, laid_none, rules)
+returns-in-Err c = search (number_in told_hpac, numbers-in told_hpac, laid_none, rules)

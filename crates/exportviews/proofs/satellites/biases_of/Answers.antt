@@ -1,5 +1,5 @@
 -- No biases, or those of the block.
 use Rattle.exportviews.proofs.satellites.biases_of.Goals as goal
 
-pub returns-in-Absent : goal.returns-in-Absent
-returns-in-Absent c = cc
+pub returns-in-None : goal.returns-in-None
+returns-in-None c = cc

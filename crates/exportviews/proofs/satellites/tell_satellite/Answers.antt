@@ -5,26 +5,26 @@ use Rattle.exportviews.proofs.Laws.{number_of, numbers_of, floats-of}
 use borrow.Author.Rules.{rules}
 use Rattle.exportviews.proofs.satellites.tell_satellite.Goals as goal
 
-pub returns-in-Is-clause-value : goal.returns-in-Is-clause-value
+pub returns-in-Ok-clause-value : goal.returns-in-Ok-clause-value
 unfolding told_satellite
-returns-in-Is-clause-value c = search (number_of told_satellite, rules)
+returns-in-Ok-clause-value c = search (number_of told_satellite, rules)
 
-pub returns-in-Is-clause-view_after : goal.returns-in-Is-clause-view_after
+pub returns-in-Ok-clause-view_after : goal.returns-in-Ok-clause-view_after
 unfolding told_satellite
-returns-in-Is-clause-view_after c = search (numbers_of told_satellite, rules)
+returns-in-Ok-clause-view_after c = search (numbers_of told_satellite, rules)
 
-pub returns-in-Is-clause-floats_after : goal.returns-in-Is-clause-floats_after
+pub returns-in-Ok-clause-floats_after : goal.returns-in-Ok-clause-floats_after
 unfolding told_satellite
-returns-in-Is-clause-floats_after c = search (floats-of told_satellite, rules)
+returns-in-Ok-clause-floats_after c = search (floats-of told_satellite, rules)
 
-pub returns-in-Refused-clause-value : goal.returns-in-Refused-clause-value
+pub returns-in-Err-clause-value : goal.returns-in-Err-clause-value
 unfolding told_satellite
-returns-in-Refused-clause-value c = search (number_of told_satellite, rules)
+returns-in-Err-clause-value c = search (number_of told_satellite, rules)
 
-pub returns-in-Refused-clause-view_after : goal.returns-in-Refused-clause-view_after
+pub returns-in-Err-clause-view_after : goal.returns-in-Err-clause-view_after
 unfolding told_satellite
-returns-in-Refused-clause-view_after c = search (numbers_of told_satellite, laid_none, rules)
+returns-in-Err-clause-view_after c = search (numbers_of told_satellite, laid_none, rules)
 
-pub returns-in-Refused-clause-floats_after : goal.returns-in-Refused-clause-floats_after
+pub returns-in-Err-clause-floats_after : goal.returns-in-Err-clause-floats_after
 unfolding told_satellite
-returns-in-Refused-clause-floats_after c = search (floats-of told_satellite, laid_none, rules)
+returns-in-Err-clause-floats_after c = search (floats-of told_satellite, laid_none, rules)

@@ -6,8 +6,8 @@ use Rattle.sheet.proofs.row.write_groups.Goals as goal
 pub loop-why-init : goal.loop-why-init
 loop-why-init c = search (rounds-first, rules)
 
-pub returns-in-Stopped : goal.returns-in-Stopped
-returns-in-Stopped c = search (rounds-fault, rules)
+pub returns-in-Err : goal.returns-in-Err
+returns-in-Err c = search (rounds-fault, rules)
 
 pub returns-then-more-eq0 : goal.returns-then-more-eq0
 returns-then-more-eq0 c = search (rounds-done, rules)

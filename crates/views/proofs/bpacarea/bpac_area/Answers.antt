@@ -3,8 +3,8 @@ use Rattle.views.proofs.Bpacs.{bpac-refused, bpac-said}
 use borrow.Author.Rules.{rules}
 use Rattle.views.proofs.bpacarea.bpac_area.Goals as goal
 
-pub returns-in-Refused : goal.returns-in-Refused
-returns-in-Refused c = search (bpac-refused, rules)
+pub returns-in-Err : goal.returns-in-Err
+returns-in-Err c = search (bpac-refused, rules)
 
-pub returns-in-At : goal.returns-in-At
-returns-in-At c = search (bpac-said, rules)
+pub returns-in-Ok : goal.returns-in-Ok
+returns-in-Ok c = search (bpac-said, rules)

@@ -3,8 +3,8 @@ use Rattle.views.proofs.Gads.{gad-refused, gad-said}
 use borrow.Author.Rules.{rules}
 use Rattle.views.proofs.gadarea.gad_area.Goals as goal
 
-pub returns-in-Refused : goal.returns-in-Refused
-returns-in-Refused c = search (gad-refused, rules)
+pub returns-in-Err : goal.returns-in-Err
+returns-in-Err c = search (gad-refused, rules)
 
-pub returns-in-At : goal.returns-in-At
-returns-in-At c = search (gad-said, rules)
+pub returns-in-Ok : goal.returns-in-Ok
+returns-in-Ok c = search (gad-said, rules)

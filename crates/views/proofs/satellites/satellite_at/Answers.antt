@@ -6,11 +6,11 @@ use Rattle.views.proofs.satellites.satellite_at.Goals as goal
 pub nth_satellite-requires : goal.nth_satellite-requires
 nth_satellite-requires c = search (satellite-listed, rules)
 
-pub returns-in-Refused : goal.returns-in-Refused
-returns-in-Refused c = search (satellite-refused, rules)
+pub returns-in-Err : goal.returns-in-Err
+returns-in-Err c = search (satellite-refused, rules)
 
-pub returns-in-Unknown : goal.returns-in-Unknown
-returns-in-Unknown c = search (satellite-unknown, rules)
+pub returns-in-None : goal.returns-in-None
+returns-in-None c = search (satellite-unknown, rules)
 
-pub returns-in-Known : goal.returns-in-Known
-returns-in-Known c = search (satellite-said, rules)
+pub returns-in-Some : goal.returns-in-Some
+returns-in-Some c = search (satellite-said, rules)

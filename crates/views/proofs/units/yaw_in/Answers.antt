@@ -3,8 +3,8 @@ use Rattle.views.proofs.Entries.{yaw-is, yaw-refused}
 use borrow.Author.Rules.{rules}
 use Rattle.views.proofs.units.yaw_in.Goals as goal
 
-pub returns-in-Is : goal.returns-in-Is
-returns-in-Is c = search (yaw-is, rules)
+pub returns-in-Ok : goal.returns-in-Ok
+returns-in-Ok c = search (yaw-is, rules)
 
-pub returns-in-Refused : goal.returns-in-Refused
-returns-in-Refused c = search (yaw-refused, rules)
+pub returns-in-Err : goal.returns-in-Err
+returns-in-Err c = search (yaw-refused, rules)
