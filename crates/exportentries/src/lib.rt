@@ -43,7 +43,7 @@ fn count_in(troposphere: Troposphere) -> u64
 {
     match troposphere {
         None => 0,
-        Some(Grid {t, _}) => t,
+        Some(Grid { count, size: _ }) => count,
     }
 }
 
@@ -52,7 +52,7 @@ fn size_in(troposphere: Troposphere) -> u64
 {
     match troposphere {
         None => 0,
-        Some(Grid {_, size}) => size,
+        Some(Grid { count: _, size }) => size,
     }
 }
 

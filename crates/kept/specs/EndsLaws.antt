@@ -135,11 +135,11 @@ module _ (numbers : List ℕ) (f : ℕ) (book : Book) (l : List ℕ) (w : Says f
 
 -- ---- with every AIOU, and with none, there is a sound book, and with every SIOU that is sound beside it
 
-record Some (f aiou siou : ℕ) : Type 0 where
+record Somewhere (f aiou siou : ℕ) : Type 0 where
   count : ℕ
   says : Says f (book_of aiou siou count)
 
-some : (f aiou siou : ℕ) → is_form f ≡ true → aiou ≤ 16 → siou_sound aiou siou ≡ true → (has_siou f || eqb siou 0) ≡ true → Some f aiou siou
+some : (f aiou siou : ℕ) → is_form f ≡ true → aiou ≤ 16 → siou_sound aiou siou ≡ true → (has_siou f || eqb siou 0) ≡ true → Somewhere f aiou siou
 unfolding head_in head_sound
 some f zero siou i h g k = record { count = 0; says = record { is-form = i; in-form = rw (g, k) } }
 some f (suc aiou) siou i h g k =
@@ -147,7 +147,7 @@ some f (suc aiou) siou i h g k =
     let z : leb (suc aiou) 16 ≡ true = le-leb (suc aiou) 16 h in
     record { count = 1; says = record { is-form = i; in-form = rw (y, g, z, k) } }
 
-module _ (f aiou siou : ℕ) (w : Some f aiou siou) where
+module _ (f aiou siou : ℕ) (w : Somewhere f aiou siou) where
   some-row : Row w.count 0 (following w.count 0)
   some-row =
       let h : w.count ≤ most_areas = (head-parts (book_of aiou siou w.count) (in-sound f (book_of aiou siou w.count) w.says.in-form)).1 in
@@ -169,14 +169,14 @@ module _ (f : ℕ) (i : is_form f ≡ true) where
   pub at-aiou : Begins (f ∷ [])
   unfolding numbers_in
   at-aiou =
-      let w : Some f 0 0 = some f 0 0 i (omega arith) (siou-unknown 0) (unknown f) in
+      let w : Somewhere f 0 0 = some f 0 0 i (omega arith) (siou-unknown 0) (unknown f) in
       some-begins f 0 0 w (f ∷ []) 0 (cond (has_siou f) (0 ∷ w.count ∷ following w.count 0) (w.count ∷ following w.count 0)) refl
 
   module _ (aiou : ℕ) (h : aiou ≤ 16) where
     pub at-siou : Begins (f ∷ aiou ∷ [])
     unfolding numbers_in
     at-siou =
-        let w : Some f aiou 0 = some f aiou 0 i h (siou-unknown aiou) (unknown f) in
+        let w : Somewhere f aiou 0 = some f aiou 0 i h (siou-unknown aiou) (unknown f) in
         some-begins f aiou 0 w (f ∷ aiou ∷ []) (cond (has_siou f) 0 w.count) (cond (has_siou f) (w.count ∷ following w.count 0) (following w.count 0))
         (ap (λ l. f ∷ aiou ∷ l) (split (has_siou f) 0 w.count (w.count ∷ following w.count 0) (following w.count 0)))
       where
@@ -186,13 +186,13 @@ module _ (f : ℕ) (i : is_form f ≡ true) where
 
     pub at_count : (siou : ℕ) → siou_sound aiou siou ≡ true → (has_siou f || eqb siou 0) ≡ true → Begins (head_of f aiou siou)
     at_count siou g k =
-        let w : Some f aiou siou = some f aiou siou i h g k in
+        let w : Somewhere f aiou siou = some f aiou siou i h g k in
         some-begins f aiou siou w (head_of f aiou siou) w.count (following w.count 0) (numbers-head f (book_of aiou siou w.count) (following w.count 0))
 
 pub at-form : Begins []
 unfolding numbers_in
 at-form =
-    let w : Some newest_form 0 0 = some newest_form 0 0 refl (omega arith) (siou-unknown 0) (unknown newest_form) in
+    let w : Somewhere newest_form 0 0 = some newest_form 0 0 refl (omega arith) (siou-unknown 0) (unknown newest_form) in
     some-begins newest_form 0 0 w [] newest_form (0 ∷ 0 ∷ w.count ∷ following w.count 0) refl
 
 -- what begins, can follow

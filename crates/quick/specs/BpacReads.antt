@@ -17,7 +17,7 @@ use Rattle.quick.specs.Passes.{Full, Has, Passes, run_from, run-field, has-full,
 use Rattle.quick.specs.Codes.{full, full-free, ranged, has-up-to}
 use Rattle.quick.specs.declared.behind.Behind.{Behind}
 use Rattle.quick.specs.Behind.{repeated}
-use Rattle.quick.specs.Passed.{Passed, Some, some_after, passed-if, passed-after, passes-from, passes-wide, has-wide, has-below, reads_whole}
+use Rattle.quick.specs.Passed.{Passed, Somewhere, some_after, passed-if, passed-after, passes-from, passes-wide, has-wide, has-below, reads_whole}
 use Rattle.quick.specs.Bpac.{head_fits, last_node, set_in, vtecs_end, vtecs_behind, nodes_behind, area_behind, bpac_of}
 
 -- ---- VTEC blocks
@@ -192,7 +192,7 @@ module _ {A : Type 0} (payload : List ℕ) where
       subst (λ last. Passed {A = A} payload (nodes_part (suc rows * suc columns)) pos at (nodes_behind payload last pos at)) e
       (nodes-passed payload (suc rows * suc columns) pos at)
 
-  area-passed : (pos at : ℕ) → Some (area_behind payload pos at) → Passed {A = A} payload bpac.area pos at (area_behind payload pos at)
+  area-passed : (pos at : ℕ) → Somewhere (area_behind payload pos at) → Passed {A = A} payload bpac.area pos at (area_behind payload pos at)
   unfolding area_behind sf line_of find table
   area-passed pos at s =
       let head : ℕ = got payload pos 43 in
@@ -226,7 +226,7 @@ module _ {A : Type 0} (payload : List ℕ) where
             }) (passes-from (pos + 2 + 8 + 9 + 4 + 4 + 2 + 2 + 12) (omega arith) b.passes)))))))));
       })
 
-  areas-passed : (n pos at : ℕ) → Some (repeated (area_behind payload) n pos at)
+  areas-passed : (n pos at : ℕ) → Somewhere (repeated (area_behind payload) n pos at)
       → Passed {A = A} payload (times n bpac.area) pos at (repeated (area_behind payload) n pos at)
   unfolding repeated
   areas-passed zero pos at s = record { entries = 0; count = omega arith; passes = times_none bpac.area pos }
@@ -241,7 +241,7 @@ module _ {A : Type 0} (payload : List ℕ) where
 
   -- ---- the whole message
 
-  bpac-passed : (n : ℕ) → n ≡ got payload 12 2 + 1 → Some (repeated (area_behind payload) n 14 4)
+  bpac-passed : (n : ℕ) → n ≡ got payload 12 2 + 1 → Somewhere (repeated (area_behind payload) n 14 4)
       → Passed {A = A} payload bpac.bpac 0 0 (repeated (area_behind payload) n 14 4)
   unfolding sf line_of find table
   bpac-passed n e s =

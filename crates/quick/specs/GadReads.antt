@@ -5,6 +5,8 @@ use Rattle.std.proofs.Common.{ap, ap₂, ◌∙◌, subst, arith, ltb-false, leb
 use Rattle.std.proofs.lemmas.Bool.{false≢true}
 use Prim.Native.Nat.{ℕ, zero, suc, ◌+◌, ◌*◌, ◌/◌, ◌%◌, ◌≤◌}
 use Rattle.std.proofs.Math.Numerals.{add-one}
+use Rattle.answer.specs.Pairs.{some-value}
+use Rattle.quick.specs.declared.Extent.{Extent}
 use Rattle.bits.specs.Bits.{to_bits, got}
 use Rattle.layout.specs.Layout.{pick}
 use Rattle.layout.specs.Parts.{times}
@@ -75,7 +77,7 @@ gad-reads payload bits entries e =
     let short = unless (ltb (length payload) ((19 + 47 * n + 7) / 8)) _ bits entries e in
     let fit = where-fit (blocks_fit payload n 19) _ bits entries short.1 in
     let long : 19 + 47 * n ≤ 8 * length payload = omega (arith, ltb-false (length payload) ((19 + 47 * n + 7) / 8) short.0) in
-    let b : 19 + 47 * n ≡ bits = cc fit.1 in
-    let c : 4 + 7 * n ≡ entries = cc fit.1 in
+    let b : 19 + 47 * n ≡ bits = ap (λ (x : Extent). x.bits) (some-value fit.1) in
+    let c : 4 + 7 * n ≡ entries = ap (λ (x : Extent). x.entries) (some-value fit.1) in
     let d : suc (suc (suc (suc (7 * n)))) ≡ entries = omega (arith, c) in
     passes-whole (gad-passes payload n refl fit.0) long gad_message ∙ ap₂ (λ (x y : ℕ). finished x y []) d b

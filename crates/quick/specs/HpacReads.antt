@@ -1,7 +1,7 @@
 -- Serves proofs, and is proved: an HPAC that for_hpac.rt passes reads by its layout, to that bit and in so many entries.
 use Rattle.std.specs.Prelude.{◌≡◌, Bool, eqb, ltb, leb, Some}
 use Rattle.std.proofs.Math.Path.{refl, ap, subst}
-use Rattle.std.proofs.Common.{ap₂, sym, ◌∙◌, zero-mul, suc-mul, mul_comm, div-one}
+use Rattle.std.proofs.Common.{ap, ap₂, sym, ◌∙◌, zero-mul, suc-mul, mul_comm, div-one}
 use Rattle.std.proofs.Math.Bool.{true, false}
 use mathlib.Core.List.{List, [], ◌∷◌}
 use Prim.Native.Nat.{ℕ, zero, suc, ◌+◌, ◌-◌, ◌*◌, ◌/◌, ◌%◌, ◌^◌, ◌≤◌, ◌<◌}
@@ -13,6 +13,8 @@ use Rattle.std.specs.Int.Count.{ones}
 use Rattle.std.proofs.Math.Dec.{lit≤}
 use Rattle.std.proofs.Math.ListN.{length}
 use Rattle.std.proofs.Math.Pow.{shr_mod}
+use Rattle.answer.specs.Pairs.{some-value}
+use Rattle.quick.specs.declared.Extent.{Extent}
 use Rattle.bits.specs.Bits.{to_bits, got}
 use Rattle.layout.specs.declared.Field.{Field}
 use Rattle.layout.specs.Layout.{Layout, field, pick}
@@ -611,7 +613,7 @@ whole bytes b bits entries e =
     let p = unless (eqb b.end 0) _ bits entries e in
     let q = unless (ltb bytes ((b.end + 7) / 8)) _ bits entries p.1 in
     let long : (b.end + 7) / 8 ≤ bytes = ltb-false bytes ((b.end + 7) / 8) q.0 in
-    record { some = eqb-false b.end 0 p.0; there = omega arith; bit = cc q.1; entry = cc q.1 }
+    record { some = eqb-false b.end 0 p.0; there = omega arith; bit = ap (λ (x : Extent). x.bits) (some-value q.1); entry = ap (λ (x : Extent). x.entries) (some-value q.1) }
 
 pub hpac-reads : (c : Constellation) (payload : List ℕ) (bits entries : ℕ) → hpac_quick c payload ≡ Some (record { bits = bits; entries = entries })
     → run_l (hpac_layout c) (to_bits payload) 0 0 [] ≡ finished entries bits []

@@ -28,7 +28,7 @@ use Rattle.quick.specs.Passes.{Full, Has, Passes, has-full, taken-up-to, taken-e
 use Rattle.quick.specs.Codes.{Ranged, full, full-free, ranged, unless, has-up-to}
 use Rattle.quick.specs.declared.behind.Behind.{Behind}
 use Rattle.quick.specs.Behind.{to, after, repeated, without}
-use Rattle.quick.specs.Passed.{Passed, Some, some_after, passed-if, passed-unless, passed-optional, passed-after, passes-from, passes-wide, has-wide, has-below, reads_whole}
+use Rattle.quick.specs.Passed.{Passed, Somewhere, some_after, passed-if, passed-unless, passed-optional, passed-after, passes-from, passes-wide, has-wide, has-below, reads_whole}
 use Rattle.codes.specs.Stepping.{counted}
 use Rattle.quick.specs.Ocb.{ephemeris_width, last_type, iode_width, three_fit, yaw_fits, yaw_if, orbit_behind, clock_behind, bias_mask, phases_after, codes_after, phases_behind, codes_behind, bias_if, clock_if, orbit_if, blocks_behind, satellite_behind, ocb_by, ocb_of}
 
@@ -134,13 +134,13 @@ module _ (payload : List ℕ) where
       t.third (omega (arith, got-part payload pos 28 14 0 (lit≤ tt) h, ap (λ (x : ℕ). got payload x 14) more))
 
 module _ {A : Type 0} (payload : List ℕ) where
-  yaw-passed : (yaw pos at : ℕ) → Some (yaw_if yaw payload pos at) → Passed {A = A} payload (optional (eqb yaw 1) (field (sf 21))) pos at (yaw_if yaw payload pos at)
+  yaw-passed : (yaw pos at : ℕ) → Somewhere (yaw_if yaw payload pos at) → Passed {A = A} payload (optional (eqb yaw 1) (field (sf 21))) pos at (yaw_if yaw payload pos at)
   unfolding yaw_if sf line_of find table
   yaw-passed yaw pos at s =
       passed-optional (eqb yaw 1) _ s (λ t. passed-if (yaw_fits (got payload pos 6)) t (λ e u.
       record { entries = 1; count = refl; passes = passes-field _ (has-yaw payload pos _ (yaw-says _ e)) (passes-end _ _) }))
 
-  orbit-passed : (c : Constellation) (yaw pos at : ℕ) → Some (orbit_behind c yaw payload pos at)
+  orbit-passed : (c : Constellation) (yaw pos at : ℕ) → Somewhere (orbit_behind c yaw payload pos at)
       → Passed {A = A} payload (ocb.orbit c yaw) pos at (orbit_behind c yaw payload pos at)
   unfolding orbit_behind sf line_of find table
   orbit-passed c yaw pos at s =
@@ -168,7 +168,7 @@ module _ {A : Type 0} (payload : List ℕ) where
 
   -- ---- a clock
 
-  clock-passed : (pos at : ℕ) → Some (clock_behind payload pos at) → Passed {A = A} payload ocb.clock pos at (clock_behind payload pos at)
+  clock-passed : (pos at : ℕ) → Somewhere (clock_behind payload pos at) → Passed {A = A} payload ocb.clock pos at (clock_behind payload pos at)
   unfolding clock_behind sf line_of find table
   clock-passed pos at s =
       passed-unless (eqb (got payload (pos + 3) 14) 16383) s (λ e u.
@@ -271,7 +271,7 @@ abbrev codes_part : {A : Type 0} → Constellation → (ocb.Mask × List ℕ →
 codes_part c k = ocb.bias_mask (code_sf c) c (λ mask. times (ones mask.bits) (field (sf 29)) (λ codes. k (mask, codes)))
 
 module _ {A : Type 0} (payload : List ℕ) where
-  phases-passed : (c : Constellation) (pos at : ℕ) → Some (phases_behind c payload pos at) → Passed {A = A} payload (phases_part c) pos at (phases_behind c payload pos at)
+  phases-passed : (c : Constellation) (pos at : ℕ) → Somewhere (phases_behind c payload pos at) → Passed {A = A} payload (phases_part c) pos at (phases_behind c payload pos at)
   unfolding phases_behind phases_after bias_mask
   phases-passed c pos at s =
       let size : ℕ = got payload pos 1 in
@@ -288,7 +288,7 @@ module _ {A : Type 0} (payload : List ℕ) where
             (passes-with (λ phases. (record { size = size; bits = mask }, phases)) (phases-pass payload (ones mask) start e)));
       })
 
-  codes-passed : (c : Constellation) (pos at : ℕ) → Some (codes_behind c payload pos at) → Passed {A = A} payload (codes_part c) pos at (codes_behind c payload pos at)
+  codes-passed : (c : Constellation) (pos at : ℕ) → Somewhere (codes_behind c payload pos at) → Passed {A = A} payload (codes_part c) pos at (codes_behind c payload pos at)
   unfolding codes_behind codes_after bias_mask
   codes-passed c pos at s =
       let size : ℕ = got payload pos 1 in
@@ -305,7 +305,7 @@ module _ {A : Type 0} (payload : List ℕ) where
             (passes-with (λ codes. (record { size = size; bits = mask }, codes)) (codes-pass payload (ones mask) start e)));
       })
 
-  bias-passed : (c : Constellation) (pos at : ℕ) → Some (after (phases_behind c payload pos at) (codes_behind c payload))
+  bias-passed : (c : Constellation) (pos at : ℕ) → Somewhere (after (phases_behind c payload pos at) (codes_behind c payload))
       → Passed {A = A} payload (ocb.bias c) pos at (after (phases_behind c payload pos at) (codes_behind c payload))
   bias-passed c pos at s =
       let b : Behind = phases_behind c payload pos at in
@@ -331,23 +331,23 @@ blocks_part c yaw present continuity k =
     k (record { continuity = continuity; orbit = orbit; clock = clock; bias = bias }))))
 
 module _ {A : Type 0} (payload : List ℕ) where
-  bias-if : (c : Constellation) (present pos at : ℕ) → Some (bias_if present c payload pos at)
+  bias-if : (c : Constellation) (present pos at : ℕ) → Somewhere (bias_if present c payload pos at)
       → Passed {A = A} payload (optional (eqb (present % 2) 1) (ocb.bias c)) pos at (bias_if present c payload pos at)
   unfolding bias_if
   bias-if c present pos at s = passed-optional (eqb (present % 2) 1) _ s (bias-passed payload c pos at)
 
-  clock-if : (present pos at : ℕ) → Some (clock_if present payload pos at)
+  clock-if : (present pos at : ℕ) → Somewhere (clock_if present payload pos at)
       → Passed {A = A} payload (optional (eqb (present / 2 % 2) 1) ocb.clock) pos at (clock_if present payload pos at)
   unfolding clock_if
   clock-if present pos at s = passed-optional (eqb (present / 2 % 2) 1) _ s (clock-passed payload pos at)
 
-  orbit-if : (c : Constellation) (yaw present pos at : ℕ) → Some (orbit_if present c yaw payload pos at)
+  orbit-if : (c : Constellation) (yaw present pos at : ℕ) → Somewhere (orbit_if present c yaw payload pos at)
       → Passed {A = A} payload (optional (eqb (present / 4 % 2) 1) (ocb.orbit c yaw)) pos at (orbit_if present c yaw payload pos at)
   unfolding orbit_if
   orbit-if c yaw present pos at s = passed-optional (eqb (present / 4 % 2) 1) _ s (orbit-passed payload c yaw pos at)
 
   -- the clock and the bias behind an orbit
-  clock-bias : (c : Constellation) (present continuity pos at : ℕ) (orbit : Part ocb.Orbit) → Some (after (clock_if present payload pos at) (bias_if present c payload))
+  clock-bias : (c : Constellation) (present continuity pos at : ℕ) (orbit : Part ocb.Orbit) → Somewhere (after (clock_if present payload pos at) (bias_if present c payload))
       → Passed {A = A} {B = ocb.Blocks} payload
       (λ k. optional (eqb (present / 2 % 2) 1) ocb.clock (λ clock. optional (eqb (present % 2) 1) (ocb.bias c) (λ bias.
       k (record { continuity = continuity; orbit = orbit; clock = clock; bias = bias }))))
@@ -366,7 +366,7 @@ module _ {A : Type 0} (payload : List ℕ) where
         passes = passes-with (λ bias. record { continuity = continuity; orbit = orbit; clock = p.passes.value; bias = bias }) q.passes;
       })
 
-  blocks-passed : (c : Constellation) (yaw present continuity pos at : ℕ) → Some (blocks_behind present c yaw payload pos at)
+  blocks-passed : (c : Constellation) (yaw present continuity pos at : ℕ) → Somewhere (blocks_behind present c yaw payload pos at)
       → Passed {A = A} payload (blocks_part c yaw present continuity) pos at (blocks_behind present c yaw payload pos at)
   unfolding blocks_behind
   blocks-passed c yaw present continuity pos at s =
@@ -381,7 +381,7 @@ module _ {A : Type 0} (payload : List ℕ) where
 
   -- by SF013
   use-passed : (c : Constellation) (yaw number pos at : ℕ) (out : Bool)
-      → Some (pick out (to (pos + 1) (at + 1)) (blocks_behind (got payload (pos + 1) 3) c yaw payload (pos + 7) (at + 3)))
+      → Somewhere (pick out (to (pos + 1) (at + 1)) (blocks_behind (got payload (pos + 1) 3) c yaw payload (pos + 7) (at + 3)))
       → Passed {A = A} {B = ocb.Satellite} payload
       (λ k. pick out (k (record { number = number; state = ocb.out_of_use })) (ocb.blocks c yaw (λ b. k (record { number = number; state = ocb.in_use b }))))
       (pos + 1) (at + 1)
@@ -399,7 +399,7 @@ module _ {A : Type 0} (payload : List ℕ) where
             (passes-with (λ x. record { number = number; state = ocb.in_use x }) (passes-from (pos + 1 + 3 + 3) (omega arith) b.passes)));
       }
 
-  satellite-passed : (c : Constellation) (yaw number pos at : ℕ) → Some (satellite_behind c yaw payload pos at)
+  satellite-passed : (c : Constellation) (yaw number pos at : ℕ) → Somewhere (satellite_behind c yaw payload pos at)
       → Passed {A = A} payload (ocb.satellite c yaw number) pos at (satellite_behind c yaw payload pos at)
   unfolding satellite_behind sf line_of find table
   satellite-passed c yaw number pos at s =
@@ -410,7 +410,7 @@ module _ {A : Type 0} (payload : List ℕ) where
         passes = passes-field (got payload pos 1) (has-full (full refl) pos _) u.passes;
       }
 
-  satellites-passed : (c : Constellation) (yaw : ℕ) (ms : List ℕ) (pos at : ℕ) → Some (repeated (satellite_behind c yaw payload) (length ms) pos at)
+  satellites-passed : (c : Constellation) (yaw : ℕ) (ms : List ℕ) (pos at : ℕ) → Somewhere (repeated (satellite_behind c yaw payload) (length ms) pos at)
       → Passed {A = A} payload (each ms (ocb.satellite c yaw)) pos at (repeated (satellite_behind c yaw payload) (length ms) pos at)
   unfolding repeated
   satellites-passed c yaw [] pos at s = record { entries = 0; count = omega arith; passes = each_none (ocb.satellite c yaw) pos }
@@ -453,14 +453,14 @@ full-mask-size Qzss = full refl
 
 -- all satellites of a mask
 masked-passed : {A : Type 0} (payload : List ℕ) (c : Constellation) (yaw size mask pos at : ℕ) → mask < 2 ^ mask_size c size
-    → Some (repeated (satellite_behind c yaw payload) (ones mask) pos at)
+    → Somewhere (repeated (satellite_behind c yaw payload) (ones mask) pos at)
     → Passed {A = A} payload (each (satellites_of c size mask) (ocb.satellite c yaw)) pos at (repeated (satellite_behind c yaw payload) (ones mask) pos at)
 masked-passed {A} payload c yaw size mask pos at h s =
     let ms : List ℕ = satellites_of c size mask in
     let part : ℕ → ℕ → Behind = satellite_behind c yaw payload in
     let e : length ms ≡ ones mask = counted (first_satellite c) (mask_size c size) mask h in
     subst (λ n. Passed {A = A} payload (each ms (ocb.satellite c yaw)) pos at (repeated part n pos at)) e
-    (satellites-passed payload c yaw ms pos at (subst (λ n. Some (repeated part n pos at)) (sym e) s))
+    (satellites-passed payload c yaw ms pos at (subst (λ n. Somewhere (repeated part n pos at)) (sym e) s))
 
 -- the code from a satellite mask of so many bits on
 abbrev ocb_behind : Constellation → (payload : List ℕ) (pos width : ℕ) → Behind
@@ -469,7 +469,7 @@ ocb_behind c payload pos width = repeated (satellite_behind c (got payload 11 1)
 module _ {A : Type 0} (payload : List ℕ) (c : Constellation) where
   ocb-passed : got payload 13 (ephemeris_width c) ≤ last_type c
       → (got payload (13 + ephemeris_width c + 2) (mask_size c (got payload (13 + ephemeris_width c) 2)) ≡ 0 → ⊥)
-      → Some (ocb_behind c payload (13 + ephemeris_width c + 2) (mask_size c (got payload (13 + ephemeris_width c) 2)))
+      → Somewhere (ocb_behind c payload (13 + ephemeris_width c + 2) (mask_size c (got payload (13 + ephemeris_width c) 2)))
       → Passed {A = A} payload (ocb.ocb c) 0 0 (ocb_behind c payload (13 + ephemeris_width c + 2) (mask_size c (got payload (13 + ephemeris_width c) 2)))
   unfolding sf line_of find table
   ocb-passed t n s =

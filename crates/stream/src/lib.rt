@@ -166,7 +166,7 @@ fn shift(bytes: &mut [u8], held: usize, start: usize)
 }
 
 // The first live byte is noise.
-fn noisy(place: Option<Place>) -> Place
+fn noisy(place: Place) -> Place
     requires { (place.start < place.held) × (place.noise < most_noise) }
     ensures { result ≡ noised place }
 {
@@ -189,7 +189,7 @@ fn least(a: usize, b: usize) -> usize
 
 // As many bytes of the input are taken into the tray as are wanted. Where they do not fit behind the live bytes, these move to the front
 // instead.
-fn take_more(bytes: &mut [u8], place: Option<Place>, input: &[u8], wanted: usize) -> Place
+fn take_more(bytes: &mut [u8], place: Place, input: &[u8], wanted: usize) -> Place
     requires standing { Standing place bytes.old input.now }
     requires wanting { Wanting place bytes.old input.now wanted }
     ensures onward { Onward (fed_from input.now) place bytes.old input.now result bytes.new }
@@ -220,7 +220,7 @@ fn take_more(bytes: &mut [u8], place: Option<Place>, input: &[u8], wanted: usize
 }
 
 // Something is said at a place, whose live bytes stay in the tray.
-fn say(place: Option<Place>, said: Said, shown: usize, noise: u32) -> Answer
+fn say(place: Place, said: Said, shown: usize, noise: u32) -> Answer
     requires { place.start ≤ place.held }
     ensures { result ≡ settled place said shown noise }
 {
@@ -236,7 +236,7 @@ fn say(place: Option<Place>, said: Said, shown: usize, noise: u32) -> Answer
 }
 
 // A frame lies first among the live bytes: it is shown, unless noise is told just before it.
-fn show(place: Option<Place>, frame: Frame) -> Answer
+fn show(place: Place, frame: Frame) -> Answer
     requires { place.start ≤ place.held }
     ensures { result ≡ shown_answer place frame }
 {
@@ -312,7 +312,7 @@ fn find_preamble(input: &[u8], from: usize, to: usize) -> usize
 }
 
 // Where no byte is live, bytes that are no preamble are noise without a check, up to a count below 65,535.
-fn pass(place: Option<Place>, input: &[u8]) -> Place
+fn pass(place: Place, input: &[u8]) -> Place
     requires { Seen place input.now }
     ensures { Along place input.now result }
 {
@@ -332,7 +332,7 @@ fn pass(place: Option<Place>, input: &[u8]) -> Place
 }
 
 // The input is used up to so many bytes from the first live one, unless more of it is used already.
-fn reach(place: Option<Place>, input: &[u8], wanted: usize) -> Place
+fn reach(place: Place, input: &[u8], wanted: usize) -> Place
     requires { Seen place input.now }
     ensures { result ≡ reached place input.now wanted }
 {
@@ -350,7 +350,7 @@ fn reach(place: Option<Place>, input: &[u8], wanted: usize) -> Place
 }
 
 // One byte is wanted in any case, and four where the first is a preamble.
-fn widen(place: Option<Place>, input: &[u8]) -> Place
+fn widen(place: Place, input: &[u8]) -> Place
     requires { Seen place input.now }
     ensures { Along place input.now result }
 {
@@ -365,7 +365,7 @@ fn widen(place: Option<Place>, input: &[u8]) -> Place
 }
 
 // What can be done without a check.
-fn ahead(place: Option<Place>, input: &[u8]) -> Place
+fn ahead(place: Place, input: &[u8]) -> Place
     requires { Seen place input.now }
     ensures { Along place input.now result }
 {
@@ -374,7 +374,7 @@ fn ahead(place: Option<Place>, input: &[u8]) -> Place
 
 // How many bytes from the first live one on tell, without a whole check, that it is noise: one that is no preamble, four with a wrong TF006. 0
 // where they do not, and where none is live, so that `pass` looks for a preamble.
-fn told_by(place: Option<Place>, input: &[u8]) -> usize
+fn told_by(place: Place, input: &[u8]) -> usize
     requires { Seen place input.now }
     ensures { Told place input.now result }
 {
@@ -399,7 +399,7 @@ fn told_by(place: Option<Place>, input: &[u8]) -> usize
 }
 
 // Behind noise, bytes that are told to be noise so are passed over, up to a count below 65,535.
-fn skip(place: Option<Place>, input: &[u8]) -> Place
+fn skip(place: Place, input: &[u8]) -> Place
     requires { Seen place input.now }
     ensures { Along place input.now result }
 {
@@ -414,7 +414,7 @@ fn skip(place: Option<Place>, input: &[u8]) -> Place
 }
 
 // The call from a place on where no byte is live in the tray: the live bytes lie in the input, and go into the tray with the answer.
-fn feed_input(bytes: &mut [u8], place: Option<Place>, input: &[u8]) -> Answer
+fn feed_input(bytes: &mut [u8], place: Place, input: &[u8]) -> Answer
     requires seen { Seen place input.now }
     requires empty { Empty bytes.old }
     ensures { Answered (fed_from input.now input.now place) bytes.old result bytes.new }
@@ -451,7 +451,7 @@ fn feed_input(bytes: &mut [u8], place: Option<Place>, input: &[u8]) -> Answer
 
 // The call from its start on while bytes are live in the tray that came before this input. When all that are live came with it, they are looked at
 // where they lie in it.
-fn feed(bytes: &mut [u8], place: Option<Place>, input: &[u8]) -> Answer
+fn feed(bytes: &mut [u8], place: Place, input: &[u8]) -> Answer
     requires { Standing place bytes.old input.now × (place.used ≡ 0) }
     ensures { Answered (fed_from input.now bytes.old place) bytes.old result bytes.new }
 {
@@ -502,7 +502,7 @@ enum Turn {
 }
 
 // One turn of finish: the first live byte is tried as the first of a frame.
-fn close_turn(bytes: &mut [u8], place: Option<Place>) -> Turn
+fn close_turn(bytes: &mut [u8], place: Place) -> Turn
     requires standing { Standing place bytes.old [] }
     requires start_lt_held { place.start < place.held }
     ensures { CloseTurn bytes.old place result bytes.new }
@@ -523,7 +523,7 @@ fn close_turn(bytes: &mut [u8], place: Option<Place>) -> Turn
 }
 
 // The end of finish, where no byte is live: what is left to be told.
-fn close_end(bytes: &mut [u8], place: Option<Place>) -> Answer
+fn close_end(bytes: &mut [u8], place: Place) -> Answer
     requires standing { Standing place bytes.old [] }
     requires held_le_start { place.held ≤ place.start }
     ensures { Answered (closed_from bytes.old place) bytes.old result bytes.new }
@@ -539,7 +539,7 @@ fn close_end(bytes: &mut [u8], place: Option<Place>) -> Answer
 }
 
 // Finish from a place on: every byte that is left is tried as the first of a frame.
-fn close(bytes: &mut [u8], place: Option<Place>) -> Answer
+fn close(bytes: &mut [u8], place: Place) -> Answer
     requires { Standing place bytes.old [] }
     ensures { Answered (closed_from bytes.old place) bytes.old result bytes.new }
 {

@@ -1,4 +1,5 @@
 -- One lemma for each answer of the functions, in plain variables, its premises worded as the code makes them. Assumes nothing.
+use Rattle.std.specs.Prelude.{Ok, Err}
 use mathlib.Core.Path.{◌≡◌, refl, sym, ap, ap₂, subst, ◌∙◌}
 use mathlib.Core.List.{[], ◌∷◌}
 use mathlib.Core.Bool.{Bool, true, false, cond}
@@ -164,7 +165,7 @@ number-if-not-refused (OfResidual r) o = refl
 number-if-not-refused (OfYaw y) o = refl
 number-if-not-refused (Refused refusal) o = absurd (miss (0 ∷ 1 ∷ 2 ∷ 3 ∷ 4 ∷ 5 ∷ 6 ∷ []) 7 tt o)
 
-no-residual : (v : Value) → NoResidual v → ResidualAnswer.Refused Field ≡ residual_by v
+no-residual : (v : Value) → NoResidual v → Err Field ≡ residual_by v
 no-residual (Metres x) o = refl
 no-residual (Degrees x) o = refl
 no-residual (Tecu x) o = refl
@@ -174,7 +175,7 @@ no-residual (OfResidual r) o = absurd (miss (0 ∷ 1 ∷ 2 ∷ 3 ∷ 4 ∷ 6 ∷
 no-residual (OfYaw y) o = refl
 no-residual (Refused refusal) o = refl
 
-no-yaw : (v : Value) → NoYaw v → YawAnswer.Refused Field ≡ yaw_by v
+no-yaw : (v : Value) → NoYaw v → Err Field ≡ yaw_by v
 no-yaw (Metres x) o = refl
 no-yaw (Degrees x) o = refl
 no-yaw (Tecu x) o = refl
@@ -184,7 +185,7 @@ no-yaw (OfResidual r) o = refl
 no-yaw (OfYaw y) o = absurd (miss (0 ∷ 1 ∷ 2 ∷ 3 ∷ 4 ∷ 5 ∷ 7 ∷ []) 6 tt o)
 no-yaw (Refused refusal) o = refl
 
-no-count : (v : Value) → NoCount v → CountAnswer.Refused Field ≡ count_by v
+no-count : (v : Value) → NoCount v → Err Field ≡ count_by v
 no-count (Metres x) o = refl
 no-count (Degrees x) o = refl
 no-count (Tecu x) o = refl
@@ -194,7 +195,7 @@ no-count (OfResidual r) o = refl
 no-count (OfYaw y) o = refl
 no-count (Refused refusal) o = refl
 
-no-metres : (v : Value) (next : Float → OrbitAnswer) → NoMetres v → OrbitAnswer.Refused Field ≡ in_metres v next
+no-metres : (v : Value) (next : Float → OrbitAnswer) → NoMetres v → Err Field ≡ in_metres v next
 no-metres (Metres x) next o = absurd (miss (1 ∷ 2 ∷ 3 ∷ 4 ∷ 5 ∷ 6 ∷ 7 ∷ []) 0 tt o)
 no-metres (Degrees x) next o = refl
 no-metres (Tecu x) next o = refl
@@ -205,29 +206,29 @@ no-metres (OfYaw y) next o = refl
 no-metres (Refused refusal) next o = refl
 
 module _ (sf code : ℕ) (v : Value) (is : v ≡ value_of sf code) where
-  pub residual-is : (x : Residual) → v ≡ OfResidual x → ResidualAnswer.Is x ≡ residual_of sf code
+  pub residual-is : (x : Residual) → v ≡ OfResidual x → Ok x ≡ residual_of sf code
   unfolding residual_of
   residual-is x e = ap residual_by (sym e ∙ is)
 
-  pub residual-field : NoResidual v → ResidualAnswer.Refused Field ≡ residual_of sf code
+  pub residual-field : NoResidual v → Err Field ≡ residual_of sf code
   unfolding residual_of
   residual-field o = no-residual v o ∙ ap residual_by is
 
 module _ (code : ℕ) (v : Value) (is : v ≡ value_of 21 code) where
-  pub yaw-is : (x : Yaw) → v ≡ OfYaw x → YawAnswer.Is x ≡ yaw_of code
+  pub yaw-is : (x : Yaw) → v ≡ OfYaw x → Ok x ≡ yaw_of code
   unfolding yaw_of
   yaw-is x e = ap yaw_by (sym e ∙ is)
 
-  pub yaw-field : NoYaw v → YawAnswer.Refused Field ≡ yaw_of code
+  pub yaw-field : NoYaw v → Err Field ≡ yaw_of code
   unfolding yaw_of
   yaw-field o = no-yaw v o ∙ ap yaw_by is
 
 module _ (sf code : ℕ) (v : Value) (is : v ≡ value_of sf code) where
-  pub count-is : (x : ℕ) → v ≡ Count x → CountAnswer.Is x ≡ count_of sf code
+  pub count-is : (x : ℕ) → v ≡ Count x → Ok x ≡ count_of sf code
   unfolding count_of
   count-is x e = ap count_by (sym e ∙ is)
 
-  pub count-field : NoCount v → CountAnswer.Refused Field ≡ count_of sf code
+  pub count-field : NoCount v → Err Field ≡ count_of sf code
   unfolding count_of
   count-field o = no-count v o ∙ ap count_by is
 
@@ -235,7 +236,7 @@ module _ (code : ℕ) (v : Value) (is : v ≡ value_of 20 code) (next : Float �
   in-metres : (x : Float) (r : OrbitAnswer) → v ≡ Metres x → r ≡ next x → r ≡ in_metres (value_of 20 code) next
   in-metres x r e q = q ∙ ap (λ (w : Value). in_metres w next) (sym e ∙ is)
 
-  not-metres : NoMetres v → OrbitAnswer.Refused Field ≡ in_metres (value_of 20 code) next
+  not-metres : NoMetres v → Err Field ≡ in_metres (value_of 20 code) next
   not-metres o = no-metres v next o ∙ ap (λ (w : Value). in_metres w next) is
 
 module _ (radial along cross : ℕ) (v : Value) (is : v ≡ value_of 20 radial) where
@@ -243,7 +244,7 @@ module _ (radial along cross : ℕ) (v : Value) (is : v ≡ value_of 20 radial) 
   unfolding orbit_of
   orbit-is x r e q = in-metres radial v is (λ y. orbit_from y along cross) x r e q
 
-  pub orbit-field : NoMetres v → OrbitAnswer.Refused Field ≡ orbit_of radial along cross
+  pub orbit-field : NoMetres v → Err Field ≡ orbit_of radial along cross
   unfolding orbit_of
   orbit-field o = not-metres radial v is (λ y. orbit_from y along cross) o
 
@@ -251,15 +252,15 @@ module _ (radial : Float) (along cross : ℕ) (v : Value) (is : v ≡ value_of 2
   pub along-is : (x : Float) (r : OrbitAnswer) → v ≡ Metres x → r ≡ orbit_with radial x cross → r ≡ orbit_from radial along cross
   along-is x r e q = in-metres along v is (λ y. orbit_with radial y cross) x r e q
 
-  pub along-field : NoMetres v → OrbitAnswer.Refused Field ≡ orbit_from radial along cross
+  pub along-field : NoMetres v → Err Field ≡ orbit_from radial along cross
   along-field o = not-metres along v is (λ y. orbit_with radial y cross) o
 
 module _ (radial along : Float) (cross : ℕ) (v : Value) (is : v ≡ value_of 20 cross) where
   abbrev whole : Float → OrbitAnswer
-  whole x = OrbitAnswer.Is (record { radial = radial; along_track = along; cross_track = x })
+  whole x = Ok (record { radial = radial; along_track = along; cross_track = x })
 
-  pub cross-is : (x : Float) → v ≡ Metres x → OrbitAnswer.Is (record { radial = radial; along_track = along; cross_track = x }) ≡ orbit_with radial along cross
+  pub cross-is : (x : Float) → v ≡ Metres x → Ok (record { radial = radial; along_track = along; cross_track = x }) ≡ orbit_with radial along cross
   cross-is x e = in-metres cross v is (λ y. whole y) x (whole x) e refl
 
-  pub cross-field : NoMetres v → OrbitAnswer.Refused Field ≡ orbit_with radial along cross
+  pub cross-field : NoMetres v → Err Field ≡ orbit_with radial along cross
   cross-field o = not-metres cross v is (λ y. whole y) o

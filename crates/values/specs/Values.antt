@@ -1,7 +1,7 @@
 -- Document 01, "Codes", first and third paragraph: what the code of a field means, in metres, degrees, TECU or whole numbers. Definitions to believe.
 -- Width, range, step and unit are those of the field's line in crate fields. Document 000, section 6.3, says "encoded * Res + Rng_min"; document 01 says which
 -- float that is: one division. The model offsets of 2.3 m and 0.252 m are not added.
-use Rattle.std.specs.Prelude.{[], ◌∷◌, Bool, true, false, ℕ, ◌+◌, ◌*◌, leb, eqb, ℤ, pos, ◌-ℤ◌, get_or, Float}
+use Rattle.std.specs.Prelude.{[], ◌∷◌, Bool, true, false, ℕ, ◌+◌, ◌*◌, leb, eqb, ℤ, pos, ◌-ℤ◌, get_or, Float, Ok, Err}
 use Rattle.std.specs.Float.{binary64}
 use Rattle.std.specs.Float.Ieee.{div, of_int}
 use Rattle.answer.specs.Number.{number_of}
@@ -70,42 +70,42 @@ value_of sf code = value_by (line_of sf).most (line_of sf).invalid (line_of sf).
 
 -- "A residual is either invalid or a float in its unit"; FIELD where the field is no residual or does not take the code
 abbrev pub residual_by : Value → ResidualAnswer
-residual_by (OfResidual r) = ResidualAnswer.Is r
-residual_by (Metres x) = ResidualAnswer.Refused Field
-residual_by (Degrees x) = ResidualAnswer.Refused Field
-residual_by (Tecu x) = ResidualAnswer.Refused Field
-residual_by (Coefficient x) = ResidualAnswer.Refused Field
-residual_by (Count n) = ResidualAnswer.Refused Field
-residual_by (OfYaw y) = ResidualAnswer.Refused Field
-residual_by (Refused refusal) = ResidualAnswer.Refused Field
+residual_by (OfResidual r) = Ok r
+residual_by (Metres x) = Err Field
+residual_by (Degrees x) = Err Field
+residual_by (Tecu x) = Err Field
+residual_by (Coefficient x) = Err Field
+residual_by (Count n) = Err Field
+residual_by (OfYaw y) = Err Field
+residual_by (Refused refusal) = Err Field
 
 unfoldable pub residual_of : ℕ → ℕ → ResidualAnswer
 residual_of sf code = residual_by (value_of sf code)
 
 -- a satellite's yaw, where it is there
 abbrev pub yaw_by : Value → YawAnswer
-yaw_by (OfYaw y) = YawAnswer.Is y
-yaw_by (Metres x) = YawAnswer.Refused Field
-yaw_by (Degrees x) = YawAnswer.Refused Field
-yaw_by (Tecu x) = YawAnswer.Refused Field
-yaw_by (Coefficient x) = YawAnswer.Refused Field
-yaw_by (Count n) = YawAnswer.Refused Field
-yaw_by (OfResidual r) = YawAnswer.Refused Field
-yaw_by (Refused refusal) = YawAnswer.Refused Field
+yaw_by (OfYaw y) = Ok y
+yaw_by (Metres x) = Err Field
+yaw_by (Degrees x) = Err Field
+yaw_by (Tecu x) = Err Field
+yaw_by (Coefficient x) = Err Field
+yaw_by (Count n) = Err Field
+yaw_by (OfResidual r) = Err Field
+yaw_by (Refused refusal) = Err Field
 
 unfoldable pub yaw_of : ℕ → YawAnswer
 yaw_of code = yaw_by (value_of 21 code)
 
 -- "SF030, 034 to 037, 071, 075, 076 mean code plus one (036 and 037 in tenths of a degree)": those that count
 abbrev pub count_by : Value → CountAnswer
-count_by (Count n) = CountAnswer.Is n
-count_by (Metres x) = CountAnswer.Refused Field
-count_by (Degrees x) = CountAnswer.Refused Field
-count_by (Tecu x) = CountAnswer.Refused Field
-count_by (Coefficient x) = CountAnswer.Refused Field
-count_by (OfResidual r) = CountAnswer.Refused Field
-count_by (OfYaw y) = CountAnswer.Refused Field
-count_by (Refused refusal) = CountAnswer.Refused Field
+count_by (Count n) = Ok n
+count_by (Metres x) = Err Field
+count_by (Degrees x) = Err Field
+count_by (Tecu x) = Err Field
+count_by (Coefficient x) = Err Field
+count_by (OfResidual r) = Err Field
+count_by (OfYaw y) = Err Field
+count_by (Refused refusal) = Err Field
 
 unfoldable pub count_of : ℕ → ℕ → CountAnswer
 count_of sf code = count_by (value_of sf code)
@@ -113,16 +113,16 @@ count_of sf code = count_by (value_of sf code)
 -- "The three orbit corrections are handed out together in metres": SF020 three times; FIELD if one of the codes is outside
 abbrev pub in_metres : Value → (Float → OrbitAnswer) → OrbitAnswer
 in_metres (Metres x) next = next x
-in_metres (Degrees x) next = OrbitAnswer.Refused Field
-in_metres (Tecu x) next = OrbitAnswer.Refused Field
-in_metres (Coefficient x) next = OrbitAnswer.Refused Field
-in_metres (Count n) next = OrbitAnswer.Refused Field
-in_metres (OfResidual r) next = OrbitAnswer.Refused Field
-in_metres (OfYaw y) next = OrbitAnswer.Refused Field
-in_metres (Refused refusal) next = OrbitAnswer.Refused Field
+in_metres (Degrees x) next = Err Field
+in_metres (Tecu x) next = Err Field
+in_metres (Coefficient x) next = Err Field
+in_metres (Count n) next = Err Field
+in_metres (OfResidual r) next = Err Field
+in_metres (OfYaw y) next = Err Field
+in_metres (Refused refusal) next = Err Field
 
 abbrev pub orbit_with : Float → Float → ℕ → OrbitAnswer
-orbit_with radial along cross = in_metres (value_of 20 cross) (λ x. OrbitAnswer.Is (record { radial = radial; along_track = along; cross_track = x }))
+orbit_with radial along cross = in_metres (value_of 20 cross) (λ x. Ok (record { radial = radial; along_track = along; cross_track = x }))
 
 abbrev pub orbit_from : Float → ℕ → ℕ → OrbitAnswer
 orbit_from radial along cross = in_metres (value_of 20 along) (λ x. orbit_with radial x cross)
@@ -142,17 +142,17 @@ number_of_value (OfYaw y) = 0
 number_of_value (Refused refusal) = number_of refusal
 
 abbrev pub number_of_residual : ResidualAnswer → ℕ
-number_of_residual (ResidualAnswer.Is x) = 0
-number_of_residual (ResidualAnswer.Refused refusal) = number_of refusal
+number_of_residual (Ok x) = 0
+number_of_residual (Err refusal) = number_of refusal
 
 abbrev pub number_of_yaw : YawAnswer → ℕ
-number_of_yaw (YawAnswer.Is x) = 0
-number_of_yaw (YawAnswer.Refused refusal) = number_of refusal
+number_of_yaw (Ok x) = 0
+number_of_yaw (Err refusal) = number_of refusal
 
 abbrev pub number_of_count : CountAnswer → ℕ
-number_of_count (CountAnswer.Is x) = 0
-number_of_count (CountAnswer.Refused refusal) = number_of refusal
+number_of_count (Ok x) = 0
+number_of_count (Err refusal) = number_of refusal
 
 abbrev pub number_of_orbit : OrbitAnswer → ℕ
-number_of_orbit (OrbitAnswer.Is x) = 0
-number_of_orbit (OrbitAnswer.Refused refusal) = number_of refusal
+number_of_orbit (Ok x) = 0
+number_of_orbit (Err refusal) = number_of refusal
