@@ -10,6 +10,9 @@ use lib.Dec.{ltb}
 use lib.ListN.{length, take, drop, get_or, length-append}
 use lib.Seq.{sets, sets-eq, drop-drop, take_at, drop-append-add, length-take-le}
 use borrow.Author.Tests.{lt-ltb, le-ltb, ltb-true, ltb-false, ne_eqb}
+use Rattle.sheet.specs.declared.Written.{Written as Laid}
+use Rattle.quick.specs.declared.Extent.{Extent}
+use Rattle.answer.specs.Pairs.{ok-value}
 use Rattle.sizes.specs.Sizes.{longest_payload}
 use Rattle.answer.specs.declared.Refusal.{Refusal}
 use Rattle.answer.specs.declared.Refusal.TheVariants as refusal
@@ -196,7 +199,7 @@ judged-length : (o : Written) (pass : Pass) (none none' : List ℕ) (entries cou
     → bad_length (bytes_for count) ≡ true → Err (nowhere refusal.Length) ≡ write_answer_by (then_length o)
 judged-length (unwritten w) (Err v) none none' entries count fault e b = let z : ◌≡◌ {A = ℕ} 0 1 = cc in absurd (omega arith)
 judged-length (written bs) (Ok p) none none' entries count (whole c h) e b =
-    let q : p.bits ≡ count = cc in
+    let q : p.bits ≡ count = ap (λ (x : Extent). x.bits) (ok-value e) in
     rw (length-by count (length bs) (subst (λ x. Counted x (length bs)) q c) b)
 judged-length (written bs) (Err v) none none' entries count x6 e b = elim x6 [ ]
 judged-length (unwritten w) (Ok p) none none' entries count x5 e b = elim x5 [ ]
@@ -205,7 +208,7 @@ judged-whole : (o : Written) (pass : Pass) (none none' : List ℕ) (entries coun
     → bad_length (bytes_for count) ≡ false → Ok (record { bits = count; bytes = bytes_for count }) ≡ write_answer_by (then_length o)
 judged-whole (unwritten w) (Err v) none none' entries count fault e b = let z : ◌≡◌ {A = ℕ} 0 1 = cc in absurd (omega arith)
 judged-whole (written bs) (Ok p) none none' entries count (whole c h) e b =
-    let q : p.bits ≡ count = cc in
+    let q : p.bits ≡ count = ap (λ (x : Extent). x.bits) (ok-value e) in
     let x : (count ≡ length bs) × (length bs ≤ 8 * longest_payload) = exact-by count (length bs) (subst (λ y. Counted y (length bs)) q c) b in
     let k : bad_length (bytes_for (length bs)) ≡ false = ap (λ (y : ℕ). bad_length (bytes_for y)) (sym x.0) ∙ b in
     rw k (ap (λ (y : ℕ). Ok (record { bits = y; bytes = bytes_for y })) x.0)
@@ -243,25 +246,25 @@ module _ {kind subtype : ℕ} {sheet aside : List ℕ} (dry : Pass) (aside' : Li
         keeps = aside-by (written_of kind subtype sheet) dry aside aside' p.puts;
       }
 
-  module _ (entries count : ℕ) (e : dry ≡ Ok (record { entries = entries; bits = count })) (b : Bool) (m : b ≡ bad_length (bytes_for count)) where
+  module _ (x : Extent) (e : dry ≡ Ok x) (b : Bool) (m : b ≡ bad_length (bytes_for x.bits)) where
     pub keep-length : b ≡ true → SheetKept kind subtype sheet aside (Err (nowhere refusal.Length)) aside'
     keep-length n =
         record {
           judged = record {
-            answers = judged-length (written_of kind subtype sheet) dry aside' aside entries count p.puts e (sym m ∙ n);
+            answers = judged-length (written_of kind subtype sheet) dry aside' aside x.entries x.bits p.puts e (sym m ∙ n);
             round = refl;
             good = omega arith;
           };
           keeps = aside-by (written_of kind subtype sheet) dry aside aside' p.puts;
         }
 
-    pub keep-whole : b ≡ false → SheetKept kind subtype sheet aside (Ok (record { bits = count; bytes = bytes_for count })) aside'
+    pub keep-whole : b ≡ false → SheetKept kind subtype sheet aside (Ok (record { bits = x.bits; bytes = bytes_for x.bits })) aside'
     keep-whole n =
         record {
           judged = record {
-            answers = judged-whole (written_of kind subtype sheet) dry aside' aside entries count p.puts e (sym m ∙ n);
+            answers = judged-whole (written_of kind subtype sheet) dry aside' aside x.entries x.bits p.puts e (sym m ∙ n);
             round = refl;
-            good = (good-some (bytes_for count) (sym m ∙ n)).1;
+            good = (good-some (bytes_for x.bits) (sym m ∙ n)).1;
           };
           keeps = aside-by (written_of kind subtype sheet) dry aside aside' p.puts;
         }
@@ -295,8 +298,8 @@ module _ (out : List ℕ) where
       go true k = let z : Ok (record { bits = bits; bytes = bytes }) ≡ Err (nowhere refusal.Length) = rw k at e in let y : ◌≡◌ {A = ℕ} 0 1 = cc in absurd (omega arith)
       go false k =
           let z : Ok (record { bits = bits; bytes = bytes }) ≡ Ok (record { bits = length bs; bytes = bytes_for (length bs) }) = rw k at e in
-          let i : bits ≡ length bs = cc in
-          let j : bytes ≡ bytes_for (length bs) = cc in
+          let i : bits ≡ length bs = ap (λ (x : Laid). x.bits) (ok-value z) in
+          let j : bytes ≡ bytes_for (length bs) = ap (λ (x : Laid). x.bytes) (ok-value z) in
           let few : bytes_for (length bs) ≤ longest_payload = (good-some (bytes_for (length bs)) k).1 in
           rw k (filled bs out₁ out₂ (omega arith) room same (h (omega arith) (omega arith)) (p ∙ ap₂ (λ (x y : ℕ). leaves out₁ x (8 * y - x) 0) i j))
 
@@ -307,7 +310,7 @@ copied-leaves (unwritten w) aside aside' out bits bytes e few room k p = let z :
 copied-leaves (written bs) aside aside' out bits bytes e few room k p =
     let n : ℕ = length bs in
     let fill : List ℕ = fill_for n in
-    let i : bytes ≡ bytes_for n = cc in
+    let i : bytes ≡ bytes_for n = ap (λ (x : Laid). x.bytes) (ok-value e) in
     let f : length fill ≡ 8 * bytes_for n - n = length-bits_of (8 * bytes_for n - n) 0 in
     let whole : length (bs ++ fill) ≡ 8 * bytes = omega (arith, length-append bs fill) in
     let front : take (8 * bytes) (to_bits aside') ≡ bs ++ fill

@@ -5,6 +5,7 @@ use mathlib.Core.List.{List}
 use Prim.Native.Nat.{ℕ, ◌-◌, ◌<◌}
 use native.Mathlib.Omega.{arith}
 use lib.ListN.{length}
+use Rattle.sheet.specs.declared.row.Reached.{Reached}
 use Rattle.answer.specs.declared.Fault as answer
 use Rattle.bits.specs.Bits.{to_bits}
 use Rattle.layout.specs.Layout.{Layout, write_l}
@@ -39,21 +40,21 @@ module _ {sheet out₀ : List ℕ} {s₀ : State} {out : List ℕ} {s : State} {
         small = omega arith;
       }
 
-  module _ (p a c : ℕ) (e : r ≡ Ok (record { pos = p; at = a; last = c })) where
-    pub row-less : length sheet - a < length sheet - at
+  module _ (g : Reached) (e : r ≡ Ok g) where
+    pub row-less : length sheet - g.at < length sheet - at
     row-less =
-        let k = wrote-to p a c sheet wrote e t.inside t.small in
+        let k = wrote-to g.pos g.at g.last sheet wrote e t.inside t.small in
         let z : 0 < length (cells_of row) = cells-some row.group (again row.more (cells_in row.group) (cells_in row.tail)) some in
         omega (arith, k.inside, k.count)
 
-    pub row-again : (s' : State) → length out' ≡ length out → s' ≡ step_of (last_of s) c → Turn sheet out₀ s₀ out' s' p a
+    pub row-again : (s' : State) → length out' ≡ length out → s' ≡ step_of (last_of s) g.last → Turn sheet out₀ s₀ out' s' g.pos g.at
     row-again s' same stepped =
-        let k = wrote-to p a c sheet wrote e t.inside t.small in
+        let k = wrote-to g.pos g.at g.last sheet wrote e t.inside t.small in
         record {
           inside = k.inside;
           small = k.small;
           same = same ∙ t.same;
-          on = λ l w. let f = row-to (writing-turns sheet) q some wrote (runs l w) (t.on l w).on.walks p a c e in
+          on = λ l w. let f = row-to (writing-turns sheet) q some wrote (runs l w) (t.on l w).on.walks g.pos g.at g.last e in
               record {
                 place = f.run.place;
                 bits = f.run.bits;

@@ -8,6 +8,7 @@ use mathlib.Core.List.{List, [], ◌∷◌}
 use Prim.Native.Nat.{ℕ, ◌+◌, ◌*◌, ◌≤◌, ◌<◌}
 use Rattle.std.proofs.Math.ListN.{length, drop, length-drop, get_or-eq_default}
 use borrow.Author.Tests.{le-leb, lt-leb, leb-true, leb-false, le-ltb, lt-ltb, ltb-true, ltb-false, ne_eqb, not-true}
+use Rattle.sheet.specs.Results.{ReadAnswer}
 use Rattle.sizes.specs.Sizes.{longest_payload, sheet_room}
 use Rattle.answer.specs.Stop.{stop}
 use Rattle.answer.specs.Place.{nowhere, fault_at}
@@ -271,7 +272,7 @@ module _ (subtype : ℕ) (c : Constellation) (known : constellation_of subtype �
       go : (b t : Bool) → bad_length (length payload) ≡ b → is_tbd c (type_of c payload) ≡ t → t ≡ false
       go b false q r = refl
       go true true q r =
-          let e' : Err (nowhere refusal.Length) ≡ Ok (record { bits = used; entries = entries }) = sym (ap read_answer_by (judging-with 0 subtype payload (ocb-known subtype c known) q)) ∙ e in
+          let e' : ◌≡◌ {A = ReadAnswer} (Err (nowhere refusal.Length)) (Ok (record { bits = used; entries = entries })) = sym (ap read_answer_by (judging-with 0 subtype payload (ocb-known subtype c known) q)) ∙ e in
           let z : ◌≡◌ {A = ℕ} 0 1 = cc in absurd (omega arith)
       go false true q r =
           let m : List ℕ = drop 13 (to_bits payload) in

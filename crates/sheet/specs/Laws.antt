@@ -2,6 +2,9 @@
 use Rattle.std.specs.Prelude.{◌≡◌, refl, Bool, true, false, ◌||◌, List, ◌++◌, ℕ, ◌+◌, ◌≤◌, ◌<◌, eqb, ltb, leb, length, take, drop, Ok, Err}
 use Rattle.std.proofs.Common.{ap, ap₂, sym, ◌∙◌, arith, le-ltb, ltb-false, ne_eqb}
 use Rattle.std.proofs.lemmas.Bool.{eqb-false}
+use Rattle.sheet.specs.declared.Written.{Written as Laid}
+use Rattle.quick.specs.declared.Extent.{Extent}
+use Rattle.answer.specs.Pairs.{ok-value}
 use Rattle.sizes.specs.Sizes.{longest_payload, sheet_room}
 use Rattle.answer.specs.Place.{nowhere}
 use Rattle.answer.specs.declared.Refusal.TheVariants as refusal
@@ -141,7 +144,7 @@ was_read kind subtype payload sheet bits entries e =
     last : (l : Layout Message) (o : Outcome Message) → sheet_room ≤ length sheet → layout_for kind subtype ≡ present l → bad_length (length payload) ≡ false → read_l l (to_bits payload) ≡ o
         → sheet_after kind subtype payload sheet ≡ sheet_by o sheet → read_answer_by o ≡ Ok (record { bits = bits; entries = entries }) → WasRead kind subtype payload sheet bits entries
     last l (accepted m cs n) h p g r s e =
-        let q : n ≡ bits = cc in
+        let q : n ≡ bits = ap (λ (x : Extent). x.bits) (ok-value e) in
         record {
           layout = l;
           message = m;
@@ -150,7 +153,7 @@ was_read kind subtype payload sheet bits entries e =
           reads = r ∙ ap (accepted m cs) q;
           room = h;
           good = g;
-          count = cc;
+          count = sym (ap (λ (x : Extent). x.entries) (ok-value e));
           leaves = s;
         }
     last l (refused why) h p g r s e = let z : ◌≡◌ {A = ℕ} 0 1 = cc in absurd (omega arith)
@@ -206,7 +209,7 @@ was-written kind subtype sheet out bits bytes e =
         let g : bad_length (bytes_for (length text)) ≡ false = k text refl in
         let e' : Ok (record { bits = length text; bytes = bytes_for (length text) }) ≡ Ok (record { bits = bits; bytes = bytes })
         = ap (λ x. write_answer_by (stop x (unwritten (nowhere refusal.Length)) (written text))) (sym g) ∙ e in
-        let b : bytes_for (length text) ≡ bytes = cc in
+        let b : bytes_for (length text) ≡ bytes = ap (λ (x : Laid). x.bytes) (ok-value e') in
         record {
           layout = l;
           text = text;
@@ -214,7 +217,7 @@ was-written kind subtype sheet out bits bytes e =
           writes = w;
           good = ap bad_length (sym b) ∙ g;
           room = r;
-          count = cc;
+          count = sym (ap (λ (x : Laid). x.bits) (ok-value e'));
           round = sym b;
           leaves = s ∙ ap (λ x. out_by (stop x (unwritten (nowhere refusal.Length)) (written text)) out) g;
         }

@@ -251,20 +251,10 @@ fn write_pass(sheet: &[u64], out: &mut [u8], start: State) -> Pass
     loop {
         let row = message::row::row_of(s);
         if row.group != 0 {
-            match write_row(sheet, out, row, pos, at) {
-                Err(why) => {
-                    return Err(why);
-                }
-                Ok(Reached {
-                    pos: p,
-                    at: a,
-                    last,
-                }) => {
-                    pos = p;
-                    at = a;
-                    s = message::row::after(s, last);
-                }
-            }
+            let reached = write_row(sheet, out, row, pos, at)?;
+            pos = reached.pos;
+            at = reached.at;
+            s = message::row::after(s, reached.last);
         } else {
             let field = message::field_of(s);
             let width = field.width;

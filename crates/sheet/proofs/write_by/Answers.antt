@@ -18,5 +18,5 @@ returns-in-Err c = search (whole-refused, rules)
 
 pub returns-in-Ok : goal.returns-in-Ok
 returns-in-Ok c =
-    whole-written _ _ c.in-Ok.ensures _ _ refl c.put.new.s _ c.requires.0 c.requires.1 c.keep_sheet-judged.auto.aside c.put.auto.s c.put.ensures.s_after
-    (ap (λ x. x ++ drop c.in-Ok.bytes c.args.out.now) c.copy_from_slice.ensures.after)
+    whole-written _ _ c.in-Ok.ensures c.in-Ok.field-0.bits c.in-Ok.field-0.bytes refl c.put.new.s _ c.requires.0 c.requires.1 c.keep_sheet-judged.auto.aside c.put.auto.s c.put.ensures.s_after
+    (ap (λ x. x ++ drop c.in-Ok.field-0.bytes c.args.out.now) c.copy_from_slice.ensures.after)

@@ -1,3 +1,4 @@
+use Rattle.std.proofs.lemmas.Result.{err_from_is_err_and}
 use Rattle.sheet.proofs.Writing.{turn-first, turn-over, turn-done, turn-short, turn-fault, turn-again}
 use Rattle.sheet.proofs.WritingRows.{row-fault, row-less, row-again}
 use native.Mathlib.Omega.{arith}
@@ -8,14 +9,19 @@ use Rattle.sheet.proofs.write_pass.Goals as goal
 pub loop-out-init : goal.loop-out-init
 loop-out-init c = turn-first _ _ _
 
-pub returns-in-Err : goal.returns-in-Err
-returns-in-Err c = search (row-fault, rules)
+pub returns-in_err-reached : goal.returns-in_err-reached
+returns-in_err-reached c =
+    let p = err_from_is_err_and c.from_residual.result c.from_residual.ensures.1 in
+    rw (p.1, p.2) (row-fault c.loop-out.invariant _ c.row_of-row.ensures c.if-row-ne0.true _ _ c.write_row.ensures _ c.in_err-reached.was)
 
-pub loop-out-smaller-in-Ok : goal.loop-out-smaller-in-Ok
-loop-out-smaller-in-Ok c = search (row-less, rules)
+pub loop-out-smaller-then-row-ne0 : goal.loop-out-smaller-then-row-ne0
+loop-out-smaller-then-row-ne0 c =
+    row-less c.loop-out.invariant _ c.row_of-row.ensures c.if-row-ne0.true _ _ c.write_row.ensures _ c.in_ok-reached.was
 
-pub loop-out-preserved-in-Ok : goal.loop-out-preserved-in-Ok
-loop-out-preserved-in-Ok c = search (row-again, rules)
+pub loop-out-preserved-then-row-ne0 : goal.loop-out-preserved-then-row-ne0
+loop-out-preserved-then-row-ne0 c =
+    row-again c.loop-out.invariant _ c.row_of-row.ensures c.if-row-ne0.true _ _ c.write_row.ensures _ c.in_ok-reached.was _ c.write_row.auto.out
+    c.after-s.ensures
 
 pub returns-then-at-sheet : goal.returns-then-at-sheet
 returns-then-at-sheet c = search (turn-over, rules)
