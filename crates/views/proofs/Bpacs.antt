@@ -33,7 +33,7 @@ bpac-finds id sheet s w h =
     let said : bpac.Bpac → BpacAnswer = λ b. first_bpac id b.areas in
     over-head (goes-finds sheet 72 id (Ok None) shown said) (λ b. done (bpac_message b)) (λ b. done b) (λ n body e.
     finds-first sheet 72 id (Ok None) shown said bpac.area bpac.area (λ (b : bpac.Area). b.id) bpac_entries (λ at b. Ok (Some (bpac_area at b)))
-    (λ Q g k k' at f rest. over-area g k k' at f (λ x to i e v met. rest x to i e (ap Ok (Some v))))
+    (λ Q g k k' at f rest. over-area g k k' at f (λ x to i e v met. rest x to i e (ap (λ x. Ok (Some x)) v)))
     (λ k. headed refl)
     n (λ bs. bpac_message (body bs)) body 4 (λ bs. ap (first_bpac id) (e bs))) s w h
 

@@ -1,5 +1,5 @@
 -- The answers of the calls, over plain variables: the refusal of a sheet, or what is found on one that the writer accepts.
-use Rattle.std.specs.Prelude.{Ok, Err, Some, None}
+use Rattle.std.specs.Prelude.{Option, Result, Ok, Err, Some, None}
 use mathlib.Core.Path.{◌≡◌, ap, sym, ◌∙◌}
 use mathlib.Core.List.{List}
 use Prim.Native.Nat.{ℕ}
@@ -14,6 +14,7 @@ use Rattle.message.specs.Messages.{ocb_layout, by_constellation, constellation_o
 use Rattle.message.specs.Results.{Start}
 use Rattle.message.specs.declared.State.{State}
 use Rattle.message.specs.Machine.{start_of}
+use Rattle.sheet.specs.declared.Written.{Written}
 use Rattle.sheet.specs.Results.{WriteAnswer}
 use Rattle.sheet.specs.Sheet.{judged_sheet}
 use Rattle.views.specs.Results.{SatelliteAnswer}
@@ -30,7 +31,7 @@ module _ (kind subtype : ℕ) (sheet : List ℕ) (a : WriteAnswer) (e : a ≡ ju
   pub open-refused : (why : Fault) → a ≡ Err why → Err why ≡ opened kind subtype sheet
   open-refused why q = ap (λ x. if_taken x Err (opened_at (start_of kind subtype))) (sym q ∙ e)
 
-  module _ (bits bytes : ℕ) (q : a ≡ Ok (record { bits = bits; bytes = bytes })) (s : Start) (is : s ≡ start_of kind subtype) where
+  module _ (w : Written) (q : a ≡ Ok w) (s : Start) (is : s ≡ start_of kind subtype) where
     taken : opened_at s ≡ opened kind subtype sheet
     taken = ap opened_at is ∙ ap (λ x. if_taken x Err (opened_at (start_of kind subtype))) (sym q ∙ e)
 
@@ -45,8 +46,8 @@ module _ (kind subtype : ℕ) (sheet : List ℕ) (a : WriteAnswer) (e : a ≡ ju
 pub found_as : {C : Type 0} (of : List ℕ → Found → C) (sheet : List ℕ) (f x v : Found) (r : C) → f ≡ x → f ≡ v → r ≡ of sheet v → r ≡ of sheet x
 found_as of sheet f x v r e q h = h ∙ ap (of sheet) (sym q ∙ e)
 
-pub same : {A C : Type 0} (f : A → C) (a b : A) → a ≡ b → f a ≡ f b
-same f a b e = ap f e
+pub same : {A : Type 0} (a b : A) → a ≡ b → ◌≡◌ {A = Result (Option A) Fault} (Ok (Some a)) (Ok (Some b))
+same a b e = ap (λ x. Ok (Some x)) e
 
 -- ---- OCB
 
@@ -58,7 +59,7 @@ module _ (subtype : ℕ) (sheet : List ℕ) (place : ℕ) (a : WriteAnswer) (e :
   unfolding satellite_answer_of
   satellite-refused why q = ap (λ x. if_taken x Err (found (constellation_of subtype))) (sym q ∙ e)
 
-  module _ (bits bytes : ℕ) (q : a ≡ Ok (record { bits = bits; bytes = bytes })) (s : Subtype) (known : s ≡ constellation_for subtype) where
+  module _ (w : Written) (q : a ≡ Ok w) (s : Subtype) (known : s ≡ constellation_for subtype) where
     said : (r : SatelliteAnswer) → r ≡ found (constellation_of subtype) → r ≡ satellite_answer_of subtype sheet place
     unfolding satellite_answer_of
     said r h = h ∙ ap (λ x. if_taken x Err (found (constellation_of subtype))) (sym q ∙ e)

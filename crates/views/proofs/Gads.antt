@@ -29,7 +29,7 @@ gad-finds id sheet s w h =
     let said : gad.Gad → GadAnswer = λ b. first_gad id b.blocks in
     over-head (goes-finds sheet 31 id (Ok None) shown said) (λ b. done (gad_message b)) (λ b. done b) (λ n body e.
     finds-first sheet 31 id (Ok None) shown said gad.block gad.block (λ (b : gad.Block). b.id) (λ b. 7) (λ at b. Ok (Some (gad_area b)))
-    (λ Q g k k' at f rest. over-block g k k' at f (λ x to i e v met. rest x to i e (ap Ok (Some v))))
+    (λ Q g k k' at f rest. over-block g k k' at f (λ x to i e v met. rest x to i e (ap (λ x. Ok (Some x)) v)))
     (λ k. headed refl)
     n (λ bs. gad_message (body bs)) body 4 (λ bs. ap (first_gad id) (e bs))) s w h
 

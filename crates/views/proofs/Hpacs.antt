@@ -34,7 +34,7 @@ hpac-finds c id sheet s w h =
     let said : hpac.Hpac → HpacAnswer = λ b. first_hpac id b.areas in
     over-head (goes-finds sheet 31 id (Ok None) shown said) c (λ b. done ((hpac_message c) b)) (λ b. done b) (λ n body e.
     finds-first sheet 31 id (Ok None) shown said (hpac.area c) (hpac.area c) (λ (b : hpac.Area). b.id) hpac_entries (λ at b. Ok (Some (hpac_area at b)))
-    (λ Q g k k' at f rest. over-area g c k k' at f (λ x to i e v. rest x to i e (ap Ok (Some v))))
+    (λ Q g k k' at f rest. over-area g c k k' at f (λ x to i e v. rest x to i e (ap (λ x. Ok (Some x)) v)))
     (λ k. headed refl)
     n (λ bs. (hpac_message c) (body bs)) body 4 (λ bs. ap (first_hpac id) (e bs))) s w h
 

@@ -251,4 +251,4 @@ module _ (c : Constellation) (sheet : List ℕ) (place size mask count : ℕ) (e
         let sat : s ≡ satellite_view (many_end (satellite_end sheet (get_or sheet 3 0)) place 8) (state_at sheet (get_or sheet 3 0) (many_end (satellite_end sheet (get_or sheet 3 0)) place 8))
         = ev ∙ ap (λ x. satellite_view x (state_at sheet yaw x)) ea
         ∙ ap (λ y. satellite_view (many_end (satellite_end sheet y) place 8) (state_at sheet y (many_end (satellite_end sheet y) place 8))) ey in
-        ap₂ Ok (num, sat) ∙ sym (ap (λ ss. nth_from 8 ss place) (satellites-in c sheet) ∙ nth-there sheet (get_or sheet 3 0) ms 8 place (omega arith))
+        ap₂ (λ (x : ℕ) (y : Satellite). Ok (x, y)) num sat ∙ sym (ap (λ ss. nth_from 8 ss place) (satellites-in c sheet) ∙ nth-there sheet (get_or sheet 3 0) ms 8 place (omega arith))

@@ -1,5 +1,4 @@
 -- `gad_from`: the place that is found, or none.
-use Rattle.std.specs.Prelude.{Ok, Some}
 use Rattle.views.specs.AlongGad.{gad_found}
 use Rattle.views.proofs.Calls.{found_as, same}
 use borrow.Author.Rules.{rules}
@@ -9,4 +8,4 @@ pub returns-in-None : goal.returns-in-None
 returns-in-None c = search (found_as gad_found, rules)
 
 pub returns-in-Some : goal.returns-in-Some
-returns-in-Some c = search (found_as gad_found, same Ok ∘ Some, rules)
+returns-in-Some c = search (found_as gad_found, same, rules)
