@@ -1,5 +1,5 @@
 -- Definitions to believe: document 01, "Answer numbers", each refusal's number.
-use Rattle.std.specs.Prelude.{ℕ}
+use Rattle.std.specs.Prelude.{ℕ, Result, Ok, Err}
 use Rattle.answer.specs.declared.Refusal.{Refusal}
 use Rattle.answer.specs.declared.Refusal.TheVariants.{Short, Preamble, FrameCrc, Length, MessageCrc, UnknownType, MaskEmpty, Field, Room, Sealed, Tag, NotOurs, AreaOff, Conflict, BookFull, Leftover, State, Form}
 
@@ -22,3 +22,8 @@ number_of BookFull = 15
 number_of Leftover = 16
 number_of State = 17
 number_of Form = 18
+
+-- The number of what a call answers: "0 OK", or that of its refusal, which is in what it refuses with.
+abbrev pub number_of_answer : {T E : Type 0} → (E → Refusal) → Result T E → ℕ
+number_of_answer refusal_of (Ok value) = 0
+number_of_answer refusal_of (Err why) = number_of (refusal_of why)

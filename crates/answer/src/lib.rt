@@ -1,11 +1,12 @@
-// The refusals of document 01, "Answer numbers", and where a message is at fault (document 02, request 2). OK, number 0, is no refusal: each
-// call has an answer of its own for it.
+// The refusals of document 01, "Answer numbers", and where a message is at fault (document 02, request 2). OK, number 0, is no refusal: what a
+// call answers is an `Ok` then.
 #![tactic(auto)]
 
 ghost use Rattle.std.specs.Prelude.{◌≡◌};
-ghost use Rattle.answer.specs.Number.{number_of};
+ghost use Rattle.answer.specs.Number.{number_of, number_of_answer};
 ghost use Rattle.answer.specs.Matched.{Matched};
-ghost use Rattle.answer.specs.Place.{sf_in, at_in};
+ghost use Rattle.answer.specs.Place.{nowhere, sf_in, at_in};
+ghost use Rattle.answer.specs.declared.Refusal.{Refusal};
 
 #[derive(Clone, Copy)]
 pub enum Refusal {
@@ -44,6 +45,42 @@ pub struct Fault {
     pub place: Option<Place>,
 }
 
+impl From<Refusal> for Fault {
+    ghost from_gives = { λ why fault. fault ≡ nowhere why };
+
+    // The refusal without a place.
+    fn from(why: Refusal) -> Fault {
+        Fault {
+            refusal: why,
+            place: None,
+        }
+    }
+}
+
+// What a call refuses with: a refusal alone, or a fault, which may have a place.
+pub trait Refuses {
+    ghost refusal_of: { Self → Refusal };
+
+    fn refusal(&self) -> Refusal
+        ensures { result ≡ refusal_of self.now };
+}
+
+impl Refuses for Refusal {
+    ghost refusal_of = { λ why. why };
+
+    fn refusal(&self) -> Refusal {
+        *self
+    }
+}
+
+impl Refuses for Fault {
+    ghost refusal_of = { λ fault. fault.refusal };
+
+    fn refusal(&self) -> Refusal {
+        self.refusal
+    }
+}
+
 fn number_by_refusal(refusal: Refusal) -> u8
     ensures { Matched number_of refusal result }
 {
@@ -74,6 +111,16 @@ pub fn number(refusal: Refusal) -> u8
     ensures { result ≡ number_of refusal }
 {
     number_by_refusal(refusal)
+}
+
+// The number of a call's answer in document 01: 0 for OK, else its refusal's.
+pub fn number_of<T, E: Refuses>(answer: &Result<T, E>) -> u8
+    ensures { result ≡ number_of_answer E.refusal_of answer.now }
+{
+    match answer {
+        Ok(_) => 0,
+        Err(why) => number(why.refusal()),
+    }
 }
 
 // The number of the field at fault; 0 where there is no place.
