@@ -1,5 +1,6 @@
 -- Definitions to believe: document 01, "Answer numbers", each refusal's number.
-use Rattle.std.specs.Prelude.{ℕ, Result, Ok, Err}
+use Rattle.std.specs.Prelude.{◌≡◌, ℕ, Result, Ok, Err}
+use Rattle.std.proofs.Common.{◌∙◌, sym}
 use Rattle.answer.specs.declared.Refusal.{Refusal}
 use Rattle.answer.specs.declared.Refusal.TheVariants.{Short, Preamble, FrameCrc, Length, MessageCrc, UnknownType, MaskEmpty, Field, Room, Sealed, Tag, NotOurs, AreaOff, Conflict, BookFull, Leftover, State, Form}
 
@@ -27,3 +28,10 @@ number_of Form = 18
 abbrev pub number_of_answer : {T E : Type 0} → (E → Refusal) → Result T E → ℕ
 number_of_answer refusal_of (Ok value) = 0
 number_of_answer refusal_of (Err why) = number_of (refusal_of why)
+
+-- Two numbers of an answer cannot differ. Proved.
+pub number-of-determined : {T E : Type 0} (refusal_of : E → Refusal) (answer : Result T E) (r₁ r₂ : ℕ)
+    → r₁ ≡ number_of_answer refusal_of answer
+    → r₂ ≡ number_of_answer refusal_of answer
+    → r₁ ≡ r₂
+number-of-determined refusal_of answer r₁ r₂ e₁ e₂ = e₁ ∙ sym e₂

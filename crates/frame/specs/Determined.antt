@@ -1,15 +1,15 @@
 -- Two results of a public call of this crate cannot differ: for equal inputs, answers and lent buffers that meet the contract are equal. Proved.
 -- Written by tests/determined from the contracts in src/.
-use Rattle.std.specs.Prelude.{ℕ, List, ◌≡◌}
 use Rattle.bits.specs.Part.{PartOf, part-determined}
 use Rattle.frame.specs.Check.{checked, number_of_checked, payload_in, payload_of, place_in, place_of}
-use Rattle.frame.specs.Write.{number_of_written, out_after, written}
+use Rattle.frame.specs.Results.{Written}
+use Rattle.frame.specs.Write.{out_after, written}
 use Rattle.frame.specs.declared.Checked.{Checked}
 use Rattle.frame.specs.declared.Frame.{Frame}
 use Rattle.frame.specs.declared.Parts.{Parts}
-use Rattle.frame.specs.Results.{Written}
+use Rattle.std.proofs.Common.{sym, ◌∙◌}
 use Rattle.std.specs.Borrow.{Bor}
-use Rattle.std.proofs.Common.{◌∙◌, sym}
+use Rattle.std.specs.Prelude.{List, ℕ, ◌≡◌}
 
 pub check-determined : (bytes : List ℕ) (r₁ r₂ : Checked)
     → r₁ ≡ checked bytes
@@ -46,9 +46,3 @@ pub write-determined : (parts : Parts) (payload out : List ℕ) (r₁ r₂ : Wri
     → out₂ ≡ out_after parts payload out
     → (r₁ ≡ r₂) × (out₁ ≡ out₂)
 write-determined parts payload out r₁ r₂ out₁ out₂ e0₁ e0₂ e1₁ e1₂ = (e0₁ ∙ sym e0₂, e1₁ ∙ sym e1₂)
-
-pub number-written-determined : (answer : Written) (r₁ r₂ : ℕ)
-    → r₁ ≡ number_of_written answer
-    → r₂ ≡ number_of_written answer
-    → r₁ ≡ r₂
-number-written-determined answer r₁ r₂ e0₁ e0₂ = e0₁ ∙ sym e0₂

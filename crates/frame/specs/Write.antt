@@ -71,11 +71,6 @@ left_by (Err refusal) p payload out = out
 unfoldable pub out_after : Parts → List ℕ → List ℕ → List ℕ
 out_after p payload out = left_by (written p payload out) p payload out
 
--- the answer's number in document 01
-abbrev pub number_of_written : Written → ℕ
-number_of_written (Ok n) = 0
-number_of_written (Err refusal) = number_of refusal
-
 -- the parts that a frame's header has, and the header that a written frame has
 abbrev pub parts_of : F.Frame → Parts
 parts_of f =

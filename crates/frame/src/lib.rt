@@ -6,7 +6,7 @@ ghost use Rattle.bits.specs.Bits.{bits_of, field};
 ghost use Rattle.bits.specs.Part.{PartOf};
 ghost use Rattle.frame.specs.Fields.{tag_bits, tf003, tf004, tf008, tf015, payload_at, authenticated, authentication_bytes, authentication, check_at};
 ghost use Rattle.frame.specs.Check.{checked, payload_in, place_in, payload_of, place_of, number_of_checked, seal_of, frame_of};
-ghost use Rattle.frame.specs.Write.{bytes_of, start, description, check_over, in_range, written, out_after, number_of_written};
+ghost use Rattle.frame.specs.Write.{bytes_of, start, description, check_over, in_range, written, out_after};
 ghost use Rattle.frame.specs.Header.{InRange};
 ghost use Rattle.frame.specs.Stages.{described, whole};
 
@@ -516,14 +516,4 @@ pub fn write(parts: Parts, payload: &[u8], out: &mut [u8]) -> Written
     let at = put_description(parts, out);
     let end = put_payload(payload, out, at);
     Ok(put_check(parts.check_type, out, end))
-}
-
-// The writer's answer as a number of document 01.
-pub fn number_written(answer: Written) -> u8
-    ensures { result ≡ number_of_written answer }
-{
-    match answer {
-        Ok(_) => 0,
-        Err(refusal) => answer::number(refusal),
-    }
 }

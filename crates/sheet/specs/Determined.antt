@@ -1,12 +1,11 @@
 -- Two results of a public call of this crate cannot differ: for equal inputs, answers and lent buffers that meet the contract are equal. Proved.
 -- Written by tests/determined from the contracts in src/.
-use Rattle.std.specs.Prelude.{ℕ, List, ◌≡◌}
 use Rattle.bits.specs.Bits.{Bytes, to_bits}
 use Rattle.bits.specs.Laws.{to_bits-injective}
-use Rattle.sheet.specs.Sheet.{judged, judged_sheet, number_of_read, number_of_written, out_after, read_answer, sheet_after, write_answer}
-use Rattle.sheet.specs.Results.{ReadAnswer}
-use Rattle.sheet.specs.Results.{WriteAnswer}
-use Rattle.std.proofs.Common.{◌∙◌, sym}
+use Rattle.sheet.specs.Results.{ReadAnswer, WriteAnswer}
+use Rattle.sheet.specs.Sheet.{judged, judged_sheet, out_after, read_answer, sheet_after, write_answer}
+use Rattle.std.proofs.Common.{sym, ◌∙◌}
+use Rattle.std.specs.Prelude.{List, ℕ, ◌≡◌}
 
 pub judge-determined : (kind subtype : ℕ) (payload : List ℕ) (r₁ r₂ : ReadAnswer)
     → r₁ ≡ judged kind subtype payload
@@ -37,15 +36,3 @@ pub write-determined : (kind subtype : ℕ) (sheet out : List ℕ) (r₁ r₂ : 
     → to_bits out₂ ≡ out_after kind subtype sheet out
     → (r₁ ≡ r₂) × (out₁ ≡ out₂)
 write-determined kind subtype sheet out r₁ r₂ out₁ out₂ e0₁ e0₂ e1-bytes₁ e1-bytes₂ e1₁ e1₂ = (e0₁ ∙ sym e0₂, to_bits-injective e1-bytes₁ e1-bytes₂ (e1₁ ∙ sym e1₂))
-
-pub number-read-determined : (answer : ReadAnswer) (r₁ r₂ : ℕ)
-    → r₁ ≡ number_of_read answer
-    → r₂ ≡ number_of_read answer
-    → r₁ ≡ r₂
-number-read-determined answer r₁ r₂ e0₁ e0₂ = e0₁ ∙ sym e0₂
-
-pub number-written-determined : (answer : WriteAnswer) (r₁ r₂ : ℕ)
-    → r₁ ≡ number_of_written answer
-    → r₂ ≡ number_of_written answer
-    → r₁ ≡ r₂
-number-written-determined answer r₁ r₂ e0₁ e0₂ = e0₁ ∙ sym e0₂

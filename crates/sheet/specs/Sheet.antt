@@ -101,11 +101,3 @@ unfoldable pub out_after : (kind subtype : ℕ) (sheet out : List ℕ) → List 
 out_after kind subtype sheet out = out_by (writing kind subtype sheet out) out
 
 -- ---- the answers' numbers in document 01
-
-abbrev pub number_of_read : ReadAnswer → ℕ
-number_of_read (Ok p) = 0
-number_of_read (Err fault) = number_of fault.refusal
-
-abbrev pub number_of_written : WriteAnswer → ℕ
-number_of_written (Ok p) = 0
-number_of_written (Err fault) = number_of fault.refusal

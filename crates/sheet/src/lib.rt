@@ -4,7 +4,7 @@
 ghost use Rattle.std.specs.Prelude.{◌≡◌, true, false, ◌+◌, ◌*◌, ◌^◌, ◌≤◌, ◌<◌, length};
 ghost use Rattle.sizes.specs.Sizes.{longest_payload, sheet_room};
 ghost use Rattle.bits.specs.Bits.{to_bits};
-ghost use Rattle.sheet.specs.Sheet.{bad_length, judged, read_answer, sheet_after, judged_sheet, write_answer, out_after, number_of_read, number_of_written};
+ghost use Rattle.sheet.specs.Sheet.{bad_length, judged, read_answer, sheet_after, judged_sheet, write_answer, out_after};
 ghost use Rattle.answer.specs.Place.{fault_at};
 ghost use Rattle.message.specs.Machine.{start_of};
 ghost use Rattle.sheet.specs.Passes.{ReadPass, is_known_start, StartedPass, StartedJudged, Filled, WritePass, SheetPass, SheetKept, WriteWhole};
@@ -367,33 +367,4 @@ pub fn write(kind: u8, subtype: u8, sheet: &[u64], out: &mut [u8]) -> WriteAnswe
         });
     }
     write_whole(kind, subtype, sheet, out)
-}
-
-// The number of `read`'s answer in document 01.
-pub fn number_read(answer: ReadAnswer) -> u8
-    ensures { result ≡ number_of_read answer }
-{
-    match answer {
-        Ok(Extent {
-            bits: _,
-            entries: _,
-        }) => 0,
-        Err(fault) => {
-            let refusal = fault.refusal;
-            answer::number(refusal)
-        }
-    }
-}
-
-// The number of `write`'s answer in document 01.
-pub fn number_written(answer: WriteAnswer) -> u8
-    ensures { result ≡ number_of_written answer }
-{
-    match answer {
-        Ok(Written { bits: _, bytes: _ }) => 0,
-        Err(fault) => {
-            let refusal = fault.refusal;
-            answer::number(refusal)
-        }
-    }
 }

@@ -50,8 +50,3 @@ bpac_answer_of id sheet =
     if_taken (judged_sheet 3 0 sheet) Err (
     if_bpac_id id (
     first_bpac id (bpac_areas sheet)))
-
-abbrev pub number_of_bpac : BpacAnswer → ℕ
-number_of_bpac (Ok (Some area)) = 0
-number_of_bpac (Ok None) = 0
-number_of_bpac (Err fault) = number_of fault.refusal

@@ -1,17 +1,14 @@
 -- Two results of a public call of this crate cannot differ: for equal inputs, answers and lent buffers that meet the contract are equal. Proved.
 -- Written by tests/determined from the contracts in src/.
-use Rattle.std.specs.Prelude.{ℕ, List, ◌≡◌}
 use Rattle.area.specs.declared.AreaId.{AreaId}
 use Rattle.bpac.specs.declared.BpacAreaId.{BpacAreaId}
-use Rattle.views.specs.Bpacs.{bpac_answer_of, number_of_bpac}
-use Rattle.views.specs.Gads.{gad_answer_of, number_of_gad}
-use Rattle.views.specs.Hpacs.{hpac_answer_of, number_of_hpac}
-use Rattle.views.specs.Satellites.{number_of_satellite, satellite_answer_of}
-use Rattle.views.specs.Results.{BpacAnswer}
-use Rattle.views.specs.Results.{GadAnswer}
-use Rattle.views.specs.Results.{HpacAnswer}
-use Rattle.views.specs.Results.{SatelliteAnswer}
-use Rattle.std.proofs.Common.{◌∙◌, sym}
+use Rattle.std.proofs.Common.{sym, ◌∙◌}
+use Rattle.std.specs.Prelude.{List, ℕ, ◌≡◌}
+use Rattle.views.specs.Bpacs.{bpac_answer_of}
+use Rattle.views.specs.Gads.{gad_answer_of}
+use Rattle.views.specs.Hpacs.{hpac_answer_of}
+use Rattle.views.specs.Results.{BpacAnswer, GadAnswer, HpacAnswer, SatelliteAnswer}
+use Rattle.views.specs.Satellites.{satellite_answer_of}
 
 pub bpac-area-determined : (id : BpacAreaId) (sheet : List ℕ) (r₁ r₂ : BpacAnswer)
     → r₁ ≡ bpac_answer_of id.0 sheet
@@ -19,23 +16,11 @@ pub bpac-area-determined : (id : BpacAreaId) (sheet : List ℕ) (r₁ r₂ : Bpa
     → r₁ ≡ r₂
 bpac-area-determined id sheet r₁ r₂ e0₁ e0₂ = e0₁ ∙ sym e0₂
 
-pub number-of-bpac-determined : (answer : BpacAnswer) (r₁ r₂ : ℕ)
-    → r₁ ≡ number_of_bpac answer
-    → r₂ ≡ number_of_bpac answer
-    → r₁ ≡ r₂
-number-of-bpac-determined answer r₁ r₂ e0₁ e0₂ = e0₁ ∙ sym e0₂
-
 pub gad-area-determined : (id : AreaId) (sheet : List ℕ) (r₁ r₂ : GadAnswer)
     → r₁ ≡ gad_answer_of id.0 sheet
     → r₂ ≡ gad_answer_of id.0 sheet
     → r₁ ≡ r₂
 gad-area-determined id sheet r₁ r₂ e0₁ e0₂ = e0₁ ∙ sym e0₂
-
-pub number-of-gad-determined : (answer : GadAnswer) (r₁ r₂ : ℕ)
-    → r₁ ≡ number_of_gad answer
-    → r₂ ≡ number_of_gad answer
-    → r₁ ≡ r₂
-number-of-gad-determined answer r₁ r₂ e0₁ e0₂ = e0₁ ∙ sym e0₂
 
 pub hpac-area-determined : (subtype : ℕ) (id : AreaId) (sheet : List ℕ) (r₁ r₂ : HpacAnswer)
     → r₁ ≡ hpac_answer_of subtype id.0 sheet
@@ -43,20 +28,8 @@ pub hpac-area-determined : (subtype : ℕ) (id : AreaId) (sheet : List ℕ) (r�
     → r₁ ≡ r₂
 hpac-area-determined subtype id sheet r₁ r₂ e0₁ e0₂ = e0₁ ∙ sym e0₂
 
-pub number-of-hpac-determined : (answer : HpacAnswer) (r₁ r₂ : ℕ)
-    → r₁ ≡ number_of_hpac answer
-    → r₂ ≡ number_of_hpac answer
-    → r₁ ≡ r₂
-number-of-hpac-determined answer r₁ r₂ e0₁ e0₂ = e0₁ ∙ sym e0₂
-
 pub satellite-at-determined : (subtype : ℕ) (sheet : List ℕ) (place : ℕ) (r₁ r₂ : SatelliteAnswer)
     → r₁ ≡ satellite_answer_of subtype sheet place
     → r₂ ≡ satellite_answer_of subtype sheet place
     → r₁ ≡ r₂
 satellite-at-determined subtype sheet place r₁ r₂ e0₁ e0₂ = e0₁ ∙ sym e0₂
-
-pub number-of-satellite-determined : (answer : SatelliteAnswer) (r₁ r₂ : ℕ)
-    → r₁ ≡ number_of_satellite answer
-    → r₂ ≡ number_of_satellite answer
-    → r₁ ≡ r₂
-number-of-satellite-determined answer r₁ r₂ e0₁ e0₂ = e0₁ ∙ sym e0₂

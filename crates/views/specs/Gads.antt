@@ -34,9 +34,3 @@ first_gad id blocks = first (λ (b : gad.Block). b.id) (λ b. 7) (λ at b. Ok (S
 -- what `gad_area` answers
 unfoldable pub gad_answer_of : (id : ℕ) (sheet : List ℕ) → GadAnswer
 gad_answer_of id sheet = if_taken (judged_sheet 2 0 sheet) Err (first_gad id (gad_blocks sheet))
-
--- its number in document 01; that no block has the ID is no refusal
-abbrev pub number_of_gad : GadAnswer → ℕ
-number_of_gad (Ok (Some area)) = 0
-number_of_gad (Ok None) = 0
-number_of_gad (Err fault) = number_of fault.refusal

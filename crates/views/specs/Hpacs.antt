@@ -67,9 +67,3 @@ hpac_answer_of subtype id sheet =
     if_taken (judged_sheet 1 subtype sheet) Err (
     for_constellation (constellation_of subtype) (Err (nowhere refusal.UnknownType)) (λ constellation.
     first_hpac id (hpac_areas constellation sheet)))
-
--- its number in document 01; that no block has the ID is no refusal
-abbrev pub number_of_hpac : HpacAnswer → ℕ
-number_of_hpac (Ok (Some area)) = 0
-number_of_hpac (Ok None) = 0
-number_of_hpac (Err fault) = number_of fault.refusal

@@ -113,8 +113,3 @@ satellite_answer_of subtype sheet place =
     if_taken (judged_sheet 0 subtype sheet) Err (
     for_constellation (constellation_of subtype) (Err (nowhere refusal.UnknownType)) (λ constellation.
     nth constellation sheet place))
-
--- its number in document 01
-abbrev pub number_of_satellite : SatelliteAnswer → ℕ
-number_of_satellite (Ok (number, satellite)) = 0
-number_of_satellite (Err fault) = number_of fault.refusal

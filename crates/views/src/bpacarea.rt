@@ -1,7 +1,7 @@
 // Areas of BPAC by their ID, SF072: "A BPAC area ID and an area ID are counted apart". The first block with the ID is the one that is found.
 ghost use Rattle.std.specs.Prelude.{◌≡◌};
 ghost use Rattle.views.specs.AlongBpac.{bpac_seen, bpac_found};
-ghost use Rattle.views.specs.Bpacs.{if_bpac_id, bpac_answer_of, number_of_bpac};
+ghost use Rattle.views.specs.Bpacs.{if_bpac_id, bpac_answer_of};
 ghost use Rattle.views.specs.Places.{code_at, found};
 
 use crate::places::{Found, Opened, Place, count_of, find, open, unit_of};
@@ -66,19 +66,5 @@ pub fn bpac_area(id: BpacAreaId, sheet: &[u64]) -> BpacAnswer
     match open(3, 0, sheet) {
         Err(why) => Err(why),
         Ok(start) => bpac_from(start, wide(id.0), sheet),
-    }
-}
-
-// The number of `bpac_area`'s answer in document 01.
-pub fn number_of_bpac(answer: BpacAnswer) -> u8
-    ensures { result ≡ number_of_bpac answer }
-{
-    match answer {
-        Ok(Some(_)) => 0,
-        Ok(None) => 0,
-        Err(fault) => {
-            let refusal = fault.refusal;
-            answer::number(refusal)
-        }
     }
 }

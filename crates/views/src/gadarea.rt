@@ -1,7 +1,7 @@
 // Areas of GAD by their ID, SF031. The first block with the ID is the one that is found.
 ghost use Rattle.std.specs.Prelude.{◌≡◌};
 ghost use Rattle.views.specs.AlongGad.{gad_seen, gad_found};
-ghost use Rattle.views.specs.Gads.{gad_answer_of, number_of_gad};
+ghost use Rattle.views.specs.Gads.{gad_answer_of};
 ghost use Rattle.views.specs.Places.{code_at, found};
 
 use crate::places::{Found, Opened, Place, count_of, find, open, unit_of};
@@ -54,19 +54,5 @@ pub fn gad_area(id: AreaId, sheet: &[u64]) -> GadAnswer
     match open(2, 0, sheet) {
         Err(why) => Err(why),
         Ok(start) => gad_from(start, wide(id.0), sheet),
-    }
-}
-
-// The number of `gad_area`'s answer in document 01.
-pub fn number_of_gad(answer: GadAnswer) -> u8
-    ensures { result ≡ number_of_gad answer }
-{
-    match answer {
-        Ok(Some(_)) => 0,
-        Ok(None) => 0,
-        Err(fault) => {
-            let refusal = fault.refusal;
-            answer::number(refusal)
-        }
     }
 }

@@ -1,7 +1,7 @@
 // Areas of HPAC by their ID, SF031. The first block with the ID is the one that is found.
 ghost use Rattle.std.specs.Prelude.{◌≡◌};
 ghost use Rattle.views.specs.AlongHpac.{hpac_seen, hpac_found};
-ghost use Rattle.views.specs.Hpacs.{hpac_answer_of, number_of_hpac};
+ghost use Rattle.views.specs.Hpacs.{hpac_answer_of};
 ghost use Rattle.views.specs.Places.{code_at, found};
 
 use crate::places::{Found, Opened, Place, code_of, find, open};
@@ -50,19 +50,5 @@ pub fn hpac_area(subtype: u8, id: AreaId, sheet: &[u64]) -> HpacAnswer
     match open(1, subtype, sheet) {
         Err(why) => Err(why),
         Ok(start) => hpac_from(start, wide(id.0), sheet),
-    }
-}
-
-// The number of `hpac_area`'s answer in document 01.
-pub fn number_of_hpac(answer: HpacAnswer) -> u8
-    ensures { result ≡ number_of_hpac answer }
-{
-    match answer {
-        Ok(Some(_)) => 0,
-        Ok(None) => 0,
-        Err(fault) => {
-            let refusal = fault.refusal;
-            answer::number(refusal)
-        }
     }
 }

@@ -1,7 +1,7 @@
 // Satellites of OCB by their place in the mask's order. "So a satellite is either out of use or carries blocks, and its yaw is absent, invalid or an angle."
 ghost use Rattle.std.specs.Prelude.{◌≡◌, ◌+◌, ◌/◌, ◌%◌, ◌≤◌, length};
 ghost use Rattle.layout.specs.Reaches.{many_end};
-ghost use Rattle.views.specs.Satellites.{orbit_view, yaw_view, clock_view, bias_places, bias_view, satellite_view, nth, satellite_answer_of, number_of_satellite};
+ghost use Rattle.views.specs.Satellites.{orbit_view, yaw_view, clock_view, bias_places, bias_view, satellite_view, nth, satellite_answer_of};
 ghost use Rattle.views.specs.SatellitePlaces.{orbit_of, clock_start, clock_of, bias_start, bias_at, bias_of, state_at, satellite_end, Seats, Listed};
 
 use sheet::Written;
@@ -239,18 +239,5 @@ pub fn satellite_at(subtype: u8, sheet: &[u64], place: u64) -> SatelliteAnswer
             }),
             Some(constellation) => nth_satellite(constellation, sheet, place),
         },
-    }
-}
-
-// The number of `satellite_at`'s answer in document 01.
-pub fn number_of_satellite(answer: SatelliteAnswer) -> u8
-    ensures { result ≡ number_of_satellite answer }
-{
-    match answer {
-        Ok((_, _)) => 0,
-        Err(fault) => {
-            let refusal = fault.refusal;
-            answer::number(refusal)
-        }
     }
 }
