@@ -16,11 +16,10 @@ mod store_gad;
 mod store_ocb;
 
 use crate::row::Reached;
-use quick::Extent;
 use answer::{Fault, Place, Refusal};
 use layout::{Field, Verdict};
 use message::{Start, State, Subtype};
-use quick::Quick;
+use quick::{Extent, Quick};
 use row::{Ran, write_row};
 
 // What `read` answers: the count of bits read and of entries written, or the refusal; SHORT, FIELD and MASK_EMPTY with the field's number and the bit where its
@@ -105,10 +104,7 @@ fn pass_of(kind: u8, subtype: u8, payload: &[u8]) -> Pass
     ensures { StartedPass kind subtype payload.now result }
 {
     match message::start_of(kind, subtype) {
-        None => Err(Fault {
-            refusal: Refusal::UnknownType,
-            place: None,
-        }),
+        None => Err(Fault::from(Refusal::UnknownType)),
         Some(start) => judge_pass(payload, start),
     }
 }
@@ -197,16 +193,10 @@ pub fn judge(kind: u8, subtype: u8, payload: &[u8]) -> ReadAnswer
     ensures { result ≡ judged kind subtype payload.now }
 {
     match message::start_of(kind, subtype) {
-        None => Err(Fault {
-            refusal: Refusal::UnknownType,
-            place: None,
-        }),
+        None => Err(Fault::from(Refusal::UnknownType)),
         Some(start) => {
             if bad_length(payload.len()) {
-                return Err(Fault {
-                    refusal: Refusal::Length,
-                    place: None,
-                });
+                return Err(Fault::from(Refusal::Length));
             }
             judge_known(kind, subtype, payload)
         }
@@ -219,22 +209,13 @@ pub fn read(kind: u8, subtype: u8, payload: &[u8], sheet: &mut [u64]) -> ReadAns
     ensures sheet_after { sheet.new ≡ sheet_after kind subtype payload.now sheet.old }
 {
     if sheet.len() < sizes::SHEET_ROOM {
-        return Err(Fault {
-            refusal: Refusal::Room,
-            place: None,
-        });
+        return Err(Fault::from(Refusal::Room));
     }
     match message::start_of(kind, subtype) {
-        None => Err(Fault {
-            refusal: Refusal::UnknownType,
-            place: None,
-        }),
+        None => Err(Fault::from(Refusal::UnknownType)),
         Some(start) => {
             if bad_length(payload.len()) {
-                return Err(Fault {
-                    refusal: Refusal::Length,
-                    place: None,
-                });
+                return Err(Fault::from(Refusal::Length));
             }
             read_known(kind, subtype, payload, sheet)
         }
@@ -260,10 +241,7 @@ fn write_pass(sheet: &[u64], out: &mut [u8], start: State) -> Pass
             let width = field.width;
             if width == 0 {
                 if at < sheet.len() {
-                    return Err(Fault {
-                        refusal: Refusal::Leftover,
-                        place: None,
-                    });
+                    return Err(Fault::from(Refusal::Leftover));
                 }
                 return Ok(Extent {
                     entries: at,
@@ -295,10 +273,7 @@ fn sheet_pass(kind: u8, subtype: u8, sheet: &[u64], out: &mut [u8]) -> Pass
     ensures { SheetPass kind subtype sheet.now out.old result out.new }
 {
     match message::start_of(kind, subtype) {
-        None => Err(Fault {
-            refusal: Refusal::UnknownType,
-            place: None,
-        }),
+        None => Err(Fault::from(Refusal::UnknownType)),
         Some(start) => write_pass(sheet, out, start),
     }
 }
@@ -312,10 +287,7 @@ fn keep_sheet(kind: u8, subtype: u8, sheet: &[u64], aside: &mut [u8]) -> WriteAn
         Ok(Extent { entries: _, bits }) => {
             let bytes = (bits + 7) / 8;
             if bad_length(bytes) {
-                return Err(Fault {
-                    refusal: Refusal::Length,
-                    place: None,
-                });
+                return Err(Fault::from(Refusal::Length));
             }
             Ok(Written { bits, bytes })
         }
@@ -361,10 +333,7 @@ pub fn write(kind: u8, subtype: u8, sheet: &[u64], out: &mut [u8]) -> WriteAnswe
     ensures out_after { to_bits out.new ≡ out_after kind subtype sheet.now out.old }
 {
     if out.len() < sizes::LONGEST_PAYLOAD {
-        return Err(Fault {
-            refusal: Refusal::Room,
-            place: None,
-        });
+        return Err(Fault::from(Refusal::Room));
     }
     write_whole(kind, subtype, sheet, out)
 }

@@ -105,11 +105,13 @@ fn write_groups(sheet: &[u64], out: &mut [u8], row: Row, pos: usize, at: usize) 
             Err(why) => {
                 return Err(why);
             }
-            Ok(Reached {
-                pos: p,
-                at: a,
-                last: l,
-            }) => {
+            Ok(
+                Reached {
+                    pos: p,
+                    at: a,
+                    last: l,
+                },
+            ) => {
                 if more == 0 {
                     return write_cells(sheet, out, tail, p, a, l);
                 }

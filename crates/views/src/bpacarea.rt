@@ -48,10 +48,7 @@ fn bpac_from(start: Place, id: u64, sheet: &[u64]) -> BpacAnswer
 {
     let field = fields::sf(72);
     if field.most < id {
-        return Err(Fault {
-            refusal: Refusal::Field,
-            place: None,
-        });
+        return Err(Fault::from(Refusal::Field));
     }
     match find(start, sheet, 72, id) {
         None => Ok(None),

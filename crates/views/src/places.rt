@@ -28,10 +28,7 @@ pub fn open(kind: u8, subtype: u8, sheet: &[u64]) -> Opened
     match judge_sheet(kind, subtype, sheet) {
         Err(why) => Err(why),
         Ok(Written { bits: _, bytes: _ }) => match start_of(kind, subtype) {
-            None => Err(Fault {
-                refusal: Refusal::UnknownType,
-                place: None,
-            }),
+            None => Err(Fault::from(Refusal::UnknownType)),
             Some(state) => Ok(Place {
                 state: state,
                 at: 0,

@@ -215,10 +215,7 @@ fn nth_satellite(constellation: Constellation, sheet: &[u64], place: u64) -> Sat
     let mask = entry(sheet, 7);
     let count = satellite_count(constellation, size, mask);
     if count <= place {
-        return Err(Fault {
-            refusal: Refusal::Field,
-            place: None,
-        });
+        return Err(Fault::from(Refusal::Field));
     }
     let number = satellite_number(constellation, size, mask, count - 1 - place);
     let yaw = entry(sheet, 3);
@@ -233,10 +230,7 @@ pub fn satellite_at(subtype: u8, sheet: &[u64], place: u64) -> SatelliteAnswer
     match judge_sheet(0, subtype, sheet) {
         Err(why) => Err(why),
         Ok(Written { bits: _, bytes: _ }) => match constellation_of(subtype) {
-            None => Err(Fault {
-                refusal: Refusal::UnknownType,
-                place: None,
-            }),
+            None => Err(Fault::from(Refusal::UnknownType)),
             Some(constellation) => nth_satellite(constellation, sheet, place),
         },
     }

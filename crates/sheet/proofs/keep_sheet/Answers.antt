@@ -7,7 +7,7 @@ pub overflow_add-bytes : goal.overflow_add-bytes
 overflow_add-bytes c = search (count_small, rules)
 
 pub returns-then-bad_length : goal.returns-then-bad_length
-returns-then-bad_length c = search (keep-length, rules)
+returns-then-bad_length c = rw c.from.ensures (search (keep-length, rules))
 
 pub returns-in-Err : goal.returns-in-Err
 returns-in-Err c = search (keep-fault, rules)

@@ -24,7 +24,7 @@ loop-out-preserved-then-row-ne0 c =
     c.after-s.ensures
 
 pub returns-then-at-sheet : goal.returns-then-at-sheet
-returns-then-at-sheet c = search (turn-over, rules)
+returns-then-at-sheet c = rw c.from.ensures (search (turn-over, rules))
 
 pub returns-then-width-eq0 : goal.returns-then-width-eq0
 returns-then-width-eq0 c = search (turn-done, rules)
