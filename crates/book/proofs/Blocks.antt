@@ -1,7 +1,8 @@
 -- One lemma for each turn and each answer of the functions that judge a GAD's blocks, in plain variables, premises worded as the code makes them. Assumes nothing.
 use Rattle.std.specs.Prelude.{Ok, Err, Some, None}
-use mathlib.Core.Path.{◌≡◌, ap, ap₂, sym, ◌∙◌, subst}
-use mathlib.Core.Bool.{Bool, true, false, cond}
+use Rattle.std.specs.Option.{is_some}
+use mathlib.Core.Path.{◌≡◌, refl, ap, ap₂, sym, ◌∙◌, subst}
+use mathlib.Core.Bool.{Bool, true, false, cond, false≢true}
 use mathlib.Core.List.{List}
 use Prim.Native.Nat.{ℕ, ◌+◌, ◌-◌, ◌*◌, ◌/◌, ◌%◌, ◌^◌, ◌≤◌, ◌<◌}
 use native.Mathlib.Omega.{arith}
@@ -10,6 +11,7 @@ use lib.Dec.{eqb}
 use lib.ListN.{length}
 use borrow.Author.Tests.{lt-ltb, le-ltb, eq-eqb, ne_eqb}
 use Rattle.answer.specs.Place.{nowhere}
+use Rattle.answer.specs.declared.Fault.{Fault}
 use Rattle.answer.specs.declared.Refusal.TheVariants.{AreaOff, Conflict, BookFull}
 use Rattle.bits.specs.Bits.{field, got}
 use Rattle.bits.specs.Laws.{got-there, field_lt, field-part}
@@ -42,8 +44,8 @@ module _ (s : List ℕ) (there : 3 ≤ length s) (r : ℕ) where
     pub siou-fits : r + 1 < 2 ^ 64
     siou-fits = omega (arith, siou-small)
 
-    pub siou-is : (o : ℕ) → o ≡ r + 1 → o ≡ field s 0 9 + 1
-    siou-is o q = let z = read-field s 0 9 r e (omega arith) (omega arith) in omega arith
+    pub siou-is : r + 1 ≡ field s 0 9 + 1
+    siou-is = let z = read-field s 0 9 r e (omega arith) (omega arith) in omega arith
 
   module _ (e : r ≡ got s 9 4) where
     pub aiou-small : r + 1 < 256
@@ -52,18 +54,18 @@ module _ (s : List ℕ) (there : 3 ≤ length s) (r : ℕ) where
     pub aiou-fits : r + 1 < 2 ^ 64
     aiou-fits = omega (arith, aiou-small)
 
-    pub aiou-is : (o : ℕ) → o ≡ r + 1 → o ≡ field s 9 4 + 1
-    aiou-is o q = let z = read-field s 9 4 r e (omega arith) (omega arith) in omega arith
+    pub aiou-is : r + 1 ≡ field s 9 4 + 1
+    aiou-is = let z = read-field s 9 4 r e (omega arith) (omega arith) in omega arith
 
   module _ (e : r ≡ got s 14 5) where
     pub count_fits : r + 1 < 2 ^ 64
     count_fits = let z = read-field s 14 5 r e (omega arith) (omega arith) in omega arith
 
-    pub count-is : (o : ℕ) → o ≡ r + 1 → o ≡ block_count s
-    count-is o q = let z = read-field s 14 5 r e (omega arith) (omega arith) in omega arith
+    pub count-is : r + 1 ≡ block_count s
+    count-is = let z = read-field s 14 5 r e (omega arith) (omega arith) in omega arith
 
-    pub count-few : (o : ℕ) → o ≡ r + 1 → o ≤ most_blocks
-    count-few o q = let z = read-field s 14 5 r e (omega arith) (omega arith) in omega arith
+    pub count-few : r + 1 ≤ most_blocks
+    count-few = let z = read-field s 14 5 r e (omega arith) (omega arith) in omega arith
 
 module _ (s : List ℕ) (i : ℕ) (there : block_start (i + 1) ≤ 8 * length s) (r : ℕ) (e : r ≡ got s (block_start i) 47) where
   pub block-is : r ≡ block_at s i
@@ -126,17 +128,24 @@ module _ (p : List ℕ) (id n : ℕ) where
       pub back-turn : (d ≡ id → ⊥) → LookingBack (i + 1)
       back-turn k = record { inside = omega arith; same = rw (ne_eqb _ _ k) at opened-back }
 
-module _ (f g : Found) (v : Found) (e : v ≡ f) where
-  pub known-area : (a : ℕ) → v ≡ Some a → Some a ≡ or_else f g
-  known-area a q = ap (λ f. or_else f g) (sym q ∙ e)
+pub none-there : (v : Found) → is_some v ≡ false → v ≡ None
+none-there None e = refl
+none-there (Some a) e = absurd (false≢true (sym e))
 
-  pub known-before : v ≡ None → (r : Found) → r ≡ g → r ≡ or_else f g
-  known-before q r er = er ∙ ap (λ f. or_else f g) (sym q ∙ e)
+module _ (f g : Found) (v : Found) (e : v ≡ f) (b : Bool) (eb : b ≡ is_some v) where
+  pub known-area : b ≡ true → v ≡ or_else f g
+  known-area q = e ∙ go f (ap is_some (sym e) ∙ sym eb ∙ q)
+    where
+      go : (f : Found) → is_some f ≡ true → f ≡ or_else f g
+      go (Some a) q = refl
+      go None q = absurd (false≢true q)
+
+  pub known-before : b ≡ false → (r : Found) → r ≡ g → r ≡ or_else f g
+  known-before q r er = er ∙ ap (λ f. or_else f g) (sym (none-there v (sym eb ∙ q)) ∙ e)
 
 -- an ID that is above those of the blocks before is new to them
-pub known-new : (f : Found) (l : List ℕ) (id least w : ℕ) (v : Found) → v ≡ f → v ≡ None → Below least l → w ≡ id → least ≤ w → None ≡ or_else f (lookup id l)
-known-new f l id least w v e q p ew h =
-    sym (ap₂ or_else (sym e ∙ q) (lookup-below id l (below_up least id l (omega arith) p)))
+pub known-new : (f : Found) (l : List ℕ) (id least : ℕ) (v : Found) → v ≡ f → (b : Bool) → b ≡ is_some v → b ≡ false → Below least l → least ≤ id → None ≡ or_else f (lookup id l)
+known-new f l id least v e b eb q p h = known-before f (lookup id l) v e b eb q None (sym (lookup-below id l (below_up least id l (omega arith) p)))
 
 -- ---- one block
 
@@ -144,18 +153,18 @@ module _ (a n : ℕ) (f : Found) where
   pub found-same : (b : ℕ) → f ≡ Some b → a ≡ b → Ok n ≡ judge_found a f n
   found-same b e q = rw (e, eq-eqb a b q)
 
-  pub found-other : (b : ℕ) → f ≡ Some b → (a ≡ b → ⊥) → Err (nowhere Conflict) ≡ judge_found a f n
-  found-other b e q = rw (e, ne_eqb a b q)
+  pub found-other : (b : ℕ) → f ≡ Some b → (a ≡ b → ⊥) → (why : Fault) → why ≡ nowhere Conflict → Err why ≡ judge_found a f n
+  found-other b e q why w = rw (e, ne_eqb a b q, w)
 
   pub found-new : f ≡ None → n < most_areas → Ok (n + 1) ≡ judge_found a f n
   found-new e h = rw (e, lt-ltb n most_areas h)
 
-  pub found-full : f ≡ None → most_areas ≤ n → Err (nowhere BookFull) ≡ judge_found a f n
-  found-full e h = rw (e, le-ltb n most_areas h)
+  pub found-full : f ≡ None → most_areas ≤ n → (why : Fault) → why ≡ nowhere BookFull → Err why ≡ judge_found a f n
+  found-full e h why w = rw (e, le-ltb n most_areas h, w)
 
 module _ (a n : ℕ) (f : Found) (b : Bool) (eb : b ≡ area_off a) where
-  pub block-off : b ≡ true → Err (nowhere AreaOff) ≡ judge_block a f n
-  block-off h = let z : area_off a ≡ true = sym eb ∙ h in rw z
+  pub block-off : b ≡ true → (why : Fault) → why ≡ nowhere AreaOff → Err why ≡ judge_block a f n
+  block-off h why w = let z : area_off a ≡ true = sym eb ∙ h in rw (z, w)
 
   pub block_on : b ≡ false → (r : Judged) → r ≡ judge_found a f n → r ≡ judge_block a f n
   block_on h r er = let z : area_off a ≡ false = sym eb ∙ h in rw z er

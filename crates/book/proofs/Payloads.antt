@@ -1,7 +1,8 @@
 -- One lemma for each answer of `take`, in plain variables, premises worded as the code makes them. Assumes nothing.
-use Rattle.std.specs.Prelude.{Ok, Err}
+use Rattle.std.specs.Prelude.{Err}
 use mathlib.Core.Path.{◌≡◌, refl, ap, ap₂, sym, ◌∙◌}
-use mathlib.Core.Bool.{Bool, true, false, not}
+use Rattle.std.specs.Result.{is_ok}
+use mathlib.Core.Bool.{Bool, true, false, not, false≢true}
 use mathlib.Core.List.{List}
 use Prim.Native.Nat.{ℕ, ◌*◌, ◌≤◌, ◌<◌}
 use native.Mathlib.Omega.{arith}
@@ -24,18 +25,18 @@ use Rattle.book.specs.Results.{Taken}
 
 module _ (book : Book) (s p : List ℕ) where
   -- no room, or no sound book
-  pub take-room : length s < book_bytes → Err (nowhere refusal.Room) ≡ taken_of book s p
+  pub take-room : length s < book_bytes → (why : answer.Fault) → why ≡ nowhere refusal.Room → Err why ≡ taken_of book s p
   unfolding outcome
-  take-room h = rw (lt-ltb (length s) book_bytes h)
+  take-room h why w = rw (w, lt-ltb (length s) book_bytes h)
 
   pub left-room : length s < book_bytes → s ≡ bytes_after book s p
   unfolding outcome
   left-room h = rw (lt-ltb (length s) book_bytes h)
 
   module _ (h : book_bytes ≤ length s) (b : Bool) (eb : b ≡ sound book s) where
-    pub take-state : not b ≡ true → Err (nowhere refusal.State) ≡ taken_of book s p
+    pub take-state : not b ≡ true → (why : answer.Fault) → why ≡ nowhere refusal.State → Err why ≡ taken_of book s p
     unfolding outcome
-    take-state k = let y : sound book s ≡ false = sym eb ∙ not-true b k in rw (le-ltb (length s) book_bytes h, y)
+    take-state k why w = let y : sound book s ≡ false = sym eb ∙ not-true b k in rw (w, le-ltb (length s) book_bytes h, y)
 
     pub left-state : not b ≡ true → s ≡ bytes_after book s p
     unfolding outcome
@@ -61,14 +62,14 @@ module _ (book : Book) (s p : List ℕ) where
           pub left-fault : s ≡ bytes_after book s p
           left-fault = sym (ap (λ o. left_by o s) (outcome-refused book s p take-sound r is-refused))
 
-        module _ (n entries : ℕ) (q : v ≡ Ok (record { bits = n; entries = entries })) where
+        module _ (q : is_ok v ≡ true) where
           read : Says p
           unfolding judged
-          read = go (judging 2 0 p) refl (sym q ∙ ev)
+          read = go (judging 2 0 p) refl (ap is_ok (sym ev) ∙ q)
             where
-              go : (o : layout.Outcome Message) → judging 2 0 p ≡ o → Ok (record { bits = n; entries = entries }) ≡ read_answer_by o → Says p
+              go : (o : layout.Outcome Message) → judging 2 0 p ≡ o → is_ok (read_answer_by o) ≡ true → Says p
               go (layout.accepted m codes used) e z = says-read p m codes used e
-              go (layout.refused why) e z = let y : ◌≡◌ {A = ℕ} 0 1 = cc in absurd (omega arith)
+              go (layout.refused why) e z = absurd (false≢true z)
 
           stands : AtBits p read.gad
           stands = gad-at-bits p read.gad read.codes read.used read.reads

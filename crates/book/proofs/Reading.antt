@@ -141,16 +141,16 @@ module _ (s : List ℕ) (n i least : ℕ) (p : Judging s n i least) (h : i < n) 
   unfolding sound_area
   judged-bad k = sym (opened ∙ both-fail (eqb (number_in at % 2) 0) (leb least (sf031 (area_in at))) (is_area (area_in at)) (areas_sound (n - (i + 1)) (suc (sf031 (area_in at))) (drop 6 at)) (sym eb ∙ not-true b k))
 
-  pub judged-good : not b ≡ false → (w : ℕ) → w ≡ get_or s (6 * i) 0 → w < 256 → ((j : ℕ) → Fits w8 (get_or s j 0)) → Judging s n (i + 1) (w + 1)
+  pub judged-good : not b ≡ false → ((j : ℕ) → Fits w8 (get_or s j 0)) → Judging s n (i + 1) (get_or s (6 * i) 0 + 1)
   unfolding sound_area
-  judged-good k w ew l known =
-      let id : sf031 (area_in at) ≡ w
+  judged-good k known =
+      let id : sf031 (area_in at) ≡ get_or s (6 * i) 0
       = first_byte at (bytes_drop (6 * i) (record { byte = λ j. (known j).fits })) ∙ get_or-drop (6 * i) s 0 0
-      ∙ ap (λ k. get_or s k 0) {x = 6 * i + 0} {y = 6 * i} (omega arith) ∙ sym ew in
-      let up : suc (sf031 (area_in at)) ≡ w + 1 = omega arith in
+      ∙ ap (λ k. get_or s k 0) {x = 6 * i + 0} {y = 6 * i} (omega arith) in
+      let up : suc (sf031 (area_in at)) ≡ get_or s (6 * i) 0 + 1 = omega arith in
       record {
         inside = omega arith;
-        small = omega arith;
+        small = omega (arith, (known (6 * i)).fits);
         same = ap₂ (λ k z. areas_sound (n - (i + 1)) k z) (sym up) (sym (next-six s i))
             ∙ sym (opened ∙ both_hold (eqb (number_in at % 2) 0) (leb least (sf031 (area_in at))) (is_area (area_in at)) (areas_sound (n - (i + 1)) (suc (sf031 (area_in at))) (drop 6 at)) (sym eb ∙ not-false b k));
       }

@@ -114,8 +114,8 @@ module _ (id least n : ℕ) (s : List ℕ) where
   seek-anew = record { inside = omega arith; below = Below.none }
 
   -- or from a place before which all IDs are smaller
-  pub seek-on : (at w : ℕ) → Passed least n s at → w ≡ id → least ≤ w → Passed id n s at
-  seek-on at w p e h = record { inside = p.inside; below = below_up least id (take at (areas_in n s)) (omega arith) p.below }
+  pub seek-on : (at : ℕ) → Passed least n s at → least ≤ id → Passed id n s at
+  seek-on at p h = record { inside = p.inside; below = below_up least id (take at (areas_in n s)) (omega arith) p.below }
 
   pub seek-past : (at : ℕ) → Reached id n s at → id < least → Passed least n s at
   seek-past at q h = record { inside = q.inside; below = below_up id least (take at (areas_in n s)) (omega arith) q.below }
@@ -128,6 +128,3 @@ module _ (n at x d : ℕ) (s : List ℕ) (e : d ≡ sf031 x) where
 
   pub reached-by : Reached (sf031 x) n s at → Reached d n s at
   reached-by q = subst (λ d. Reached d n s at) (sym e) q
-
-pub reached-passed : (n at d : ℕ) (s : List ℕ) → Reached d n s at → Passed d n s at
-reached-passed n at d s q = record { inside = q.inside; below = q.below }

@@ -3,30 +3,33 @@ use Rattle.std.specs.Prelude.{Ok, Err, Some, None}
 use mathlib.Core.Path.{◌≡◌, refl, ap, ap₂, sym, ◌∙◌, subst}
 use mathlib.Core.Bool.{Bool, true, false, cond}
 use mathlib.Core.List.{List, [], ◌∷◌, ◌++◌, append_assoc, append-nil}
-use Prim.Native.Nat.{ℕ, zero, suc, ◌+◌, ◌-◌, ◌*◌, ◌/◌, ◌^◌, ◌≤◌, ◌<◌}
+use Prim.Native.Nat.{ℕ, zero, suc, ◌+◌, ◌-◌, ◌*◌, ◌^◌, ◌≤◌, ◌<◌}
 use native.Mathlib.Omega.{arith}
 use native.Mathlib.Numerals.{add-one}
 use lib.Dec.{leb, ltb}
-use lib.ListN.{length, get_or, take, drop, length-append, length-drop, take-append-drop, drop_of_length-le}
-use lib.Seq.{drop-cons, drop-drop, drop_at, take_at, length-take-le}
-use borrow.Author.Tests.{lt-ltb, le-ltb, le-leb}
+use lib.ListN.{length, get_or, take, drop, length-append, length-drop, take-append-drop}
+use lib.Seq.{drop-drop, drop_at, take_at, length-take-le}
+use Rattle.std.specs.List.{copy_within}
+use Rattle.std.specs.Option.{is_some}
+use Rattle.std.proofs.lemmas.List.{take-append-le, take-take}
+use borrow.Author.Tests.{lt-ltb, le-ltb, le-leb, ltb-true, ltb-false}
 use Rattle.answer.specs.declared.Fault as answer
 use mir.Syntax.{w8}
 use mir.Val.{Fits}
 use Rattle.sizes.specs.Sizes.{most_areas, book_bytes}
-use Rattle.area.specs.Area.{sf031, bytes_of, number_in, number_at, put_at}
-use Rattle.area.specs.Laws.{number-bytes, half-number}
+use Rattle.area.specs.Area.{sf031, bytes_of, put_at}
 use Rattle.book.specs.Book.{book_of, areas_in, bytes_of_all, sound}
-use Rattle.book.specs.Laws.{Ascending, length-areas, length-bytes, bytes-join, areas-bytes, small_at}
+use Rattle.book.specs.Laws.{Ascending, length-areas, length-bytes, bytes-join, areas-bytes}
 use Rattle.book.specs.Payload.{siou_of, aiou_of, block_count, block_at, blocks_from, blocks_of, take_bits}
 use Rattle.book.specs.Take.{lookup, insert, Outcome, taken, refused, and_then, take_block, take_all, is_under, before, answer_of, left_by}
 use Rattle.book.specs.TakeLaws.{is-under, other-aiou, other-siou, or_else, or_assoc, or_nothing, lookup-append, Took, took, took-all, all_same, lookup-block, ascending-block, length-block, block-grows, length-insert}
-use Rattle.book.specs.Search.{Below, below_up, below-snoc, take-insert, Passed, Reached}
+use Rattle.book.specs.Search.{Below, below_up, below-snoc, take-insert, Passed, Reached, reached-found}
 use Rattle.book.specs.Judge.{judged_by, is_taken, judge_block, judge-is, grown_by, grown, took-grown, Image}
 use Rattle.book.specs.declared.Book.{Book}
 use Rattle.book.specs.Results.{Found}
 use Rattle.book.specs.Results.{Judged}
 use Rattle.book.proofs.Reading.{areas-left, sound-count, sound-image}
+use Rattle.book.proofs.Blocks.{none-there}
 
 -- ---- the blocks one after the other
 
@@ -130,26 +133,6 @@ module _ (s p : List ℕ) (count n i held : ℕ) (q : JudgingBlocks s p count n 
 
 -- ---- a new area takes its place
 
--- the smaller ID is put down, the other carried on
-unfoldable pub carry : ℕ → List ℕ → List ℕ
-carry a [] = a ∷ []
-carry a (b ∷ l) = cond (ltb (sf031 a) (sf031 b)) (a ∷ carry b l) (b ∷ carry a l)
-
--- an area before all others is put down before them
-carry-first : (a : ℕ) (l : List ℕ) → Ascending (suc (sf031 a)) l → carry a l ≡ a ∷ l
-unfolding carry
-carry-first a [] p = refl
-carry-first a (b ∷ l) (Ascending.more h k p) = rw (lt-ltb _ _ h) (ap (λ l. a ∷ l) (carry-first b l p))
-
-carry-insert : (a : ℕ) (l : List ℕ) (least : ℕ) → Ascending least l → carry a l ≡ insert a l
-unfolding carry insert
-carry-insert a [] least p = refl
-carry-insert a (b ∷ l) least (Ascending.more h k p) = go (ltb (sf031 a) (sf031 b)) (carry-first b l p) (carry-insert a l _ p)
-  where
-    go : (t : Bool) → carry b l ≡ b ∷ l → carry a l ≡ insert a l → cond t (a ∷ carry b l) (b ∷ carry a l) ≡ cond t (a ∷ b ∷ l) (b ∷ insert a l)
-    go true e f = ap (λ l. a ∷ l) e
-    go false e f = ap (λ l. b ∷ l) f
-
 bytes-snoc : (d t : List ℕ) (c : ℕ) → bytes_of_all d ++ (bytes_of c ++ t) ≡ bytes_of_all (d ++ (c ∷ [])) ++ t
 unfolding bytes_of_all
 bytes-snoc d t c =
@@ -168,120 +151,78 @@ put-image d t b i c e f h =
     rw z
     (ap₂ (λ x y. x ++ (bytes_of c ++ y)) first last ∙ bytes-snoc d (drop 6 t) c)
 
--- and the number behind areas is twice the next one
-read-image : (d t b : List ℕ) (i a x : ℕ) → b ≡ bytes_of_all d ++ (bytes_of a ++ t) → length d ≡ i → a < 2 ^ 47 → x ≡ number_at b (6 * i) → x / 2 ≡ a
-read-image d t b i a x e f h ex =
-    let n : length (bytes_of_all d) ≡ 6 * i = length-bytes d ∙ ap (λ k. 6 * k) f in
-    let m : length b ≡ 6 * i + (6 + length t) = ap length e ∙ length-append (bytes_of_all d) (bytes_of a ++ t) ∙ omega (arith, n) in
-    let z : leb (6 * i + 6) (length b) ≡ true = le-leb (6 * i + 6) (length b) (omega arith) in
-    ap (λ x. x / 2) (ex ∙ ap (λ b'. cond b' (number_in (drop (6 * i) b)) 0) z
-    ∙ ap number_in (ap (drop (6 * i)) e ∙ drop_at (bytes_of_all d) (bytes_of a ++ t) (6 * i) n) ∙ number-bytes a t h) ∙ half-number a
+-- behind those with a smaller ID and before the others
+insert-place : (a r : ℕ) (l : List ℕ) → Below (sf031 a) (take r l) → r ≤ length l → (r < length l → sf031 a < sf031 (get_or l r 0)) → take r l ++ (a ∷ drop r l) ≡ insert a l
+unfolding insert
+insert-place a zero [] p h k = refl
+insert-place a zero (b ∷ l) p h k = rw (lt-ltb (sf031 a) (sf031 b) (k (omega arith)))
+insert-place a (suc r) [] p h k = absurd (omega arith)
+insert-place a (suc r) (b ∷ l) (Below.more q p) h k =
+    rw (le-ltb (sf031 a) (sf031 b) (omega arith)) (ap (λ l. b ∷ l) (insert-place a r l p (omega arith) (λ x. k (omega arith))))
 
-pub record Inserting (s : List ℕ) (n a i c : ℕ) (b : List ℕ) : Type 0 where
-  pub down : List ℕ
-  pub inside : i ≤ n
-  pub many : length down ≡ i
-  pub bytes : b ≡ bytes_of_all down ++ (bytes_of_all (drop i (areas_in n s)) ++ drop (6 * n) s)
-  pub rest : down ++ carry c (drop i (areas_in n s)) ≡ carry a (areas_in n s)
-  pub small : c < 2 ^ 47
+module _ (s : List ℕ) (n r a : ℕ) (p : Image n s) (q : Reached (sf031 a) n s r) (new : lookup (sf031 a) (areas_in n s) ≡ None) (fits : 6 * n + 6 ≤ length s) where
+  abbrev up : List ℕ
+  up = take r (areas_in n s)
 
--- areas with a smaller ID are passed
-carry-passed : (a at : ℕ) (l : List ℕ) → Below (sf031 a) (take at l) → at ≤ length l → take at l ++ carry a (drop at l) ≡ carry a l
-unfolding carry
-carry-passed a zero l p h = refl
-carry-passed a (suc at) [] p h = absurd (omega arith)
-carry-passed a (suc at) (b ∷ l) (Below.more k p) h = rw (le-ltb (sf031 a) (sf031 b) (omega arith)) (ap (λ l. b ∷ l) (carry-passed a at l p (omega arith)))
+  abbrev down : List ℕ
+  down = drop r (areas_in n s)
 
-pub insert-start : (s : List ℕ) (n a at : ℕ) → Image n s → a < 2 ^ 47 → Passed (sf031 a) n s at → Inserting s n a at a s
-insert-start s n a at p h q =
-    let l : List ℕ = areas_in n s in
-    record {
-      down = take at l;
-      inside = q.inside;
-      many = length-take-le at l (omega (arith, length-areas n s, q.inside));
-      bytes = sym (take-append-drop (6 * n) s) ∙ ap (λ b. b ++ drop (6 * n) s) (p.image ∙ ap bytes_of_all (sym (take-append-drop at l)) ∙ bytes-join (take at l) (drop at l))
-          ∙ append_assoc (bytes_of_all (take at l)) (bytes_of_all (drop at l)) (drop (6 * n) s);
-      rest = carry-passed a at l q.below (omega (arith, length-areas n s, q.inside));
-      small = h;
-    }
+  placed-there : up ++ (a ∷ down) ≡ insert a (areas_in n s)
+  placed-there =
+      insert-place a r (areas_in n s) q.below (omega (arith, length-areas n s, q.inside)) (λ h. above (omega (arith, length-areas n s)))
+    where
+      above : r < n → sf031 a < sf031 (get_or (areas_in n s) r 0)
+      above h = go (ltb (sf031 a) (sf031 (get_or (areas_in n s) r 0))) refl
+        where
+          go : (b : Bool) → ltb (sf031 a) (sf031 (get_or (areas_in n s) r 0)) ≡ b → sf031 a < sf031 (get_or (areas_in n s) r 0)
+          go true e = ltb-true _ _ e
+          go false e =
+              let same : sf031 (get_or (areas_in n s) r 0) ≡ sf031 a = omega (arith, ltb-false _ _ e, q.above h) in
+              let z : Some (get_or (areas_in n s) r 0) ≡ None = sym (reached-found (sf031 a) n r s p.ascending q h same) ∙ new in
+              let w : ◌≡◌ {A = ℕ} 0 1 = cc in absurd (omega arith)
 
-module _ (s : List ℕ) (n a i c : ℕ) (b : List ℕ) (p : Image n s) (fits : 6 * n + 6 ≤ length s) (q : Inserting s n a i c b) where
-  pub insert-length : (z : List ℕ) → length z ≡ length b → length z ≡ length s
-  insert-length z e =
-      e ∙ ap length q.bytes ∙ length-append (bytes_of_all q.down) _
-      ∙ omega (
-        arith,
-        length-append (bytes_of_all (drop i (areas_in n s))) (drop (6 * n) s),
-        length-bytes q.down,
-        length-bytes (drop i (areas_in n s)),
-        length-drop i (areas_in n s),
-        length-drop (6 * n) s,
-        length-areas n s,
-        q.many,
-        q.inside,
-      )
+  -- the bytes are those of the areas before and behind its place, and the rest
+  length-up : length (bytes_of_all up) ≡ 6 * r
+  length-up = length-bytes up ∙ ap (λ k. 6 * k) (length-take-le r (areas_in n s) (omega (arith, length-areas n s, q.inside)))
 
-  pub insert-end : n ≤ i → (z : List ℕ) → z ≡ put_at b (6 * n) c → z ≡ bytes_of_all (insert a (areas_in n s)) ++ drop (6 * n + 6) s
-  unfolding carry bytes_of_all
-  insert-end h z ez =
-      let e : i ≡ n = omega (arith, q.inside) in
-      let none : drop i (areas_in n s) ≡ [] = drop_of_length-le (areas_in n s) {i = i} (omega (arith, length-areas n s)) in
-      let all : q.down ++ (c ∷ []) ≡ insert a (areas_in n s)
-      = ap (λ l. q.down ++ carry c l) (sym none) ∙ q.rest ∙ carry-insert a (areas_in n s) 0 p.ascending in
-      ez
-      ∙ put-image q.down (drop (6 * n) s) b n c (q.bytes ∙ ap (λ l. bytes_of_all q.down ++ (bytes_of_all l ++ drop (6 * n) s)) none) (q.many ∙ e) (omega (arith, length-drop (6 * n) s))
-      ∙ ap₂ (λ l t. bytes_of_all l ++ t) all (drop-drop 6 (6 * n) s)
+  length-down : length (bytes_of_all down) ≡ 6 * n - 6 * r
+  length-down = length-bytes down ∙ omega (arith, length-drop r (areas_in n s), length-areas n s, q.inside)
 
-  module _ (h : i < n) (x : ℕ) (ex : x ≡ number_at b (6 * i)) where
-    left : drop i (areas_in n s) ≡ get_or (areas_in n s) i 0 ∷ drop (i + 1) (areas_in n s)
-    left = drop-cons (areas_in n s) i 0 (omega (arith, length-areas n s)) ∙ ap (λ k. get_or (areas_in n s) i 0 ∷ drop k (areas_in n s)) (sym (add-one i))
+  parted : s ≡ bytes_of_all up ++ (bytes_of_all down ++ drop (6 * n) s)
+  parted =
+      sym (take-append-drop (6 * n) s) ∙ ap (λ b. b ++ drop (6 * n) s) (p.image ∙ ap bytes_of_all (sym (take-append-drop r (areas_in n s))) ∙ bytes-join up down)
+      ∙ append_assoc (bytes_of_all up) (bytes_of_all down) (drop (6 * n) s)
 
-    y-small : get_or (areas_in n s) i 0 < 2 ^ 47
-    y-small = small_at (areas_in n s) 0 i p.ascending (omega (arith, length-areas n s))
+  module _ (t : List ℕ) (et : t ≡ copy_within s (6 * r) (6 * n) (6 * r + 6)) where
+    laid-out : t ≡ take (6 * r + 6) s ++ (take (6 * n - 6 * r) (drop (6 * r) s) ++ drop (6 * r + 6 + (6 * n - 6 * r)) s)
+    laid-out = et ∙ append_assoc (take (6 * r + 6) s) (take (6 * n - 6 * r) (drop (6 * r) s)) (drop (6 * r + 6 + (6 * n - 6 * r)) s)
 
-    laid : b ≡ bytes_of_all q.down ++ (bytes_of (get_or (areas_in n s) i 0) ++ (bytes_of_all (drop (i + 1) (areas_in n s)) ++ drop (6 * n) s))
+    moved-up : take (6 * r) t ≡ bytes_of_all up
+    moved-up =
+        ap (take (6 * r)) laid-out
+        ∙ take-append-le (6 * r) (take (6 * r + 6) s) (take (6 * n - 6 * r) (drop (6 * r) s) ++ drop (6 * r + 6 + (6 * n - 6 * r)) s) (omega (arith, length-take-le (6 * r + 6) s (omega (arith, q.inside))))
+        ∙ take-take (6 * r) (6 * r + 6) s (omega arith)
+        ∙ ap (take (6 * r)) parted ∙ take_at (bytes_of_all up) (bytes_of_all down ++ drop (6 * n) s) (6 * r) length-up
+
+    moved-down : drop (6 * r + 6) t ≡ bytes_of_all down ++ drop (6 * n + 6) s
+    moved-down =
+        let m : ℕ = 6 * n - 6 * r in
+        let end : 6 * r + 6 + m ≡ 6 * n + 6 = omega (arith, q.inside) in
+        let behind : drop (6 * r) s ≡ bytes_of_all down ++ drop (6 * n) s
+        = ap (drop (6 * r)) parted ∙ drop_at (bytes_of_all up) (bytes_of_all down ++ drop (6 * n) s) (6 * r) length-up in
+        ap (drop (6 * r + 6)) laid-out
+        ∙ drop_at (take (6 * r + 6) s) (take m (drop (6 * r) s) ++ drop (6 * r + 6 + m) s) (6 * r + 6) (length-take-le (6 * r + 6) s (omega (arith, q.inside)))
+        ∙ ap₂ (λ x k. x ++ drop k s) (ap (take m) behind ∙ take_at (bytes_of_all down) (drop (6 * n) s) m length-down) end
+
+    pub insert-put : length t ≡ length s → (z : List ℕ) → z ≡ put_at t (6 * r) a → z ≡ bytes_of_all (insert a (areas_in n s)) ++ drop (6 * n + 6) s
     unfolding bytes_of_all
-    laid =
-        q.bytes ∙ ap (λ l. bytes_of_all q.down ++ (bytes_of_all l ++ drop (6 * n) s)) left
-        ∙ ap (λ l. bytes_of_all q.down ++ l) (append_assoc (bytes_of (get_or (areas_in n s) i 0)) (bytes_of_all (drop (i + 1) (areas_in n s))) (drop (6 * n) s))
-
-    next-is : x / 2 ≡ get_or (areas_in n s) i 0
-    next-is = read-image q.down (bytes_of_all (drop (i + 1) (areas_in n s)) ++ drop (6 * n) s) b i (get_or (areas_in n s) i 0) x laid q.many y-small ex
-
-    pub insert-down : (d₁ d₂ : ℕ) → d₁ ≡ sf031 c → d₂ ≡ sf031 (x / 2) → d₁ < d₂ → (z : List ℕ) → z ≡ put_at b (6 * i) c → Inserting s n a (i + 1) (x / 2) z
-    unfolding carry
-    insert-down d₁ d₂ e₁ e₂ k z ez =
-        let t : List ℕ = bytes_of_all (drop (i + 1) (areas_in n s)) ++ drop (6 * n) s in
-        let lt : ltb (sf031 c) (sf031 (get_or (areas_in n s) i 0)) ≡ true = lt-ltb _ _ (subst (λ y. sf031 c < sf031 y) next-is (subst (λ k. k < sf031 (x / 2)) e₁ (subst (λ k. d₁ < k) e₂ k))) in
-        let step : carry c (drop i (areas_in n s)) ≡ c ∷ carry (get_or (areas_in n s) i 0) (drop (i + 1) (areas_in n s))
-        = ap (carry c) left
-        ∙ ap (λ t. cond t (c ∷ carry (get_or (areas_in n s) i 0) (drop (i + 1) (areas_in n s))) (get_or (areas_in n s) i 0 ∷ carry c (drop (i + 1) (areas_in n s)))) lt in
-        record {
-          down = q.down ++ (c ∷ []);
-          inside = omega arith;
-          many = length-append q.down (c ∷ []) ∙ ap (λ k. k + 1) q.many;
-          bytes = ez ∙ put-image q.down (bytes_of (get_or (areas_in n s) i 0) ++ t) b i c laid q.many (omega arith);
-          rest = append_assoc q.down (c ∷ []) (carry (x / 2) (drop (i + 1) (areas_in n s)))
-              ∙ ap (λ l. q.down ++ l) (ap (λ y. c ∷ carry y (drop (i + 1) (areas_in n s))) next-is ∙ sym step) ∙ q.rest;
-          small = subst (λ y. y < 2 ^ 47) (sym next-is) y-small;
-        }
-
-    pub insert-keep : (d₁ d₂ : ℕ) → d₁ ≡ sf031 c → d₂ ≡ sf031 (x / 2) → d₂ ≤ d₁ → Inserting s n a (i + 1) c b
-    unfolding carry
-    insert-keep d₁ d₂ e₁ e₂ k =
-        let t : List ℕ = bytes_of_all (drop (i + 1) (areas_in n s)) ++ drop (6 * n) s in
-        let ge : ltb (sf031 c) (sf031 (get_or (areas_in n s) i 0)) ≡ false = le-ltb _ _ (subst (λ y. sf031 y ≤ sf031 c) next-is (subst (λ k. sf031 (x / 2) ≤ k) e₁ (subst (λ k. k ≤ d₁) e₂ k))) in
-        let step : carry c (drop i (areas_in n s)) ≡ get_or (areas_in n s) i 0 ∷ carry c (drop (i + 1) (areas_in n s))
-        = ap (carry c) left
-        ∙ ap (λ t. cond t (c ∷ carry (get_or (areas_in n s) i 0) (drop (i + 1) (areas_in n s))) (get_or (areas_in n s) i 0 ∷ carry c (drop (i + 1) (areas_in n s)))) ge in
-        record {
-          down = q.down ++ (get_or (areas_in n s) i 0 ∷ []);
-          inside = omega arith;
-          many = length-append q.down (get_or (areas_in n s) i 0 ∷ []) ∙ ap (λ k. k + 1) q.many;
-          bytes = laid ∙ bytes-snoc q.down t (get_or (areas_in n s) i 0);
-          rest = append_assoc q.down (get_or (areas_in n s) i 0 ∷ []) (carry c (drop (i + 1) (areas_in n s))) ∙ ap (λ l. q.down ++ l) (sym step) ∙ q.rest;
-          small = q.small;
-        }
+    insert-put same z ez =
+        let room : leb (6 * r + 6) (length t) ≡ true = le-leb (6 * r + 6) (length t) (omega (arith, q.inside)) in
+        ez ∙ ap (λ b. cond b (take (6 * r) t ++ (bytes_of a ++ drop (6 * r + 6) t)) t) room
+        ∙ ap₂ (λ x y. x ++ (bytes_of a ++ y)) moved-up moved-down
+        ∙ ap (λ x. bytes_of_all up ++ x) (sym (append_assoc (bytes_of a) (bytes_of_all down) (drop (6 * n + 6) s)))
+        ∙ sym (append_assoc (bytes_of_all up) (bytes_of_all (a ∷ down)) (drop (6 * n + 6) s))
+        ∙ ap (λ x. x ++ drop (6 * n + 6) s) (sym (bytes-join up (a ∷ down)) ∙ ap bytes_of_all placed-there)
 
 -- ---- a block that may be held already
 
@@ -293,14 +234,18 @@ take-grown a r l p h = go (lookup (sf031 a) l)
     go (Some b) = refl
     go None = take-insert a r l p h
 
-module _ (b : List ℕ) (n x d : ℕ) (v : Found) (ed : d ≡ sf031 x) (ev : v ≡ lookup d (areas_in n b)) where
+module _ (b : List ℕ) (n x d : ℕ) (v : Found) (ed : d ≡ sf031 x) (ev : v ≡ lookup d (areas_in n b)) (t : Bool) (et : t ≡ is_some v) where
   asked : v ≡ lookup (sf031 x) (areas_in n b)
   asked = ev ∙ ap (λ d. lookup d (areas_in n b)) ed
 
-  module _ (y : ℕ) (q : v ≡ Some y) where
+  module _ (q : t ≡ true) where
     held_stays : areas_in n b ≡ grown x (areas_in n b)
     unfolding grown
-    held_stays = ap (grown_by x (areas_in n b)) (sym q ∙ asked)
+    held_stays = go (lookup (sf031 x) (areas_in n b)) (ap is_some (sym asked) ∙ sym et ∙ q)
+      where
+        go : (f : Found) → is_some f ≡ true → areas_in n b ≡ grown_by x (areas_in n b) f
+        go (Some y) e = refl
+        go None e = absurd (mathlib.Core.Bool.false≢true e)
 
     pub add_same : n ≡ length (grown x (areas_in n b))
     add_same = sym (length-areas n b) ∙ ap length held_stays
@@ -311,10 +256,13 @@ module _ (b : List ℕ) (n x d : ℕ) (v : Found) (ed : d ≡ sf031 x) (ev : v �
         ∙ ap₂ (λ l k. l ++ drop (6 * k) b) p.image (sym (length-areas n b))
         ∙ ap (λ l. bytes_of_all l ++ drop (6 * length l) b) held_stays
 
-  module _ (q : v ≡ None) where
+  module _ (q : t ≡ false) where
+    pub add-new : lookup (sf031 x) (areas_in n b) ≡ None
+    add-new = sym asked ∙ none-there v (sym et ∙ q)
+
     new-put : insert x (areas_in n b) ≡ grown x (areas_in n b)
     unfolding grown
-    new-put = ap (grown_by x (areas_in n b)) (sym q ∙ asked)
+    new-put = ap (grown_by x (areas_in n b)) (sym add-new)
 
     pub add-more : n + 1 ≡ length (grown x (areas_in n b))
     add-more = omega (arith, length-areas n b, length-insert x (areas_in n b)) ∙ ap length new-put

@@ -1,7 +1,7 @@
 // The area book: one AIOU, one SIOU and up to 32 areas, ascending by ID, in lent bytes (document 01, "Book and run"; document 02, request 5).
 #![tactic(auto)]
 
-ghost use Rattle.std.specs.Prelude.{◌≡◌, true, cond, ◌++◌, ◌+◌, ◌*◌, ◌^◌, ◌<◌, ◌≤◌, length, get_or, drop};
+ghost use Rattle.std.specs.Prelude.{◌≡◌, true, cond, ◌++◌, ◌+◌, ◌*◌, ◌^◌, ◌<◌, ◌≤◌, length, get_or, drop, None};
 ghost use Rattle.sizes.specs.Sizes.{most_areas, book_bytes};
 ghost use Rattle.bits.specs.Part.{PartOf};
 ghost use Rattle.area.specs.Area.{sf031, number_in};
@@ -13,10 +13,8 @@ ghost use Rattle.book.specs.TakeLaws.{or_else};
 ghost use Rattle.book.specs.Search.{Below, Passed, Reached};
 ghost use Rattle.book.specs.Judge.{sound_area, judged_by, is_taken, judge_found, judge_block, grown, Image};
 
-use quick::Extent;
-use answer::{Fault, Place, Refusal};
+use answer::{Fault, Refusal};
 use area::AreaId;
-use sheet::ReadAnswer;
 
 // What is known of a book besides its bytes: AIOU + 1, or 0 where it has no AIOU; SIOU + 1, or 0 where that is unknown; and how many areas
 // it has.
@@ -41,9 +39,9 @@ pub fn book_of(aiou_plus_one: u8, siou_plus_one: u16, count: usize) -> Book
     ensures { result ≡ book_of aiou_plus_one siou_plus_one count }
 {
     Book {
-        aiou_plus_one: aiou_plus_one,
-        siou_plus_one: siou_plus_one,
-        count: count,
+        aiou_plus_one,
+        siou_plus_one,
+        count,
     }
 }
 
@@ -53,29 +51,11 @@ pub fn no_book() -> Book
     book_of(0, 0, 0)
 }
 
-fn wide(x: u8) -> usize
-    ensures { (result ≡ x) × (result < 256) }
-{
-    x as usize
-}
-
-fn wide_siou(x: u16) -> u64
-    ensures { result ≡ x }
-{
-    x as u64
-}
-
 // Whether SIOU + 1 is that of a sound book with this AIOU + 1.
 pub fn siou_is_sound(aiou_plus_one: u8, siou_plus_one: u64) -> bool
     ensures { result ≡ siou_sound aiou_plus_one siou_plus_one }
 {
-    if 512 < siou_plus_one {
-        return false;
-    }
-    if aiou_plus_one == 0 {
-        return siou_plus_one == 0;
-    }
-    true
+    siou_plus_one <= 512 && (aiou_plus_one != 0 || siou_plus_one == 0)
 }
 
 // Whether AIOU, SIOU and count are those of a sound book.
@@ -83,20 +63,10 @@ pub fn head_is_sound(book: Book) -> bool
     ensures { result ≡ head_sound book }
 {
     let aiou = book.aiou_plus_one;
-    let count = book.count;
-    if !siou_is_sound(aiou, wide_siou(book.siou_plus_one)) {
-        return false;
-    }
-    if aiou == 0 {
-        return count == 0;
-    }
-    if count == 0 {
-        return false;
-    }
-    if 16 < aiou {
-        return false;
-    }
-    count <= sizes::MOST_AREAS
+    (aiou == 0) == (book.count == 0)
+        && siou_is_sound(aiou, book.siou_plus_one as u64)
+        && aiou <= 16
+        && book.count <= sizes::MOST_AREAS
 }
 
 // The number that four bytes say: of an area its ID, its latitude, its longitude and a bit more. A compiler makes one load of it.
@@ -104,8 +74,7 @@ fn four(bytes: &[u8], at: usize) -> usize
     requires { at + 4 ≤ length bytes.now }
     ensures { result ≡ ((get_or bytes.now at 0 * 256 + get_or bytes.now (at + 1) 0) * 256 + get_or bytes.now (at + 2) 0) * 256 + get_or bytes.now (at + 3) 0 }
 {
-    ((wide(bytes[at]) * 256 + wide(bytes[at + 1])) * 256 + wide(bytes[at + 2])) * 256
-        + wide(bytes[at + 3])
+    u32::from_be_bytes([bytes[at], bytes[at + 1], bytes[at + 2], bytes[at + 3]]) as usize
 }
 
 // Whether the six bytes from at on are an area's, whose ID is `least` or more. No grid is higher than 22.4 degrees, so that few areas need a look at theirs.
@@ -137,13 +106,11 @@ fn areas_are_sound(bytes: &[u8], count: usize) -> bool
     ensures { result ≡ areas_sound count 0 bytes.now }
 {
     let mut least: usize = 0;
-    let mut i: usize = 0;
-    while i < count {
+    for i in 0..count {
         if !is_sound_at(bytes, 6 * i, least) {
             return false;
         }
-        least = wide(bytes[6 * i]) + 1;
-        i += 1;
+        least = bytes[6 * i] as usize + 1;
     }
     true
 }
@@ -166,12 +133,10 @@ fn place(bytes: &[u8], count: usize, id: u8) -> usize
     requires { 6 * count ≤ length bytes.now }
     ensures { result ≡ place_of id count bytes.now }
 {
-    let mut i: usize = 0;
-    while i < count {
+    for i in 0..count {
         if bytes[6 * i] == id {
             return i;
         }
-        i += 1;
     }
     count
 }
@@ -195,32 +160,12 @@ pub fn find(book: Book, bytes: &[u8], id: AreaId) -> &[u8]
     &bytes[at..end]
 }
 
-fn octet(x: u64) -> u8
-    requires { x < 256 }
-    ensures { result ≡ x }
-{
-    x as u8
-}
-
-fn count(x: u64) -> usize
-    ensures { result ≡ x }
-{
-    x as usize
-}
-
 // AIOU + 1 of a GAD payload.
 fn aiou_plus_one(payload: &[u8]) -> u8
     requires { 3 ≤ length payload.now }
     ensures { result ≡ aiou_of payload.now + 1 }
 {
-    octet(bits::get(payload, 9, 4) + 1)
-}
-
-fn two_octets(x: u64) -> u16
-    requires { x < 65536 }
-    ensures { result ≡ x }
-{
-    x as u16
+    (bits::get(payload, 9, 4) + 1) as u8
 }
 
 // SIOU + 1 of it.
@@ -228,7 +173,7 @@ fn siou_plus_one(payload: &[u8]) -> u16
     requires { 3 ≤ length payload.now }
     ensures { result ≡ siou_of payload.now + 1 }
 {
-    two_octets(bits::get(payload, 0, 9) + 1)
+    (bits::get(payload, 0, 9) + 1) as u16
 }
 
 // SF030 means code plus one.
@@ -236,7 +181,7 @@ fn block_count(payload: &[u8]) -> usize
     requires { 3 ≤ length payload.now }
     ensures { (result ≡ block_count payload.now) × (result ≤ most_blocks) }
 {
-    count(bits::get(payload, 14, 5) + 1)
+    (bits::get(payload, 14, 5) + 1) as usize
 }
 
 // A block's area, out of one word: the eight bytes from its first on, or the payload's last eight.
@@ -279,12 +224,10 @@ fn reach(bytes: &[u8], count: usize, from: usize, id: u8) -> usize
     requires { (6 * count ≤ length bytes.now) × Passed id count bytes.now from }
     ensures { Reached id count bytes.now result }
 {
-    let mut i = from;
-    while i < count {
+    for i in from..count {
         if id <= bytes[6 * i] {
             return i;
         }
-        i += 1;
     }
     count
 }
@@ -294,7 +237,7 @@ fn seek(bytes: &[u8], count: usize, at: usize, least: usize, id: u8) -> usize
     requires { (6 * count ≤ length bytes.now) × Passed least count bytes.now at }
     ensures { Reached id count bytes.now result }
 {
-    if wide(id) < least {
+    if (id as usize) < least {
         return reach(bytes, count, 0, id);
     }
     reach(bytes, count, at, id)
@@ -305,10 +248,7 @@ fn past(least: usize, id: u8) -> usize
     requires { least ≤ 256 }
     ensures { (result ≤ 256) × (least ≤ result) × (id < result) }
 {
-    if wide(id) < least {
-        return least;
-    }
-    wide(id) + 1
+    least.max(id as usize + 1)
 }
 
 // The area with this ID among ascending ones, of which so many have a smaller ID.
@@ -330,13 +270,11 @@ fn look_before(payload: &[u8], n: usize, id: u8) -> Found
     requires { (n ≤ most_blocks) × (block_start n ≤ 8 * length payload.now) }
     ensures { result ≡ lookup id (blocks_from n 0 payload.now) }
 {
-    let mut i: usize = 0;
-    while i < n {
+    for i in 0..n {
         let area = block(payload, i);
         if area::id(area) == id {
             return Some(area);
         }
-        i += 1;
     }
     None
 }
@@ -355,15 +293,14 @@ fn known(
     requires n_le_most_blocks { (n ≤ most_blocks) × (block_start n ≤ 8 * length payload.now) × Below least (blocks_from n 0 payload.now) }
     ensures { result ≡ or_else (lookup id (areas_in count bytes.now)) (lookup id (blocks_from n 0 payload.now)) }
 {
-    match look_at(bytes, count, at, id) {
-        Some(area) => Some(area),
-        None => {
-            if least <= wide(id) {
-                return None;
-            }
-            look_before(payload, n, id)
-        }
+    let held = look_at(bytes, count, at, id);
+    if held.is_some() {
+        return held;
     }
+    if least <= id as usize {
+        return None;
+    }
+    look_before(payload, n, id)
 }
 
 // An area against what is known of its ID. BOOK_FULL is decided here alone.
@@ -371,26 +308,10 @@ fn judge_found(area: u64, found: Found, held: usize) -> Judged
     ensures { result ≡ judge_found area found held }
 {
     match found {
-        Some(other) => {
-            if area == other {
-                Ok(held)
-            } else {
-                Err(Fault {
-                    refusal: Refusal::Conflict,
-                    place: None,
-                })
-            }
-        }
-        None => {
-            if held < sizes::MOST_AREAS {
-                Ok(held + 1)
-            } else {
-                Err(Fault {
-                    refusal: Refusal::BookFull,
-                    place: None,
-                })
-            }
-        }
+        Some(other) if area == other => Ok(held),
+        Some(_) => Err(Fault::from(Refusal::Conflict)),
+        None if held < sizes::MOST_AREAS => Ok(held + 1),
+        None => Err(Fault::from(Refusal::BookFull)),
     }
 }
 
@@ -399,10 +320,7 @@ fn judge_block(area: u64, found: Found, held: usize) -> Judged
     ensures { result ≡ judge_block area found held }
 {
     if area::is_off(area) {
-        return Err(Fault {
-            refusal: Refusal::AreaOff,
-            place: None,
-        });
+        return Err(Fault::from(Refusal::AreaOff));
     }
     judge_found(area, found, held)
 }
@@ -416,46 +334,24 @@ fn judge(bytes: &[u8], count: usize, payload: &[u8]) -> Judged
     let mut held = count;
     let mut at: usize = 0;
     let mut least: usize = 0;
-    let mut i: usize = 0;
-    while i < n {
+    for i in 0..n {
         let area = block(payload, i);
         let id = area::id(area);
-        let next = seek(bytes, count, at, least, id);
-        match judge_block(area, known(bytes, count, payload, i, next, least, id), held) {
-            Ok(more) => {
-                held = more;
-                at = next;
-                least = past(least, id);
-                i += 1;
-            }
-            Err(refusal) => {
-                return Err(refusal);
-            }
-        }
+        at = seek(bytes, count, at, least, id);
+        held = judge_block(area, known(bytes, count, payload, i, at, least, id), held)?;
+        least = past(least, id);
     }
     Ok(held)
 }
 
-// A new area takes its place among the book's, of which so many have a smaller ID: of the others the one with the smaller ID is put down, the other is
-// carried on.
+// A new area takes its place among the book's, of which so many have a smaller ID: the others make room for it.
 fn insert(bytes: &mut [u8], count: usize, at: usize, area: u64)
-    requires image { Image count bytes.old × (count < most_areas) × (6 * count + 6 ≤ length bytes.old) × (area < 2 ^ 47) }
-    requires passed { Passed (sf031 area) count bytes.old at }
+    requires image { Image count bytes.old × (count < most_areas) × (6 * count + 6 ≤ length bytes.old) }
+    requires reached { Reached (sf031 area) count bytes.old at × (lookup (sf031 area) (areas_in count bytes.old) ≡ None) }
     ensures { bytes.new ≡ bytes_of_all (insert area (areas_in count bytes.old)) ++ drop (6 * count + 6) bytes.old }
 {
-    let mut carried = area;
-    let mut i = at;
-    while i < count {
-        let next = area::number_at(bytes, 6 * i) / 2;
-        if area::id(carried) < area::id(next) {
-            area::put_at(bytes, 6 * i, carried);
-            carried = next;
-            i += 1;
-        } else {
-            i += 1;
-        }
-    }
-    area::put_at(bytes, 6 * count, carried);
+    bytes.copy_within(6 * at..6 * count, 6 * at + 6);
+    area::put_at(bytes, 6 * at, area);
 }
 
 // The same for a block that may be held already: how many areas there are then.
@@ -465,13 +361,11 @@ fn add(bytes: &mut [u8], held: usize, at: usize, area: u64) -> usize
     ensures value { result ≡ length (grown area (areas_in held bytes.old)) }
     ensures bytes_after { bytes.new ≡ left_by (taken (grown area (areas_in held bytes.old))) bytes.old }
 {
-    match look_at(bytes, held, at, area::id(area)) {
-        Some(_) => held,
-        None => {
-            insert(bytes, held, at, area);
-            held + 1
-        }
+    if look_at(bytes, held, at, area::id(area)).is_some() {
+        return held;
     }
+    insert(bytes, held, at, area);
+    held + 1
 }
 
 // Each block that is not held yet takes its place. They have all been judged: the message is taken.
@@ -484,15 +378,12 @@ fn insert_all(bytes: &mut [u8], count: usize, payload: &[u8])
     let mut held = count;
     let mut at: usize = 0;
     let mut least: usize = 0;
-    let mut i: usize = 0;
-    while i < n {
+    for i in 0..n {
         let area = block(payload, i);
         let id = area::id(area);
-        let next = seek(bytes, held, at, least, id);
-        held = add(bytes, held, next, area);
-        at = next;
+        at = seek(bytes, held, at, least, id);
+        held = add(bytes, held, at, area);
         least = past(least, id);
-        i += 1;
     }
 }
 
@@ -518,16 +409,11 @@ fn take_blocks(book: Book, bytes: &mut [u8], payload: &[u8]) -> Taken
     let aiou = aiou_plus_one(payload);
     let siou = siou_plus_one(payload);
     let count = count_under(book, aiou, siou);
-    match judge(bytes, count, payload) {
-        Err(refusal) => Err(refusal),
-        Ok(held) => {
-            if held == count {
-                return Ok(book_of(aiou, siou, held));
-            }
-            insert_all(bytes, count, payload);
-            Ok(book_of(aiou, siou, held))
-        }
+    let held = judge(bytes, count, payload)?;
+    if held != count {
+        insert_all(bytes, count, payload);
     }
+    Ok(book_of(aiou, siou, held))
 }
 
 // Takes a GAD payload: the book that is left, with its areas in the lent bytes. It is taken whole, or refused and nothing changes. The
@@ -537,24 +423,13 @@ pub fn take(book: Book, bytes: &mut [u8], payload: &[u8]) -> Taken
     ensures bytes_after { bytes.new ≡ bytes_after book bytes.old payload.now }
 {
     if bytes.len() < sizes::BOOK_BYTES {
-        return Err(Fault {
-            refusal: Refusal::Room,
-            place: None,
-        });
+        return Err(Fault::from(Refusal::Room));
     }
     if !is_sound(book, bytes) {
-        return Err(Fault {
-            refusal: Refusal::State,
-            place: None,
-        });
+        return Err(Fault::from(Refusal::State));
     }
-    match sheet::judge(2, 0, payload) {
-        Err(fault) => Err(fault),
-        Ok(Extent {
-            bits: _,
-            entries: _,
-        }) => take_blocks(book, bytes, payload),
-    }
+    sheet::judge(2, 0, payload)?;
+    take_blocks(book, bytes, payload)
 }
 
 // The answer's number in document 01.
@@ -563,9 +438,6 @@ pub fn number_taken(answer: Taken) -> u8
 {
     match answer {
         Ok(_) => 0,
-        Err(fault) => {
-            let refusal = fault.refusal;
-            answer::number(refusal)
-        }
+        Err(fault) => answer::number(fault.refusal),
     }
 }

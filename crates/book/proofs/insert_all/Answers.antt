@@ -6,8 +6,8 @@ use Rattle.book.proofs.insert_all.Goals as goal
 pub loop-i-init : goal.loop-i-init
 loop-i-init c = search (fill_start, seek-anew, rules)
 
-pub seek-next-requires : goal.seek-next-requires
-seek-next-requires c = search (fill-fits, rules)
+pub seek-at-requires : goal.seek-at-requires
+seek-at-requires c = search (fill-fits, rules)
 
 pub add-held-requires-clause-image : goal.add-held-requires-clause-image
 add-held-requires-clause-image c = (search (fill-image, rules), search rules, search (fill-long, rules), search rules)

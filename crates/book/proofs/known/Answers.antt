@@ -3,11 +3,11 @@ use Rattle.book.proofs.Blocks.{known-area, known-before, known-new}
 use borrow.Author.Rules.{rules}
 use Rattle.book.proofs.known.Goals as goal
 
-pub returns-then-least-wide : goal.returns-then-least-wide
-returns-then-least-wide c = search (known-new, rules)
+pub returns-then-is_some : goal.returns-then-is_some
+returns-then-is_some c = search (known-area, rules)
 
-pub returns-in-Some : goal.returns-in-Some
-returns-in-Some c = search (known-area, rules)
+pub returns-then-least-id : goal.returns-then-least-id
+returns-then-least-id c = search (known-new, rules)
 
-pub returns-else-least-wide : goal.returns-else-least-wide
-returns-else-least-wide c = search (known-before, rules)
+pub returns : goal.returns
+returns c = search (known-before, rules)

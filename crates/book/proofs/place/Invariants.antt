@@ -1,10 +1,6 @@
 -- `place`: the areas passed do not have the ID.
-use Prim.Native.Nat.{◌-◌}
 use Rattle.book.proofs.Reading.{Seeking}
 use Rattle.book.proofs.place.Given as goal
 
 abbrev pub invariant-loop-i : goal.invariant-loop-i
 invariant-loop-i l = Seeking l.bytes l.id l.count l.i
-
-abbrev pub decreases-loop-i : goal.decreases-loop-i
-decreases-loop-i l = l.count - l.i

@@ -1,13 +1,16 @@
 -- `siou_is_sound`: the tests are those of `siou_sound`.
-use Rattle.book.proofs.Reading.{siou-over, siou-without, siou-with}
 use borrow.Author.Rules.{rules}
+use Rattle.book.specs.Book.{siou_sound}
 use Rattle.book.proofs.siou_is_sound.Goals as goal
 
-pub returns-then-siou_plus_one-gt512 : goal.returns-then-siou_plus_one-gt512
-returns-then-siou_plus_one-gt512 c = search (siou-over, rules)
+pub returns-else-siou_plus_one-le512 : goal.returns-else-siou_plus_one-le512
+unfolding siou_sound
+returns-else-siou_plus_one-le512 c = search rules
 
-pub returns-then-aiou_plus_one-eq0 : goal.returns-then-aiou_plus_one-eq0
-returns-then-aiou_plus_one-eq0 c = search (siou-without, rules)
+pub returns-then-aiou_plus_one-ne0 : goal.returns-then-aiou_plus_one-ne0
+unfolding siou_sound
+returns-then-aiou_plus_one-ne0 c = search rules
 
-pub returns : goal.returns
-returns c = search (siou-with, rules)
+pub returns-else-aiou_plus_one-ne0 : goal.returns-else-aiou_plus_one-ne0
+unfolding siou_sound
+returns-else-aiou_plus_one-ne0 c = search rules
