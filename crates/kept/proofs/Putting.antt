@@ -232,34 +232,34 @@ laid_more out numbers o new e f x p q n =
 pub room-form : (out : List ℕ) → 4 ≤ length out → 0 + length (groups_of newest_form) ≤ length out
 room-form out k = omega (arith, length_last newest_form (omega arith))
 
-module _ (book : Book) (h : head_sound book ≡ true) (e₁ : ℕ) (q₁ : e₁ ≡ 0 + length (groups_of newest_form)) (a : ℕ) (qa : a ≡ book.aiou_plus_one) where
+module _ (book : Book) (h : head_sound book ≡ true) (e₁ : ℕ) (q₁ : e₁ ≡ 0 + length (groups_of newest_form)) where
   form-one : e₁ ≡ 1
   form-one = omega (arith, length_last newest_form (omega arith))
 
-  aiou-one : length (groups_of a) ≡ 1
-  aiou-one = length_last a (omega (arith, (head-parts book h).0))
+  aiou-one : length (groups_of book.aiou_plus_one) ≡ 1
+  aiou-one = length_last book.aiou_plus_one (omega (arith, (head-parts book h).0))
 
-  pub room-aiou : (o₁ out : List ℕ) → length o₁ ≡ length out → 4 ≤ length out → e₁ + length (groups_of a) ≤ length o₁
+  pub room-aiou : (o₁ out : List ℕ) → length o₁ ≡ length out → 4 ≤ length out → e₁ + length (groups_of book.aiou_plus_one) ≤ length o₁
   room-aiou o₁ out n k = omega (arith, form-one, aiou-one)
 
-  module _ (e₂ : ℕ) (q₂ : e₂ ≡ e₁ + length (groups_of a)) (u : ℕ) (qu : u ≡ book.siou_plus_one) where
-    siou-two : length (groups_of u) ≤ 2
-    siou-two = length-le 1 u (omega (arith, siou-most book.aiou_plus_one book.siou_plus_one (head-parts book h).2))
+  module _ (e₂ : ℕ) (q₂ : e₂ ≡ e₁ + length (groups_of book.aiou_plus_one)) where
+    siou-two : length (groups_of book.siou_plus_one) ≤ 2
+    siou-two = length-le 1 book.siou_plus_one (omega (arith, siou-most book.aiou_plus_one book.siou_plus_one (head-parts book h).2))
 
-    pub room-siou : (o₁ o₂ out : List ℕ) → length o₂ ≡ length o₁ → length o₁ ≡ length out → 4 ≤ length out → e₂ + length (groups_of u) ≤ length o₂
+    pub room-siou : (o₁ o₂ out : List ℕ) → length o₂ ≡ length o₁ → length o₁ ≡ length out → 4 ≤ length out → e₂ + length (groups_of book.siou_plus_one) ≤ length o₂
     room-siou o₁ o₂ out m n k = omega (arith, form-one, aiou-one, siou-two)
 
-    module _ (e₃ : ℕ) (q₃ : e₃ ≡ e₂ + length (groups_of u)) where
+    module _ (e₃ : ℕ) (q₃ : e₃ ≡ e₂ + length (groups_of book.siou_plus_one)) where
       pub issues-four : e₃ ≤ 4
       issues-four = omega (arith, form-one, aiou-one, siou-two)
 
-      module _ (out o₁ o₂ o₃ : List ℕ) (r₁ : o₁ ≡ take 0 out ++ (groups_of newest_form ++ drop e₁ out)) (r₂ : o₂ ≡ take e₁ o₁ ++ (groups_of a ++ drop e₂ o₁))
-          (r₃ : o₃ ≡ take e₂ o₂ ++ (groups_of u ++ drop e₃ o₂)) where
+      module _ (out o₁ o₂ o₃ : List ℕ) (r₁ : o₁ ≡ take 0 out ++ (groups_of newest_form ++ drop e₁ out)) (r₂ : o₂ ≡ take e₁ o₁ ++ (groups_of book.aiou_plus_one ++ drop e₂ o₁))
+          (r₃ : o₃ ≡ take e₂ o₂ ++ (groups_of book.siou_plus_one ++ drop e₃ o₂)) where
         all_laid : Laid out (newest_form ∷ book.aiou_plus_one ∷ book.siou_plus_one ∷ []) e₃ o₃
         all_laid =
             let p₁ : Laid out (newest_form ∷ []) e₁ o₁ = laid_more out [] out o₁ 0 e₁ newest_form (laid_none out) q₁ r₁ in
-            let p₂ : Laid out (newest_form ∷ a ∷ []) e₂ o₂ = laid_more out (newest_form ∷ []) o₁ o₂ e₁ e₂ a p₁ q₂ r₂ in
-            subst (λ l. Laid out l e₃ o₃) (ap₂ (λ x y. newest_form ∷ x ∷ y ∷ []) qa qu) (laid_more out (newest_form ∷ a ∷ []) o₂ o₃ e₂ e₃ u p₂ q₃ r₃)
+            let p₂ : Laid out (newest_form ∷ book.aiou_plus_one ∷ []) e₂ o₂ = laid_more out (newest_form ∷ []) o₁ o₂ e₁ e₂ book.aiou_plus_one p₁ q₂ r₂ in
+            laid_more out (newest_form ∷ book.aiou_plus_one ∷ []) o₂ o₃ e₂ e₃ book.siou_plus_one p₂ q₃ r₃
 
         pub issues-end : e₃ ≡ length (issue_bytes book)
         issues-end = sym all_laid.ends

@@ -5,23 +5,23 @@ use mathlib.Core.Bool.{Bool, true, false, not}
 use mathlib.Core.List.{List, [], ◌∷◌, ◌++◌, append_assoc, append-nil}
 use Prim.Native.Nat.{ℕ, suc, ◌+◌, ◌-◌, ◌*◌, ◌≤◌, ◌<◌}
 use native.Mathlib.Omega.{arith}
-use lib.Dec.{leb, ltb, eqb}
+use lib.Dec.{leb, ltb}
 use lib.ListN.{length, drop, length-append, length-drop, drop_of_length-le}
 use lib.Seq.{drop-drop, drop-cons}
-use borrow.Author.Tests.{lt-ltb, le-ltb, lt-leb, le-leb, not-true, not-false}
+use borrow.Author.Tests.{lt-ltb, le-ltb, lt-leb, le-leb, not-false}
 use Rattle.answer.specs.Stop.{stop}
 use Rattle.answer.specs.declared.Refusal.{Refusal}
 use Rattle.answer.specs.declared.Refusal.TheVariants.{Room, Form, Leftover}
 use Rattle.sizes.specs.Sizes.{most_areas, book_bytes}
-use Rattle.area.specs.Area.{sf031, is_area, put_at}
-use Rattle.book.specs.Book.{book_of, bytes_of_all, siou_sound, head_sound}
+use Rattle.area.specs.Area.{sf031, put_at}
+use Rattle.book.specs.Book.{book_of, bytes_of_all, siou_sound}
 use Rattle.book.specs.Laws.{length-bytes, head-parts, siou-most}
 use Rattle.book.proofs.Taking.{put-image}
 use Rattle.book.specs.declared.Book.{Book}
 use Rattle.groups.specs.Groups.{next_of}
 use Rattle.groups.specs.Rows.{next_le}
 use Rattle.groups.specs.Results.{Next}
-use Rattle.kept.specs.Kept.{newest_form, is_form, head_in, Said, said, refused, number, whole, not-kept, answer_of, left_by, read_kept, fits, with_area, read_areas, read_count, read_siou, read_aiou, read_head}
+use Rattle.kept.specs.Kept.{is_form, head_in, Said, said, refused, number, whole, not-kept, answer_of, left_by, read_kept, fits, with_area, read_areas, read_count, read_siou, read_aiou, read_head}
 use Rattle.kept.specs.RoundTrip.{past-none}
 use Rattle.kept.specs.ReadLaws.{head-sound}
 use Rattle.kept.specs.Walk.{HeadIs, Areas, EndIs, stored_by, is_said, step-on, step-off, step-form, step_past}
@@ -29,31 +29,13 @@ use Rattle.kept.specs.Results.{Head}
 use Rattle.kept.specs.Results.{Ended}
 use Rattle.kept.specs.Results.{ReadKept}
 
--- ---- the forms
+-- ---- the exit of a `?`
 
-module _ (f : ℕ) where
-  pub form-under : f < 1 → false ≡ is_form f
-  form-under h = let z : leb 1 f ≡ false = lt-leb 1 f h in rw z
+pub head-err : (s : List ℕ) (o : Said Book) (v : Head) (y r : Refusal) → v ≡ Err y → y ≡ r → o ≡ refused r → HeadIs s o v
+head-err s o v y r e q h = subst (λ v. HeadIs s o v) (sym (e ∙ ap Err q)) h
 
-  pub form-upto : 1 ≤ f → (b : Bool) → b ≡ leb f newest_form → b ≡ is_form f
-  form-upto h b e = let z : leb 1 f ≡ true = le-leb 1 f h in rw z e
-
-  module _ (book : Book) (b : Bool) (eb : b ≡ head_sound book) where
-    pub head-unsound : not b ≡ true → false ≡ head_in f book
-    unfolding head_in
-    head-unsound k = let z : head_sound book ≡ false = sym eb ∙ not-true b k in rw z
-
-    module _ (k : not b ≡ false) where
-      is-sound : head_sound book ≡ true
-      is-sound = sym eb ∙ not-false b k
-
-      pub head-said : 2 ≤ f → true ≡ head_in f book
-      unfolding head_in
-      head-said h = let z : leb 2 f ≡ true = le-leb 2 f h in rw (is-sound, z)
-
-      pub head-unsaid : f < 2 → (u : Bool) → u ≡ eqb book.siou_plus_one 0 → u ≡ head_in f book
-      unfolding head_in
-      head-unsaid h u e = let z : leb 2 f ≡ false = lt-leb 2 f h in rw (is-sound, z) e
+pub end-err : (s : List ℕ) (o : Said (List ℕ)) (v : Ended) (y r : Refusal) → v ≡ Err y → y ≡ r → o ≡ refused r → EndIs s o v
+end-err s o v y r e q h = subst (λ v. EndIs s o v) (sym (e ∙ ap Err q)) h
 
 -- ---- the head
 
@@ -96,22 +78,19 @@ module _ (s : List ℕ) (at : ℕ) (h : at ≤ length s) (v : Next) (e : v ≡ n
         pub siou-small : x ≤ 512
         siou-small = siou-most aiou x (sym eb ∙ not-false b l)
 
-        pub siou-on : (d : ℕ) → d ≡ x → (r : Head) → HeadIs s (read_count f aiou d (drop end s)) r → HeadIs s (read_siou f aiou (drop at s)) r
+        pub siou-on : (r : Head) → HeadIs s (read_count f aiou x (drop end s)) r → HeadIs s (read_siou f aiou (drop at s)) r
         unfolding read_siou
-        siou-on d ed r =
+        siou-on r =
             let z : leb 2 f ≡ true = le-leb 2 f k in
-            subst (λ o. HeadIs s o r)
-            (ap (λ d. read_count f aiou d (drop end s)) ed
-            ∙ sym (rw z (step_past s at v e (λ siou. not (siou_sound aiou siou)) (read_count f aiou) x end q (ap not (sym eb) ∙ l))))
+            subst (λ o. HeadIs s o r) (sym (rw z (step_past s at v e (λ siou. not (siou_sound aiou siou)) (read_count f aiou) x end q (ap not (sym eb) ∙ l))))
 
     pub aiou-over : 16 < x → read_aiou f (drop at s) ≡ refused Form
     unfolding read_aiou
     aiou-over k = step-form s at v e (ltb 16) (read_siou f) x end q (lt-ltb 16 x k)
 
-    pub aiou-on : x ≤ 16 → (d : ℕ) → d ≡ x → (r : Head) → HeadIs s (read_siou f d (drop end s)) r → HeadIs s (read_aiou f (drop at s)) r
+    pub aiou-on : x ≤ 16 → (r : Head) → HeadIs s (read_siou f x (drop end s)) r → HeadIs s (read_aiou f (drop at s)) r
     unfolding read_aiou
-    aiou-on k d ed r =
-        subst (λ o. HeadIs s o r) (ap (λ d. read_siou f d (drop end s)) ed ∙ sym (step_past s at v e (ltb 16) (read_siou f) x end q (le-ltb 16 x k)))
+    aiou-on k r = subst (λ o. HeadIs s o r) (sym (step_past s at v e (ltb 16) (read_siou f) x end q (le-ltb 16 x k)))
 
 -- a number that was read ends inside
 pub end-there : (s : List ℕ) (at : ℕ) → at ≤ length s → (v : Next) → v ≡ next_of s at → (x end : ℕ) → v ≡ Ok (x, end) → end ≤ length s
@@ -136,23 +115,6 @@ module _ (s : List ℕ) (v : Next) (e : v ≡ next_of s 0) where
     pub head-on : not b ≡ false → (r : Head) → HeadIs s (read_aiou x (drop end s)) r → HeadIs s (read_head s) r
     unfolding read_head
     head-on k r = subst (λ o. HeadIs s o r) (sym (step_past s 0 v e (λ f. not (is_form f)) read_aiou x end q (ap not (sym eb) ∙ k)))
-
--- ---- an area
-
-module _ (others least a d w : ℕ) (ed : d ≡ sf031 a) (ew : w ≡ d) where
-  pub fits_low : w < least → false ≡ fits others least a
-  fits_low h = let z : leb least (sf031 a) ≡ false = lt-leb _ _ (subst (λ w. w < least) (ew ∙ ed) h) in rw z
-
-  module _ (h : least ≤ w) where
-    pub fits-high : 255 < w + others → false ≡ fits others least a
-    fits-high k =
-        let z : leb least (sf031 a) ≡ true = le-leb _ _ (subst (λ w. least ≤ w) (ew ∙ ed) h) in
-        let y : leb (sf031 a + others) 255 ≡ false = lt-leb _ _ (subst (λ w. 255 < w + others) (ew ∙ ed) k) in rw (z, y)
-
-    pub fits-rest : w + others ≤ 255 → (b : Bool) → b ≡ is_area a → b ≡ fits others least a
-    fits-rest k b e =
-        let z : leb least (sf031 a) ≡ true = le-leb _ _ (subst (λ w. least ≤ w) (ew ∙ ed) h) in
-        let y : leb (sf031 a + others) 255 ≡ true = le-leb _ _ (subst (λ w. w + others ≤ 255) (ew ∙ ed) k) in rw (z, y) e
 
 -- ---- the areas
 
@@ -199,10 +161,10 @@ module _ (s : List ℕ) (n at i least end : ℕ) (p : Walking s n at i least end
     pub walk-form : not b ≡ true → read_areas n 0 (drop at s) ≡ refused Form
     walk-form k = p.off Form (first ∙ step-form s end v e (λ a. not (fits (n - i - 1) least a)) further x to q (ap not (sym eb) ∙ k))
 
-    pub walk_turn : not b ≡ false → (d w : ℕ) → d ≡ sf031 x → w ≡ d → w < 256 → Walking s n at (i + 1) (w + 1) to
-    walk_turn k d w ed ew small =
-        let same : suc (sf031 x) ≡ w + 1 = ap suc (sym (ew ∙ ed)) ∙ omega arith in
-        let all : read_areas (n - i) least (drop end s) ≡ with_area x (read_areas (n - (i + 1)) (w + 1) (drop to s))
+    pub walk_turn : not b ≡ false → (d : ℕ) → d ≡ sf031 x → Walking s n at (i + 1) (d + 1) to
+    walk_turn k d ed =
+        let same : suc (sf031 x) ≡ d + 1 = ap suc (sym ed) ∙ omega arith in
+        let all : read_areas (n - i) least (drop end s) ≡ with_area x (read_areas (n - (i + 1)) (d + 1) (drop to s))
         = first ∙ step_past s end v e (λ a. not (fits (n - i - 1) least a)) further x to q (ap not (sym eb) ∙ k)
         ∙ ap (λ j. with_area x (read_areas (n - (i + 1)) j (drop to s))) same in
         record {

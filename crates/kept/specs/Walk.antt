@@ -4,6 +4,7 @@ use Rattle.std.proofs.Common.{sym, ◌∙◌, arith, drop-drop}
 use Rattle.std.specs.Prelude.{List, [], ◌∷◌, ◌++◌, ℕ, ◌+◌, ◌*◌, ◌≤◌, length, Bool, true, false, Ok, Err}
 use Rattle.std.proofs.Math.ListN.{drop}
 use Rattle.answer.specs.Stop.{stop}
+use Rattle.answer.specs.Pairs.{ok-first, ok-second}
 use Rattle.answer.specs.declared.Refusal.{Refusal}
 use Rattle.answer.specs.declared.Refusal.TheVariants.{Form}
 use Rattle.book.specs.Book.{bytes_of_all}
@@ -53,8 +54,8 @@ module _ {A : Type 0} (s : List ℕ) (at : ℕ) (v : Next) (e : v ≡ next_of s 
     where
       go : (r : Read) → next_by r at ≡ Ok (x, end) → behind r (drop at s) k ≡ k x (drop end s)
       go (Ok (y, n)) z =
-          let a : y ≡ x = cc in
-          let b : at + n ≡ end = cc in
+          let a : y ≡ x = ok-first z in
+          let b : at + n ≡ end = ok-second z in
           ap₂ k a (drop-drop n at s ∙ ap (λ j. drop j s) b)
       go (Err r) z = let w : ◌≡◌ {A = ℕ} 0 1 = cc in absurd (omega arith)
 

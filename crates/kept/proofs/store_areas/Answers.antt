@@ -5,11 +5,8 @@ use Rattle.kept.proofs.store_areas.Goals as goal
 pub loop-i-init : goal.loop-i-init
 loop-i-init c = search (store-start, rules)
 
-pub shape_of-bytes-in-Err : goal.shape_of-bytes-in-Err
-shape_of-bytes-in-Err c = search (store_length, rules)
-
-pub returns-in-Err : goal.returns-in-Err
-returns-in-Err c = search (store-never, rules)
+pub returns-in_default : goal.returns-in_default
+returns-in_default c = search (store-never, rules)
 
 pub loop-i-preserved : goal.loop-i-preserved
 loop-i-preserved c = search (store-turn, rules)
