@@ -13,7 +13,7 @@ use Rattle.bits.specs.Bits.{bits_of}
 use Rattle.bits.specs.Laws.{bits_of-add, bits_of-low, more_lt}
 use Rattle.checks.specs.Crc.{shift, crc_bits}
 use Rattle.checks.specs.Steps.{shifts}
-use Rattle.checks.specs.Folds.{after, ups, downs, spread}
+use Rattle.checks.specs.Folds.{after, ups, downs, spread, sums, Near, Rule}
 use Rattle.checks.specs.Xor.{xor-four, xor-shl}
 use Rattle.checks.specs.Register.{shift-lt, shifts-lt, shift-xor, shifts-xor, shifts-add, shifts-zero, bits-append, bits-shifts}
 use Rattle.checks.proofs.Table.{both, both_left, both_right}
@@ -46,11 +46,6 @@ agree f g lf lg z (suc n) h x l =
 
 bit-lt : (w t : ℕ) → 1 ≤ w → t < 2 → t * 2 ^ (w - 1) < 2 ^ w
 bit-lt w t h l = subst (λ (x : ℕ). t * 2 ^ (w - 1) < 2 ^ x) {y = w} (omega arith) (shl_lt 1 (w - 1) l)
-
--- so many shifts, and each of others, all added
-abbrev pub sums : ℕ → ℕ → ℕ → List ℕ → ℕ → ℕ
-sums w p e [] r = shifts w p e r
-sums w p e (f ∷ es) r = bit_xor (shifts w p e r) (sums w p f es r)
 
 module _ (w p : ℕ) (h1 : 1 ≤ w) (hp : p < 2 ^ w) where
   in-lt : (r x n : ℕ) → r < 2 ^ w → bit_xor r (x / 2 ^ n % 2 * 2 ^ (w - 1)) < 2 ^ w
@@ -191,11 +186,6 @@ module _ (w p : ℕ) (h1 : 1 ≤ w) (hp : p < 2 ^ w) where
         at-sums : sums w p e es (after w p 64 0) ≡ 0
         at-sums = ap (sums w p e es) (after_none 64) ∙ none-sums e es
 
--- all counts are at most 64
-abbrev pub Near : ℕ → List ℕ → Type 0
-Near e [] = e ≤ 64
-Near e (f ∷ es) = (e ≤ 64) × Near f es
-
 module _ (w p : ℕ) (h1 : 1 ≤ w) (hp : p < 2 ^ w) where
   one_up : (e x : ℕ) → e ≤ 64 → x < 2 ^ 64 → after w p 128 (x * 2 ^ e) ≡ shifts w p e (after w p 64 x)
   one_up e x n l =
@@ -208,13 +198,6 @@ module _ (w p : ℕ) (h1 : 1 ≤ w) (hp : p < 2 ^ w) where
   after-ups e (f ∷ es) n x l = after-xor w p h1 hp 128 (x * 2 ^ e) (ups f es x) ∙ ap₂ bit_xor (one_up e x n.0 l) (after-ups f es n.1 x l)
 
 -- ---- 64 bits more: the upper half moves down
-
--- a bit 128 places ahead leaves the register that these bits leave
-pub record Rule (w p e : ℕ) (es : List ℕ) : Type 0 where
-  pub some : 1 ≤ w
-  pub fits : p < 2 ^ w
-  pub near : Near e es
-  pub same : shifts w p 128 (after w p 1 1) ≡ sums w p e es (after w p 1 1)
 
 module _ {w p e : ℕ} {es : List ℕ} (rule : Rule w p e es) where
   pub fold_is : (h l c : ℕ) → h < 2 ^ 64 → l < 2 ^ 64 → c < 2 ^ 64

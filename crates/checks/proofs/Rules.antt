@@ -1,4 +1,4 @@
--- The rules of TF006's table and of TF018's moves, each from one test that antt computes.
+-- The rules of TF006's table and of TF018's quotients, each from one test that antt computes.
 use mathlib.Core.Path.{◌≡◌, refl, ap, ◌∙◌}
 use mathlib.Core.List.{[], ◌∷◌}
 use mathlib.Core.Bool.{Bool}
@@ -11,7 +11,7 @@ use Rattle.checks.specs.Crc.{shift, crc_bits, reversed4}
 use Rattle.checks.specs.Steps.{shifts, half_first, frame_half}
 use Rattle.checks.specs.Folds.{after, spread}
 use Rattle.checks.proofs.Table.{below, at-below}
-use Rattle.checks.proofs.Folding.{Rule, product, circuit-is}
+use Rattle.checks.proofs.Folding.{product, circuit-is}
 
 -- ---- TF006
 
@@ -72,16 +72,7 @@ pub table-1 : IsTable 0x5BA48679C23D1FE0 1
 unfolding frame_half half_first reversed4 crc_bits shift bits_of number
 table-1 = is-table 0x5BA48679C23D1FE0 1 tt
 
--- ---- TF018: where a bit 128 places ahead may be moved, and the register after 64 bits by moves
-
-pub rule-8 : Rule 8 0x07 1 []
-unfolding after crc_bits bits_of shift shifts
-rule-8 = record { some = omega arith; fits = omega arith; near = omega arith; same = refl }
-
--- the start leaves 0
-pub start-8 : after 8 0x07 128 0 ≡ 0
-unfolding after crc_bits bits_of shift
-start-8 = refl
+-- ---- TF018: the register after 64 bits by moves
 
 pub circuit-8 : (v a b c d : ℕ) → v < 2 ^ 64
     → a ≡ spread 6 (7 ∷ 8 ∷ []) v
@@ -94,15 +85,6 @@ circuit-8 v a b c d h ea eb ec ed =
     ap (product 8 1 (2 ∷ [])) (ed ∙ ap (spread 48 (56 ∷ [])) (ec ∙ ap (spread 24 (28 ∷ 32 ∷ [])) (eb ∙ ap (spread 12 (14 ∷ 16 ∷ [])) (ea))))
     ∙ circuit-is 8 0x07 (omega arith) (omega arith) ((6, (7 ∷ 8 ∷ [])) ∷ (12, (14 ∷ 16 ∷ [])) ∷ (24, (28 ∷ 32 ∷ [])) ∷ (48, (56 ∷ [])) ∷ []) 1 (2 ∷ []) refl tt v h
 
-pub rule-16 : Rule 16 0x1021 25 (26 ∷ 52 ∷ [])
-unfolding after crc_bits bits_of shift shifts
-rule-16 = record { some = omega arith; fits = omega arith; near = (omega arith, (omega arith, omega arith)); same = refl }
-
--- the start leaves 0
-pub start-16 : after 16 0x1021 128 0 ≡ 0
-unfolding after crc_bits bits_of shift
-start-16 = refl
-
 pub circuit-16 : (v a b c d : ℕ) → v < 2 ^ 64
     → a ≡ spread 4 (11 ∷ 16 ∷ []) v
     → b ≡ spread 8 (22 ∷ 32 ∷ []) a
@@ -113,15 +95,6 @@ unfolding after crc_bits bits_of shift
 circuit-16 v a b c d h ea eb ec ed =
     ap (product 16 5 (12 ∷ [])) (ed ∙ ap (spread 32 []) (ec ∙ ap (spread 16 (44 ∷ [])) (eb ∙ ap (spread 8 (22 ∷ 32 ∷ [])) (ea))))
     ∙ circuit-is 16 0x1021 (omega arith) (omega arith) ((4, (11 ∷ 16 ∷ [])) ∷ (8, (22 ∷ 32 ∷ [])) ∷ (16, (44 ∷ [])) ∷ (32, []) ∷ []) 5 (12 ∷ []) refl tt v h
-
-pub rule-24 : Rule 24 0x864CFB 32 (43 ∷ 49 ∷ 57 ∷ 59 ∷ [])
-unfolding after crc_bits bits_of shift shifts
-rule-24 = record { some = omega arith; fits = omega arith; near = (omega arith, (omega arith, (omega arith, (omega arith, omega arith)))); same = refl }
-
--- the start leaves 0
-pub start-24 : after 24 0x864CFB 128 0 ≡ 0
-unfolding after crc_bits bits_of shift
-start-24 = refl
 
 pub circuit-24 : (v a b c d e f : ℕ) → v < 2 ^ 64
     → a ≡ spread 1 (6 ∷ 7 ∷ 10 ∷ 13 ∷ 14 ∷ 17 ∷ 18 ∷ 19 ∷ 20 ∷ 21 ∷ 23 ∷ 24 ∷ []) v
@@ -135,15 +108,6 @@ unfolding after crc_bits bits_of shift
 circuit-24 v a b c d e f h ea eb ec ed ee ef =
     ap (product 24 1 (3 ∷ 4 ∷ 5 ∷ 6 ∷ 7 ∷ 10 ∷ 11 ∷ 14 ∷ 17 ∷ 18 ∷ 23 ∷ [])) (ef ∙ ap (spread 32 []) (ee ∙ ap (spread 16 []) (ed ∙ ap (spread 8 (48 ∷ 56 ∷ [])) (ec ∙ ap (spread 4 (24 ∷ 28 ∷ 40 ∷ 52 ∷ 56 ∷ [])) (eb ∙ ap (spread 2 (12 ∷ 14 ∷ 20 ∷ 26 ∷ 28 ∷ 34 ∷ 36 ∷ 38 ∷ 40 ∷ 42 ∷ 46 ∷ 48 ∷ [])) (ea))))))
     ∙ circuit-is 24 0x864CFB (omega arith) (omega arith) ((1, (6 ∷ 7 ∷ 10 ∷ 13 ∷ 14 ∷ 17 ∷ 18 ∷ 19 ∷ 20 ∷ 21 ∷ 23 ∷ 24 ∷ [])) ∷ (2, (12 ∷ 14 ∷ 20 ∷ 26 ∷ 28 ∷ 34 ∷ 36 ∷ 38 ∷ 40 ∷ 42 ∷ 46 ∷ 48 ∷ [])) ∷ (4, (24 ∷ 28 ∷ 40 ∷ 52 ∷ 56 ∷ [])) ∷ (8, (48 ∷ 56 ∷ [])) ∷ (16, []) ∷ (32, []) ∷ []) 1 (3 ∷ 4 ∷ 5 ∷ 6 ∷ 7 ∷ 10 ∷ 11 ∷ 14 ∷ 17 ∷ 18 ∷ 23 ∷ []) refl tt v h
-
-pub rule-32 : Rule 32 0x04C11DB7 1 (9 ∷ 11 ∷ 30 ∷ 35 ∷ 39 ∷ 46 ∷ 63 ∷ [])
-unfolding after crc_bits bits_of shift shifts
-rule-32 = record { some = omega arith; fits = omega arith; near = (omega arith, (omega arith, (omega arith, (omega arith, (omega arith, (omega arith, (omega arith, omega arith))))))); same = refl }
-
--- a start that leaves all ones
-pub start-32 : after 32 0x04C11DB7 128 0x46AF6449 ≡ 0xFFFFFFFF
-unfolding after crc_bits bits_of shift
-start-32 = refl
 
 pub circuit-32 : (v a b c d : ℕ) → v < 2 ^ 64
     → a ≡ spread 6 (9 ∷ 10 ∷ 16 ∷ 20 ∷ 21 ∷ 22 ∷ 24 ∷ 25 ∷ 27 ∷ 28 ∷ 30 ∷ 31 ∷ 32 ∷ []) v

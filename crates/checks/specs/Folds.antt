@@ -1,8 +1,11 @@
 -- Serves proofs: what the steps of TF018 compute, on numbers whose bits are a message's. No contract of a public call cites these.
-use Rattle.std.specs.Prelude.{ℕ, ◌+◌, ◌*◌, ◌/◌, ◌^◌, ◌<◌, List, [], ◌∷◌}
+use Rattle.std.specs.Prelude.{◌≡◌, ℕ, ◌+◌, ◌*◌, ◌/◌, ◌^◌, ◌≤◌, ◌<◌, List, [], ◌∷◌}
+use Rattle.std.specs.Int.{w64, from_be_bytes}
 use Rattle.std.specs.Int.Bits.{bit_xor}
+use Rattle.std.specs.List.{flat_map}
 use Rattle.bits.specs.Bits.{bits_of}
 use Rattle.checks.specs.Crc.{crc_bits}
+use Rattle.checks.specs.Steps.{shifts}
 use Rattle.checks.specs.declared.Pair.{Pair}
 
 -- the register after the n low bits of x, from 0
@@ -32,6 +35,28 @@ pub record Whole (pair : Pair) : Type 0 where
 abbrev pub number_of : Pair → ℕ
 number_of pair = pair.high * 2 ^ 64 + pair.low
 
+-- the bits of words of eight bytes, the first byte of each most significant
+unfoldable pub word_bits : List (List ℕ) → List ℕ
+word_bits words = flat_map (λ word. bits_of 64 (from_be_bytes w64 word)) words
+
 -- 64 bits more behind such a number, whose upper half is moved up to where it leaves the same register
 abbrev pub folded : ℕ → List ℕ → Pair → ℕ → ℕ
 folded e es pair word = bit_xor (ups e es pair.high) (pair.low * 2 ^ 64 + word)
+
+-- so many shifts, and each of others, all added
+abbrev pub sums : ℕ → ℕ → ℕ → List ℕ → ℕ → ℕ
+sums w p e [] r = shifts w p e r
+sums w p e (f ∷ es) r = bit_xor (shifts w p e r) (sums w p f es r)
+
+-- all counts are at most 64
+abbrev pub Near : ℕ → List ℕ → Type 0
+Near e [] = e ≤ 64
+Near e (f ∷ es) = (e ≤ 64) × Near f es
+
+-- a bit 128 places ahead leaves the register that these bits leave
+pub record Rule (w p e : ℕ) (es : List ℕ) : Type 0 where
+  pub some : 1 ≤ w
+  pub wide : w ≤ 64
+  pub fits : p < 2 ^ w
+  pub near : Near e es
+  pub same : shifts w p 128 (after w p 1 1) ≡ sums w p e es (after w p 1 1)

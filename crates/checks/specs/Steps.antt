@@ -13,10 +13,6 @@ shifts w poly (suc n) reg = shifts w poly n (shift w poly reg)
 unfoldable pub crc_byte : ℕ → ℕ → ℕ → ℕ → ℕ
 crc_byte w poly reg b = shifts w poly 8 (bit_xor reg (b * 2 ^ (w - 8)))
 
--- four bytes of a list as a number, the first most significant
-unfoldable pub word_at : List ℕ → ℕ → ℕ
-word_at s i = ((get_or s i 0 * 256 + get_or s (i + 1) 0) * 256 + get_or s (i + 2) 0) * 256 + get_or s (i + 3) 0
-
 -- four bits, the least significant first
 unfoldable pub half_first : ℕ → List ℕ
 half_first n = reverse (bits_of 4 n)

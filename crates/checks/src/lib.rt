@@ -1,11 +1,11 @@
 // The two checks of a frame: TF006 over its first bytes, TF018 over the whole of it.
 #![tactic(auto)]
 
-ghost use Rattle.std.specs.Prelude.{◌≡◌, [], ◌∷◌, ◌+◌, ◌-◌, ◌*◌, ◌/◌, ◌%◌, ◌^◌, ◌≤◌, ◌<◌, length, drop};
+ghost use Rattle.std.specs.Prelude.{◌≡◌, ℕ, List, [], ◌∷◌, ◌+◌, ◌-◌, ◌*◌, ◌/◌, ◌%◌, ◌^◌, ◌≤◌, ◌<◌, length};
 ghost use Rattle.bits.specs.Bits.{field};
-ghost use Rattle.checks.specs.Crc.{crc, frame_crc, message_crc};
-ghost use Rattle.checks.specs.Steps.{word_at};
-ghost use Rattle.checks.specs.Folds.{after, spread, Whole, number_of, folded};
+ghost use Rattle.checks.specs.Crc.{crc_bits, crc, frame_crc, message_crc};
+ghost use Rattle.checks.specs.Folds.{after, spread, Whole, number_of, word_bits, folded, Rule};
+ghost use Rattle.checks.specs.Moves.{rule_8, start_8, rule_16, start_16, rule_24, start_24, rule_32, start_32};
 
 // TF006's tables, sixteen entries of four bits in one number, the first least significant: entry k is the register, its bits in reverse, after
 // the four bits k, and after as many zeros behind them as come behind those bits in a frame.
@@ -46,32 +46,6 @@ struct Pair {
     low: u64,
 }
 
-fn wide(b: u8) -> u32
-    ensures { (result ≡ b) × (result < 256) }
-{
-    b as u32
-}
-
-fn word_at(s: &[u8], i: usize) -> u32
-    requires { i + 4 ≤ length s.now }
-    ensures { result ≡ word_at s.now i }
-{
-    ((wide(s[i]) * 256 + wide(s[i + 1])) * 256 + wide(s[i + 2])) * 256 + wide(s[i + 3])
-}
-
-fn widened(x: u32) -> u64
-    ensures { (result ≡ x) × (result < 2 ^ 32) }
-{
-    x as u64
-}
-
-fn eight_at(s: &[u8], i: usize) -> u64
-    requires { i + 8 ≤ length s.now }
-    ensures { result ≡ word_at s.now i * 2 ^ 32 + word_at s.now (i + 4) }
-{
-    widened(word_at(s, i)) * 4294967296 + widened(word_at(s, i + 4))
-}
-
 // A start, and behind it the first bytes, fewer than eight: so many that those left are whole words.
 fn head(start: u64, s: &[u8], count: u32) -> Pair
     requires { (count < 8) × (count ≤ length s.now) }
@@ -91,31 +65,76 @@ fn head(start: u64, s: &[u8], count: u32) -> Pair
     }
 }
 
-// CRC-8: 64 bits more. A bit 128 places ahead leaves the register that the bit 1 place ahead leaves.
-fn fold_8(pair: Pair, word: u64) -> Pair
-    ensures result_value { number_of result ≡ folded 1 [] pair word }
-    ensures whole { Whole result }
-{
-    let high = pair.high;
-    Pair {
-        high: pair.low ^ (high >> 63),
-        low: word ^ (high << 1),
-    }
+// How a message check of TF018 goes, 64 bits a turn.
+trait Polynomial {
+    const WIDTH: u32;
+
+    // What leaves the register as it is at the start.
+    const START: u64;
+
+    ghost WIDTH: { ℕ };
+
+    ghost START: { ℕ };
+
+    ghost polynomial: { ℕ };
+
+    // The register at the start.
+    ghost register: { ℕ };
+
+    // A bit 128 places ahead leaves the register that bits so many places ahead leave.
+    ghost nearest: { ℕ };
+
+    ghost others: { List ℕ };
+
+    // 64 bits more: the upper half is moved to those places.
+    fn fold(pair: Pair, word: u64) -> Pair
+        ensures result_value { number_of result ≡ folded nearest others pair word }
+        ensures whole { Whole result };
+
+    // The register after 64 bits: their quotient by the polynomial, and what the polynomial times that leaves.
+    fn reduced(v: u64) -> u64
+        ensures { result ≡ after WIDTH polynomial 64 v };
+
+    ghost rule: { Rule WIDTH polynomial nearest others };
+
+    ghost starts: { after WIDTH polynomial 128 START ≡ register };
 }
 
-// The words from a place on, up to the end.
-fn words_8(start: Pair, s: &[u8], from: usize) -> Pair
-    requires { Whole start × (from ≤ length s.now) × ((length s.now - from) % 8 ≡ 0) }
-    ensures result_value { after 8 0x07 128 (number_of result) ≡ crc 8 0x07 (after 8 0x07 128 (number_of start)) (drop from s.now) }
-    ensures whole { Whole result }
-{
-    let mut pair = start;
-    let mut i = from;
-    while i < s.len() {
-        pair = fold_8(pair, eight_at(s, i));
-        i += 8;
+struct Crc8;
+
+impl Polynomial for Crc8 {
+    const WIDTH: u32 = 8;
+
+    const START: u64 = 0;
+
+    ghost WIDTH = { 8 };
+
+    ghost START = { 0 };
+
+    ghost polynomial = { 0x07 };
+
+    ghost register = { 0 };
+
+    ghost nearest = { 1 };
+
+    ghost others = { [] };
+
+    fn fold(pair: Pair, word: u64) -> Pair {
+        let high = pair.high;
+        Pair {
+            high: pair.low ^ (high >> 63),
+            low: word ^ (high << 1),
+        }
     }
-    pair
+
+    fn reduced(v: u64) -> u64 {
+        let q = fourth_8(third_8(second_8(first_8(v))));
+        (q ^ ((q << 1) ^ (q << 2))) % 256
+    }
+
+    ghost rule = { rule_8 };
+
+    ghost starts = { start_8 };
 }
 
 fn first_8(q: u64) -> u64
@@ -142,55 +161,41 @@ fn fourth_8(q: u64) -> u64
     q ^ ((q >> 48) ^ (q >> 56))
 }
 
-// The register after 64 bits: their quotient by the polynomial, and what the polynomial times that leaves.
-fn reduced_8(v: u64) -> u64
-    ensures { result ≡ after 8 0x07 64 v }
-{
-    let q = fourth_8(third_8(second_8(first_8(v))));
-    (q ^ ((q << 1) ^ (q << 2))) % 256
-}
+struct Crc16;
 
-// The register that a number leaves.
-fn left_8(pair: Pair) -> u64
-    requires { Whole pair }
-    ensures { result ≡ after 8 0x07 128 (number_of pair) }
-{
-    reduced_8(pair.low ^ (reduced_8(pair.high) << 56))
-}
+impl Polynomial for Crc16 {
+    const WIDTH: u32 = 16;
 
-fn crc_8(s: &[u8]) -> u64
-    ensures { result ≡ message_crc 0 s.now }
-{
-    let count = s.len() % 8;
-    let first = head(0, s, count as u32);
-    left_8(words_8(first, s, count))
-}
+    const START: u64 = 0;
 
-// CRC-16: 64 bits more. A bit 128 places ahead leaves the register that bits 25, 26 and 52 places ahead leave.
-fn fold_16(pair: Pair, word: u64) -> Pair
-    ensures result_value { number_of result ≡ folded 25 (26 ∷ 52 ∷ []) pair word }
-    ensures whole { Whole result }
-{
-    let high = pair.high;
-    Pair {
-        high: pair.low ^ ((high >> 39) ^ ((high >> 38) ^ (high >> 12))),
-        low: word ^ ((high << 25) ^ ((high << 26) ^ (high << 52))),
+    ghost WIDTH = { 16 };
+
+    ghost START = { 0 };
+
+    ghost polynomial = { 0x1021 };
+
+    ghost register = { 0 };
+
+    ghost nearest = { 25 };
+
+    ghost others = { 26 ∷ 52 ∷ [] };
+
+    fn fold(pair: Pair, word: u64) -> Pair {
+        let high = pair.high;
+        Pair {
+            high: pair.low ^ ((high >> 39) ^ ((high >> 38) ^ (high >> 12))),
+            low: word ^ ((high << 25) ^ ((high << 26) ^ (high << 52))),
+        }
     }
-}
 
-// The words from a place on, up to the end.
-fn words_16(start: Pair, s: &[u8], from: usize) -> Pair
-    requires { Whole start × (from ≤ length s.now) × ((length s.now - from) % 8 ≡ 0) }
-    ensures result_value { after 16 0x1021 128 (number_of result) ≡ crc 16 0x1021 (after 16 0x1021 128 (number_of start)) (drop from s.now) }
-    ensures whole { Whole result }
-{
-    let mut pair = start;
-    let mut i = from;
-    while i < s.len() {
-        pair = fold_16(pair, eight_at(s, i));
-        i += 8;
+    fn reduced(v: u64) -> u64 {
+        let q = fourth_16(third_16(second_16(first_16(v))));
+        (q ^ ((q << 5) ^ (q << 12))) % 65536
     }
-    pair
+
+    ghost rule = { rule_16 };
+
+    ghost starts = { start_16 };
 }
 
 fn first_16(q: u64) -> u64
@@ -217,57 +222,52 @@ fn fourth_16(q: u64) -> u64
     q ^ (q >> 32)
 }
 
-// The register after 64 bits: their quotient by the polynomial, and what the polynomial times that leaves.
-fn reduced_16(v: u64) -> u64
-    ensures { result ≡ after 16 0x1021 64 v }
-{
-    let q = fourth_16(third_16(second_16(first_16(v))));
-    (q ^ ((q << 5) ^ (q << 12))) % 65536
-}
+struct Crc24;
 
-// The register that a number leaves.
-fn left_16(pair: Pair) -> u64
-    requires { Whole pair }
-    ensures { result ≡ after 16 0x1021 128 (number_of pair) }
-{
-    reduced_16(pair.low ^ (reduced_16(pair.high) << 48))
-}
+impl Polynomial for Crc24 {
+    const WIDTH: u32 = 24;
 
-fn crc_16(s: &[u8]) -> u64
-    ensures { result ≡ message_crc 1 s.now }
-{
-    let count = s.len() % 8;
-    let first = head(0, s, count as u32);
-    left_16(words_16(first, s, count))
-}
+    const START: u64 = 0;
 
-// CRC-24: 64 bits more. A bit 128 places ahead leaves the register that bits 32, 43, 49, 57 and 59 places ahead leave.
-fn fold_24(pair: Pair, word: u64) -> Pair
-    ensures result_value { number_of result ≡ folded 32 (43 ∷ 49 ∷ 57 ∷ 59 ∷ []) pair word }
-    ensures whole { Whole result }
-{
-    let high = pair.high;
-    Pair {
-        high: pair.low
-            ^ ((high >> 32) ^ ((high >> 21) ^ ((high >> 15) ^ ((high >> 7) ^ (high >> 5))))),
-        low: word
-            ^ ((high << 32) ^ ((high << 43) ^ ((high << 49) ^ ((high << 57) ^ (high << 59))))),
+    ghost WIDTH = { 24 };
+
+    ghost START = { 0 };
+
+    ghost polynomial = { 0x864CFB };
+
+    ghost register = { 0 };
+
+    ghost nearest = { 32 };
+
+    ghost others = { 43 ∷ 49 ∷ 57 ∷ 59 ∷ [] };
+
+    fn fold(pair: Pair, word: u64) -> Pair {
+        let high = pair.high;
+        Pair {
+            high: pair.low
+                ^ ((high >> 32) ^ ((high >> 21) ^ ((high >> 15) ^ ((high >> 7) ^ (high >> 5))))),
+            low: word
+                ^ ((high << 32) ^ ((high << 43) ^ ((high << 49) ^ ((high << 57) ^ (high << 59))))),
+        }
     }
-}
 
-// The words from a place on, up to the end.
-fn words_24(start: Pair, s: &[u8], from: usize) -> Pair
-    requires { Whole start × (from ≤ length s.now) × ((length s.now - from) % 8 ≡ 0) }
-    ensures result_value { after 24 0x864CFB 128 (number_of result) ≡ crc 24 0x864CFB (after 24 0x864CFB 128 (number_of start)) (drop from s.now) }
-    ensures whole { Whole result }
-{
-    let mut pair = start;
-    let mut i = from;
-    while i < s.len() {
-        pair = fold_24(pair, eight_at(s, i));
-        i += 8;
+    fn reduced(v: u64) -> u64 {
+        let q = sixth_24(fifth_24(fourth_24(third_24(second_24(first_24(v))))));
+        (q ^ ((q << 1)
+            ^ ((q << 3)
+                ^ ((q << 4)
+                    ^ ((q << 5)
+                        ^ ((q << 6)
+                            ^ ((q << 7)
+                                ^ ((q << 10)
+                                    ^ ((q << 11)
+                                        ^ ((q << 14) ^ ((q << 17) ^ ((q << 18) ^ (q << 23)))))))))))))
+            % 16777216
     }
-    pair
+
+    ghost rule = { rule_24 };
+
+    ghost starts = { start_24 };
 }
 
 fn first_24(q: u64) -> u64
@@ -326,77 +326,62 @@ fn sixth_24(q: u64) -> u64
     q ^ (q >> 32)
 }
 
-// The register after 64 bits: their quotient by the polynomial, and what the polynomial times that leaves.
-fn reduced_24(v: u64) -> u64
-    ensures { result ≡ after 24 0x864CFB 64 v }
-{
-    let q = sixth_24(fifth_24(fourth_24(third_24(second_24(first_24(v))))));
-    (q ^ ((q << 1)
-        ^ ((q << 3)
-            ^ ((q << 4)
-                ^ ((q << 5)
-                    ^ ((q << 6)
+struct Crc32;
+
+impl Polynomial for Crc32 {
+    const WIDTH: u32 = 32;
+
+    const START: u64 = 0x46AF_6449;
+
+    ghost WIDTH = { 32 };
+
+    ghost START = { 0x46AF6449 };
+
+    ghost polynomial = { 0x04C11DB7 };
+
+    ghost register = { 0xFFFFFFFF };
+
+    ghost nearest = { 1 };
+
+    ghost others = { 9 ∷ 11 ∷ 30 ∷ 35 ∷ 39 ∷ 46 ∷ 63 ∷ [] };
+
+    fn fold(pair: Pair, word: u64) -> Pair {
+        let high = pair.high;
+        Pair {
+            high: pair.low
+                ^ ((high >> 63)
+                    ^ ((high >> 55)
+                        ^ ((high >> 53)
+                            ^ ((high >> 34)
+                                ^ ((high >> 29) ^ ((high >> 25) ^ ((high >> 18) ^ (high >> 1)))))))),
+            low: word
+                ^ ((high << 1)
+                    ^ ((high << 9)
+                        ^ ((high << 11)
+                            ^ ((high << 30)
+                                ^ ((high << 35) ^ ((high << 39) ^ ((high << 46) ^ (high << 63)))))))),
+        }
+    }
+
+    fn reduced(v: u64) -> u64 {
+        let q = fourth_32(third_32(second_32(first_32(v))));
+        (q ^ ((q << 1)
+            ^ ((q << 2)
+                ^ ((q << 4)
+                    ^ ((q << 5)
                         ^ ((q << 7)
-                            ^ ((q << 10)
-                                ^ ((q << 11)
-                                    ^ ((q << 14) ^ ((q << 17) ^ ((q << 18) ^ (q << 23)))))))))))))
-        % 16777216
-}
-
-// The register that a number leaves.
-fn left_24(pair: Pair) -> u64
-    requires { Whole pair }
-    ensures { result ≡ after 24 0x864CFB 128 (number_of pair) }
-{
-    reduced_24(pair.low ^ (reduced_24(pair.high) << 40))
-}
-
-fn crc_24(s: &[u8]) -> u64
-    ensures { result ≡ message_crc 2 s.now }
-{
-    let count = s.len() % 8;
-    let first = head(0, s, count as u32);
-    left_24(words_24(first, s, count))
-}
-
-// What leaves the register of CRC-32 all ones, as it is at the start.
-const START_32: u64 = 0x46AF_6449;
-
-// CRC-32: 64 bits more. A bit 128 places ahead leaves the register that bits 1, 9, 11, 30, 35, 39, 46 and 63 places ahead leave.
-fn fold_32(pair: Pair, word: u64) -> Pair
-    ensures result_value { number_of result ≡ folded 1 (9 ∷ 11 ∷ 30 ∷ 35 ∷ 39 ∷ 46 ∷ 63 ∷ []) pair word }
-    ensures whole { Whole result }
-{
-    let high = pair.high;
-    Pair {
-        high: pair.low
-            ^ ((high >> 63)
-                ^ ((high >> 55)
-                    ^ ((high >> 53)
-                        ^ ((high >> 34)
-                            ^ ((high >> 29) ^ ((high >> 25) ^ ((high >> 18) ^ (high >> 1)))))))),
-        low: word
-            ^ ((high << 1)
-                ^ ((high << 9)
-                    ^ ((high << 11)
-                        ^ ((high << 30)
-                            ^ ((high << 35) ^ ((high << 39) ^ ((high << 46) ^ (high << 63)))))))),
+                            ^ ((q << 8)
+                                ^ ((q << 10)
+                                    ^ ((q << 11)
+                                        ^ ((q << 12)
+                                            ^ ((q << 16)
+                                                ^ ((q << 22) ^ ((q << 23) ^ (q << 26))))))))))))))
+            % 4294967296
     }
-}
 
-// The words from a place on, up to the end.
-fn words_32(start: Pair, s: &[u8], from: usize) -> Pair
-    requires { Whole start × (from ≤ length s.now) × ((length s.now - from) % 8 ≡ 0) }
-    ensures result_value { after 32 0x04C11DB7 128 (number_of result) ≡ crc 32 0x04C11DB7 (after 32 0x04C11DB7 128 (number_of start)) (drop from s.now) }
-    ensures whole { Whole result }
-{
-    let mut pair = start;
-    let mut i = from;
-    while i < s.len() {
-        pair = fold_32(pair, eight_at(s, i));
-        i += 8;
-    }
-    pair
+    ghost rule = { rule_32 };
+
+    ghost starts = { start_32 };
 }
 
 fn first_32(q: u64) -> u64
@@ -444,39 +429,33 @@ fn fourth_32(q: u64) -> u64
     q ^ (q >> 48)
 }
 
-// The register after 64 bits: their quotient by the polynomial, and what the polynomial times that leaves.
-fn reduced_32(v: u64) -> u64
-    ensures { result ≡ after 32 0x04C11DB7 64 v }
+// The words go in.
+fn words<P: Polynomial>(start: Pair, words: &[[u8; 8]]) -> Pair
+    requires { Whole start }
+    ensures result_value { after P.WIDTH P.polynomial 128 (number_of result)
+        ≡ crc_bits P.WIDTH P.polynomial (after P.WIDTH P.polynomial 128 (number_of start)) (word_bits words.now) }
+    ensures whole { Whole result }
 {
-    let q = fourth_32(third_32(second_32(first_32(v))));
-    (q ^ ((q << 1)
-        ^ ((q << 2)
-            ^ ((q << 4)
-                ^ ((q << 5)
-                    ^ ((q << 7)
-                        ^ ((q << 8)
-                            ^ ((q << 10)
-                                ^ ((q << 11)
-                                    ^ ((q << 12)
-                                        ^ ((q << 16)
-                                            ^ ((q << 22) ^ ((q << 23) ^ (q << 26))))))))))))))
-        % 4294967296
+    let mut pair = start;
+    for word in words {
+        pair = P::fold(pair, u64::from_be_bytes(*word));
+    }
+    pair
 }
 
 // The register that a number leaves.
-fn left_32(pair: Pair) -> u64
+fn left<P: Polynomial>(pair: Pair) -> u64
     requires { Whole pair }
-    ensures { result ≡ after 32 0x04C11DB7 128 (number_of pair) }
+    ensures { result ≡ after P.WIDTH P.polynomial 128 (number_of pair) }
 {
-    reduced_32(pair.low ^ (reduced_32(pair.high) << 32))
+    P::reduced(pair.low ^ (P::reduced(pair.high) << (64 - P::WIDTH)))
 }
 
-fn crc_32(s: &[u8]) -> u64
-    ensures { result ≡ message_crc 3 s.now }
+fn crc<P: Polynomial>(s: &[u8]) -> u64
+    ensures { result ≡ crc P.WIDTH P.polynomial P.register s.now }
 {
-    let count = s.len() % 8;
-    let first = head(START_32, s, count as u32);
-    left_32(words_32(first, s, count)) ^ 0xFFFF_FFFF
+    let (first, all) = s.as_rchunks();
+    left::<P>(words::<P>(head(P::START, s, first.len() as u32), all))
 }
 
 // TF018 of the bytes between the preamble and TF018, by TF005.
@@ -484,9 +463,9 @@ pub fn message_crc(check_type: u8, s: &[u8]) -> u64
     ensures { result ≡ message_crc check_type s.now }
 {
     match check_type {
-        0 => crc_8(s),
-        1 => crc_16(s),
-        2 => crc_24(s),
-        _ => crc_32(s),
+        0 => crc::<Crc8>(s),
+        1 => crc::<Crc16>(s),
+        2 => crc::<Crc24>(s),
+        _ => crc::<Crc32>(s) ^ 0xFFFF_FFFF,
     }
 }
