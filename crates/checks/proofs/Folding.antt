@@ -13,8 +13,8 @@ use Rattle.bits.specs.Bits.{bits_of}
 use Rattle.bits.specs.Laws.{bits_of-add, bits_of-low, more_lt}
 use Rattle.checks.specs.Crc.{shift, crc_bits}
 use Rattle.checks.specs.Steps.{shifts}
-use Rattle.checks.specs.Folds.{after, ups, downs, spread, sums, Near, Rule}
-use Rattle.checks.specs.Xor.{xor-four, xor-shl}
+use Rattle.checks.specs.Folds.{after, ups, xors, spread, sums, Near, Rule}
+use Rattle.checks.specs.Xor.{xor_assoc, xor-four, xor-shl}
 use Rattle.checks.specs.Register.{shift-lt, shifts-lt, shift-xor, shifts-xor, shifts-add, shifts-zero, bits-append, bits-shifts}
 use Rattle.checks.proofs.Table.{both, both_left, both_right}
 
@@ -261,38 +261,49 @@ over-laid a m f h l =
     ∙ split n 64
     ∙ xor_shifted a m f l
 
+-- the moves added to a number one by one
+lows-xors : (e : ℕ) (es : List ℕ) (x c : ℕ) → xors (λ k. x * 2 ^ k % 2 ^ 64) (e ∷ es) c ≡ bit_xor c (lows e es x)
+lows-xors e [] x c = refl
+lows-xors e (f ∷ es) x c = lows-xors f es x (bit_xor c (x * 2 ^ e % 2 ^ 64)) ∙ xor_assoc c (x * 2 ^ e % 2 ^ 64) (lows f es x)
+
+overs-xors : (e : ℕ) (es : List ℕ) (x l : ℕ) → xors (λ k. x / 2 ^ (64 - k)) (e ∷ es) l ≡ bit_xor l (overs e es x)
+overs-xors e [] x l = refl
+overs-xors e (f ∷ es) x l = overs-xors f es x (bit_xor l (x / 2 ^ (64 - e))) ∙ xor_assoc l (x / 2 ^ (64 - e)) (overs f es x)
+
+pub low-fits : (e : ℕ) (es : List ℕ) (x c : ℕ) → c < 2 ^ 64 → xors (λ k. x * 2 ^ k % 2 ^ 64) (e ∷ es) c < 2 ^ 64
+low-fits e es x c h = subst (λ (z : ℕ). z < 2 ^ 64) (sym (lows-xors e es x c)) (xor_lt 64 c (lows e es x) h (lows-lt e es x))
+
+pub over-fits : (e : ℕ) (es : List ℕ) (x l : ℕ) → x < 2 ^ 64 → l < 2 ^ 64 → xors (λ k. x / 2 ^ (64 - k)) (e ∷ es) l < 2 ^ 64
+over-fits e es x l hx hl = subst (λ (z : ℕ). z < 2 ^ 64) (sym (overs-xors e es x l)) (xor_lt 64 l (overs e es x) hl (overs-lt e es x hx))
+
 pub halves : (e : ℕ) (es : List ℕ) → Near e es → (h l c : ℕ) → c < 2 ^ 64
-    → bit_xor l (overs e es h) * 2 ^ 64 + bit_xor c (lows e es h) ≡ bit_xor (ups e es h) (l * 2 ^ 64 + c)
+    → xors (λ k. h / 2 ^ (64 - k)) (e ∷ es) l * 2 ^ 64 + xors (λ k. h * 2 ^ k % 2 ^ 64) (e ∷ es) c ≡ bit_xor (ups e es h) (l * 2 ^ 64 + c)
 halves e es n h l c hc =
     let u : ℕ = ups e es h in
     ap₂ (λ (a b : ℕ). a * 2 ^ 64 + b)
-    (ap (bit_xor l) (over-half e es n h) ∙ xor_comm l (u / 2 ^ 64))
-    (ap (bit_xor c) (low_half e es h) ∙ xor_comm c (u % 2 ^ 64))
+    (overs-xors e es h l ∙ ap (bit_xor l) (over-half e es n h) ∙ xor_comm l (u / 2 ^ 64))
+    (lows-xors e es h c ∙ ap (bit_xor c) (low_half e es h) ∙ xor_comm c (u % 2 ^ 64))
     ∙ sym (xor_block 64 (u / 2 ^ 64) l (u % 2 ^ 64) c (mod-lt u (pow_pos 64)) hc)
     ∙ ap (λ (z : ℕ). bit_xor z (l * 2 ^ 64 + c)) (split u 64)
 
 -- ---- a register from 64 bits by moves down and moves up
 
-downs-xor : (e : ℕ) (es : List ℕ) → Linear (downs e es)
-downs-xor e [] x y = xor_shr x y e
-downs-xor e (f ∷ es) x y = ap₂ bit_xor (xor_shr x y e) (downs-xor f es x y) ∙ xor-four (x / 2 ^ e) (y / 2 ^ e) (downs f es x) (downs f es y)
+xors-xor : (f g h : ℕ → ℕ) → ((e : ℕ) → h e ≡ bit_xor (f e) (g e)) → (es : List ℕ) (x y : ℕ) → xors h es (bit_xor x y) ≡ bit_xor (xors f es x) (xors g es y)
+xors-xor f g h r [] x y = refl
+xors-xor f g h r (e ∷ es) x y =
+    ap (xors h es) (ap (bit_xor (bit_xor x y)) (r e) ∙ xor-four x y (f e) (g e)) ∙ xors-xor f g h r es (bit_xor x (f e)) (bit_xor y (g e))
 
-lows-xor : (e : ℕ) (es : List ℕ) → Linear (lows e es)
-lows-xor e [] x y = ap (λ (z : ℕ). z % 2 ^ 64) (sym (xor-shl e x y)) ∙ xor_mod (x * 2 ^ e) (y * 2 ^ e) 64
-lows-xor e (f ∷ es) x y =
-    ap₂ bit_xor (ap (λ (z : ℕ). z % 2 ^ 64) (sym (xor-shl e x y)) ∙ xor_mod (x * 2 ^ e) (y * 2 ^ e) 64) (lows-xor f es x y)
-    ∙ xor-four (x * 2 ^ e % 2 ^ 64) (y * 2 ^ e % 2 ^ 64) (lows f es x) (lows f es y)
+-- moves down by the counts, by each of these times them
+abbrev pub through : List ℕ → List ℕ → ℕ → ℕ
+through [] es x = x
+through (t ∷ ts) es x = through ts es (spread t es x)
 
--- moves down, one group after the other
-abbrev pub through : List (ℕ × List ℕ) → ℕ → ℕ
-through [] x = x
-through (st ∷ sts) x = through sts (spread st.0 st.1 x)
-
-through-xor : (sts : List (ℕ × List ℕ)) → Linear (through sts)
-through-xor [] x y = refl
-through-xor (st ∷ sts) x y =
-    ap (through sts) (ap (bit_xor (bit_xor x y)) (downs-xor st.0 st.1 x y) ∙ xor-four x y (downs st.0 st.1 x) (downs st.0 st.1 y))
-    ∙ through-xor sts (spread st.0 st.1 x) (spread st.0 st.1 y)
+through-xor : (ts es : List ℕ) → Linear (through ts es)
+through-xor [] es x y = refl
+through-xor (t ∷ ts) es x y =
+    ap (through ts es)
+    (xors-xor (λ e. x / 2 ^ (e * t)) (λ e. y / 2 ^ (e * t)) (λ e. bit_xor x y / 2 ^ (e * t)) (λ e. xor_shr x y (e * t)) es x y)
+    ∙ through-xor ts es (spread t es x) (spread t es y)
 
 -- at each power of two from k on f is r, shifted once more each time
 abbrev pub powers : (ℕ → ℕ) → ℕ → ℕ → ℕ → ℕ → ℕ → Bool
@@ -308,23 +319,25 @@ powers-are f w p (suc n) k r t (suc j) l =
     ap (λ (m : ℕ). f (2 ^ m)) e ∙ powers-are f w p n (suc k) (shift w p r) (both_right (eqb (f (2 ^ k)) r) (powers f w p n (suc k) (shift w p r)) t) j (omega arith)
 
 -- the quotient, and what the polynomial times it leaves
-abbrev pub product : ℕ → ℕ → List ℕ → ℕ → ℕ
-product w e es q = bit_xor q (lows e es q) % 2 ^ w
+abbrev pub product : ℕ → List ℕ → ℕ → ℕ
+product w es q = xors (λ e. q * 2 ^ e % 2 ^ 64) es q % 2 ^ w
 
-product-xor : (w e : ℕ) (es : List ℕ) → Linear (product w e es)
-product-xor w e es x y =
-    ap (λ (z : ℕ). z % 2 ^ w) (ap (bit_xor (bit_xor x y)) (lows-xor e es x y) ∙ xor-four x y (lows e es x) (lows e es y))
-    ∙ xor_mod (bit_xor x (lows e es x)) (bit_xor y (lows e es y)) w
+product-xor : (w : ℕ) (es : List ℕ) → Linear (product w es)
+product-xor w es x y =
+    let low : (z e : ℕ) → ℕ = λ z e. z * 2 ^ e % 2 ^ 64 in
+    ap (λ (z : ℕ). z % 2 ^ w)
+    (xors-xor (low x) (low y) (low (bit_xor x y)) (λ e. ap (λ (z : ℕ). z % 2 ^ 64) (sym (xor-shl e x y)) ∙ xor_mod (x * 2 ^ e) (y * 2 ^ e) 64) es x y)
+    ∙ xor_mod (xors (low x) es x) (xors (low y) es y) w
 
-abbrev pub circuit : ℕ → List (ℕ × List ℕ) → ℕ → List ℕ → ℕ → ℕ
-circuit w sts e es x = product w e es (through sts x)
+abbrev pub circuit : ℕ → List ℕ → List ℕ → List ℕ → ℕ → ℕ
+circuit w ts es fs x = product w fs (through ts es x)
 
-pub circuit-is : (w p : ℕ) → 1 ≤ w → p < 2 ^ w → (sts : List (ℕ × List ℕ)) (e : ℕ) (es : List ℕ) → circuit w sts e es 0 ≡ 0
-    → T (powers (circuit w sts e es) w p 64 0 (after w p 1 1)) → (x : ℕ) → x < 2 ^ 64 → circuit w sts e es x ≡ after w p 64 x
-circuit-is w p h1 hp sts e es z t =
-    agree (circuit w sts e es) (after w p 64)
-    (λ x y. ap (product w e es) (through-xor sts x y) ∙ product-xor w e es (through sts x) (through sts y))
+pub circuit-is : (w p : ℕ) → 1 ≤ w → p < 2 ^ w → (ts es fs : List ℕ) → circuit w ts es fs 0 ≡ 0 → T (powers (circuit w ts es fs) w p 64 0 (after w p 1 1))
+    → (x : ℕ) → x < 2 ^ 64 → circuit w ts es fs x ≡ after w p 64 x
+circuit-is w p h1 hp ts es fs z t =
+    agree (circuit w ts es fs) (after w p 64)
+    (λ x y. ap (product w fs) (through-xor ts es x y) ∙ product-xor w fs (through ts es x) (through ts es y))
     (after-xor w p h1 hp 64)
     (z ∙ sym (after_none w p h1 hp 64))
     64
-    (λ k l. ap (λ (m : ℕ). circuit w sts e es (2 ^ m)) (sym (zero-add k)) ∙ powers-are (circuit w sts e es) w p 64 0 (after w p 1 1) t k l ∙ sym (after-power w p h1 hp k l))
+    (λ k l. ap (λ (m : ℕ). circuit w ts es fs (2 ^ m)) (sym (zero-add k)) ∙ powers-are (circuit w ts es fs) w p 64 0 (after w p 1 1) t k l ∙ sym (after-power w p h1 hp k l))

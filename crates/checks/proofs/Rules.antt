@@ -75,47 +75,47 @@ table-1 = is-table 0x5BA48679C23D1FE0 1 tt
 -- ---- TF018: the register after 64 bits by moves
 
 pub circuit-8 : (v a b c d : ℕ) → v < 2 ^ 64
-    → a ≡ spread 6 (7 ∷ 8 ∷ []) v
-    → b ≡ spread 12 (14 ∷ 16 ∷ []) a
-    → c ≡ spread 24 (28 ∷ 32 ∷ []) b
-    → d ≡ spread 48 (56 ∷ []) c
-    → product 8 1 (2 ∷ []) d ≡ after 8 0x07 64 v
+    → a ≡ spread 1 (6 ∷ 7 ∷ 8 ∷ []) v
+    → b ≡ spread 2 (6 ∷ 7 ∷ 8 ∷ []) a
+    → c ≡ spread 4 (6 ∷ 7 ∷ 8 ∷ []) b
+    → d ≡ spread 8 (6 ∷ 7 ∷ 8 ∷ []) c
+    → product 8 (1 ∷ 2 ∷ []) d ≡ after 8 0x07 64 v
 unfolding after crc_bits bits_of shift
 circuit-8 v a b c d h ea eb ec ed =
-    ap (product 8 1 (2 ∷ [])) (ed ∙ ap (spread 48 (56 ∷ [])) (ec ∙ ap (spread 24 (28 ∷ 32 ∷ [])) (eb ∙ ap (spread 12 (14 ∷ 16 ∷ [])) (ea))))
-    ∙ circuit-is 8 0x07 (omega arith) (omega arith) ((6, (7 ∷ 8 ∷ [])) ∷ (12, (14 ∷ 16 ∷ [])) ∷ (24, (28 ∷ 32 ∷ [])) ∷ (48, (56 ∷ [])) ∷ []) 1 (2 ∷ []) refl tt v h
+    ap (product 8 (1 ∷ 2 ∷ [])) (ed ∙ ap (spread 8 (6 ∷ 7 ∷ 8 ∷ [])) (ec ∙ ap (spread 4 (6 ∷ 7 ∷ 8 ∷ [])) (eb ∙ ap (spread 2 (6 ∷ 7 ∷ 8 ∷ [])) ea)))
+    ∙ circuit-is 8 0x07 (omega arith) (omega arith) (1 ∷ 2 ∷ 4 ∷ 8 ∷ []) (6 ∷ 7 ∷ 8 ∷ []) (1 ∷ 2 ∷ []) refl tt v h
 
 pub circuit-16 : (v a b c d : ℕ) → v < 2 ^ 64
-    → a ≡ spread 4 (11 ∷ 16 ∷ []) v
-    → b ≡ spread 8 (22 ∷ 32 ∷ []) a
-    → c ≡ spread 16 (44 ∷ []) b
-    → d ≡ spread 32 [] c
-    → product 16 5 (12 ∷ []) d ≡ after 16 0x1021 64 v
+    → a ≡ spread 1 (4 ∷ 11 ∷ 16 ∷ []) v
+    → b ≡ spread 2 (4 ∷ 11 ∷ 16 ∷ []) a
+    → c ≡ spread 4 (4 ∷ 11 ∷ 16 ∷ []) b
+    → d ≡ spread 8 (4 ∷ 11 ∷ 16 ∷ []) c
+    → product 16 (5 ∷ 12 ∷ []) d ≡ after 16 0x1021 64 v
 unfolding after crc_bits bits_of shift
 circuit-16 v a b c d h ea eb ec ed =
-    ap (product 16 5 (12 ∷ [])) (ed ∙ ap (spread 32 []) (ec ∙ ap (spread 16 (44 ∷ [])) (eb ∙ ap (spread 8 (22 ∷ 32 ∷ [])) (ea))))
-    ∙ circuit-is 16 0x1021 (omega arith) (omega arith) ((4, (11 ∷ 16 ∷ [])) ∷ (8, (22 ∷ 32 ∷ [])) ∷ (16, (44 ∷ [])) ∷ (32, []) ∷ []) 5 (12 ∷ []) refl tt v h
+    ap (product 16 (5 ∷ 12 ∷ [])) (ed ∙ ap (spread 8 (4 ∷ 11 ∷ 16 ∷ [])) (ec ∙ ap (spread 4 (4 ∷ 11 ∷ 16 ∷ [])) (eb ∙ ap (spread 2 (4 ∷ 11 ∷ 16 ∷ [])) ea)))
+    ∙ circuit-is 16 0x1021 (omega arith) (omega arith) (1 ∷ 2 ∷ 4 ∷ 8 ∷ []) (4 ∷ 11 ∷ 16 ∷ []) (5 ∷ 12 ∷ []) refl tt v h
 
 pub circuit-24 : (v a b c d e f : ℕ) → v < 2 ^ 64
-    → a ≡ spread 1 (6 ∷ 7 ∷ 10 ∷ 13 ∷ 14 ∷ 17 ∷ 18 ∷ 19 ∷ 20 ∷ 21 ∷ 23 ∷ 24 ∷ []) v
-    → b ≡ spread 2 (12 ∷ 14 ∷ 20 ∷ 26 ∷ 28 ∷ 34 ∷ 36 ∷ 38 ∷ 40 ∷ 42 ∷ 46 ∷ 48 ∷ []) a
-    → c ≡ spread 4 (24 ∷ 28 ∷ 40 ∷ 52 ∷ 56 ∷ []) b
-    → d ≡ spread 8 (48 ∷ 56 ∷ []) c
-    → e ≡ spread 16 [] d
-    → f ≡ spread 32 [] e
-    → product 24 1 (3 ∷ 4 ∷ 5 ∷ 6 ∷ 7 ∷ 10 ∷ 11 ∷ 14 ∷ 17 ∷ 18 ∷ 23 ∷ []) f ≡ after 24 0x864CFB 64 v
+    → a ≡ spread 1 (1 ∷ 6 ∷ 7 ∷ 10 ∷ 13 ∷ 14 ∷ 17 ∷ 18 ∷ 19 ∷ 20 ∷ 21 ∷ 23 ∷ 24 ∷ []) v
+    → b ≡ spread 2 (1 ∷ 6 ∷ 7 ∷ 10 ∷ 13 ∷ 14 ∷ 17 ∷ 18 ∷ 19 ∷ 20 ∷ 21 ∷ 23 ∷ 24 ∷ []) a
+    → c ≡ spread 4 (1 ∷ 6 ∷ 7 ∷ 10 ∷ 13 ∷ 14 ∷ 17 ∷ 18 ∷ 19 ∷ 20 ∷ 21 ∷ 23 ∷ 24 ∷ []) b
+    → d ≡ spread 8 (1 ∷ 6 ∷ 7 ∷ 10 ∷ 13 ∷ 14 ∷ 17 ∷ 18 ∷ 19 ∷ 20 ∷ 21 ∷ 23 ∷ 24 ∷ []) c
+    → e ≡ spread 16 (1 ∷ 6 ∷ 7 ∷ 10 ∷ 13 ∷ 14 ∷ 17 ∷ 18 ∷ 19 ∷ 20 ∷ 21 ∷ 23 ∷ 24 ∷ []) d
+    → f ≡ spread 32 (1 ∷ 6 ∷ 7 ∷ 10 ∷ 13 ∷ 14 ∷ 17 ∷ 18 ∷ 19 ∷ 20 ∷ 21 ∷ 23 ∷ 24 ∷ []) e
+    → product 24 (1 ∷ 3 ∷ 4 ∷ 5 ∷ 6 ∷ 7 ∷ 10 ∷ 11 ∷ 14 ∷ 17 ∷ 18 ∷ 23 ∷ []) f ≡ after 24 0x864CFB 64 v
 unfolding after crc_bits bits_of shift
 circuit-24 v a b c d e f h ea eb ec ed ee ef =
-    ap (product 24 1 (3 ∷ 4 ∷ 5 ∷ 6 ∷ 7 ∷ 10 ∷ 11 ∷ 14 ∷ 17 ∷ 18 ∷ 23 ∷ [])) (ef ∙ ap (spread 32 []) (ee ∙ ap (spread 16 []) (ed ∙ ap (spread 8 (48 ∷ 56 ∷ [])) (ec ∙ ap (spread 4 (24 ∷ 28 ∷ 40 ∷ 52 ∷ 56 ∷ [])) (eb ∙ ap (spread 2 (12 ∷ 14 ∷ 20 ∷ 26 ∷ 28 ∷ 34 ∷ 36 ∷ 38 ∷ 40 ∷ 42 ∷ 46 ∷ 48 ∷ [])) (ea))))))
-    ∙ circuit-is 24 0x864CFB (omega arith) (omega arith) ((1, (6 ∷ 7 ∷ 10 ∷ 13 ∷ 14 ∷ 17 ∷ 18 ∷ 19 ∷ 20 ∷ 21 ∷ 23 ∷ 24 ∷ [])) ∷ (2, (12 ∷ 14 ∷ 20 ∷ 26 ∷ 28 ∷ 34 ∷ 36 ∷ 38 ∷ 40 ∷ 42 ∷ 46 ∷ 48 ∷ [])) ∷ (4, (24 ∷ 28 ∷ 40 ∷ 52 ∷ 56 ∷ [])) ∷ (8, (48 ∷ 56 ∷ [])) ∷ (16, []) ∷ (32, []) ∷ []) 1 (3 ∷ 4 ∷ 5 ∷ 6 ∷ 7 ∷ 10 ∷ 11 ∷ 14 ∷ 17 ∷ 18 ∷ 23 ∷ []) refl tt v h
+    ap (product 24 (1 ∷ 3 ∷ 4 ∷ 5 ∷ 6 ∷ 7 ∷ 10 ∷ 11 ∷ 14 ∷ 17 ∷ 18 ∷ 23 ∷ [])) (ef ∙ ap (spread 32 (1 ∷ 6 ∷ 7 ∷ 10 ∷ 13 ∷ 14 ∷ 17 ∷ 18 ∷ 19 ∷ 20 ∷ 21 ∷ 23 ∷ 24 ∷ [])) (ee ∙ ap (spread 16 (1 ∷ 6 ∷ 7 ∷ 10 ∷ 13 ∷ 14 ∷ 17 ∷ 18 ∷ 19 ∷ 20 ∷ 21 ∷ 23 ∷ 24 ∷ [])) (ed ∙ ap (spread 8 (1 ∷ 6 ∷ 7 ∷ 10 ∷ 13 ∷ 14 ∷ 17 ∷ 18 ∷ 19 ∷ 20 ∷ 21 ∷ 23 ∷ 24 ∷ [])) (ec ∙ ap (spread 4 (1 ∷ 6 ∷ 7 ∷ 10 ∷ 13 ∷ 14 ∷ 17 ∷ 18 ∷ 19 ∷ 20 ∷ 21 ∷ 23 ∷ 24 ∷ [])) (eb ∙ ap (spread 2 (1 ∷ 6 ∷ 7 ∷ 10 ∷ 13 ∷ 14 ∷ 17 ∷ 18 ∷ 19 ∷ 20 ∷ 21 ∷ 23 ∷ 24 ∷ [])) ea)))))
+    ∙ circuit-is 24 0x864CFB (omega arith) (omega arith) (1 ∷ 2 ∷ 4 ∷ 8 ∷ 16 ∷ 32 ∷ []) (1 ∷ 6 ∷ 7 ∷ 10 ∷ 13 ∷ 14 ∷ 17 ∷ 18 ∷ 19 ∷ 20 ∷ 21 ∷ 23 ∷ 24 ∷ []) (1 ∷ 3 ∷ 4 ∷ 5 ∷ 6 ∷ 7 ∷ 10 ∷ 11 ∷ 14 ∷ 17 ∷ 18 ∷ 23 ∷ []) refl tt v h
 
 pub circuit-32 : (v a b c d : ℕ) → v < 2 ^ 64
-    → a ≡ spread 6 (9 ∷ 10 ∷ 16 ∷ 20 ∷ 21 ∷ 22 ∷ 24 ∷ 25 ∷ 27 ∷ 28 ∷ 30 ∷ 31 ∷ 32 ∷ []) v
-    → b ≡ spread 12 (18 ∷ 20 ∷ 32 ∷ 40 ∷ 42 ∷ 44 ∷ 48 ∷ 50 ∷ 54 ∷ 56 ∷ 60 ∷ 62 ∷ []) a
-    → c ≡ spread 24 (36 ∷ 40 ∷ []) b
-    → d ≡ spread 48 [] c
-    → product 32 1 (2 ∷ 4 ∷ 5 ∷ 7 ∷ 8 ∷ 10 ∷ 11 ∷ 12 ∷ 16 ∷ 22 ∷ 23 ∷ 26 ∷ []) d ≡ after 32 0x04C11DB7 64 v
+    → a ≡ spread 1 (6 ∷ 9 ∷ 10 ∷ 16 ∷ 20 ∷ 21 ∷ 22 ∷ 24 ∷ 25 ∷ 27 ∷ 28 ∷ 30 ∷ 31 ∷ 32 ∷ []) v
+    → b ≡ spread 2 (6 ∷ 9 ∷ 10 ∷ 16 ∷ 20 ∷ 21 ∷ 22 ∷ 24 ∷ 25 ∷ 27 ∷ 28 ∷ 30 ∷ 31 ∷ 32 ∷ []) a
+    → c ≡ spread 4 (6 ∷ 9 ∷ 10 ∷ 16 ∷ 20 ∷ 21 ∷ 22 ∷ 24 ∷ 25 ∷ 27 ∷ 28 ∷ 30 ∷ 31 ∷ 32 ∷ []) b
+    → d ≡ spread 8 (6 ∷ 9 ∷ 10 ∷ 16 ∷ 20 ∷ 21 ∷ 22 ∷ 24 ∷ 25 ∷ 27 ∷ 28 ∷ 30 ∷ 31 ∷ 32 ∷ []) c
+    → product 32 (1 ∷ 2 ∷ 4 ∷ 5 ∷ 7 ∷ 8 ∷ 10 ∷ 11 ∷ 12 ∷ 16 ∷ 22 ∷ 23 ∷ 26 ∷ []) d ≡ after 32 0x04C11DB7 64 v
 unfolding after crc_bits bits_of shift
 circuit-32 v a b c d h ea eb ec ed =
-    ap (product 32 1 (2 ∷ 4 ∷ 5 ∷ 7 ∷ 8 ∷ 10 ∷ 11 ∷ 12 ∷ 16 ∷ 22 ∷ 23 ∷ 26 ∷ [])) (ed ∙ ap (spread 48 []) (ec ∙ ap (spread 24 (36 ∷ 40 ∷ [])) (eb ∙ ap (spread 12 (18 ∷ 20 ∷ 32 ∷ 40 ∷ 42 ∷ 44 ∷ 48 ∷ 50 ∷ 54 ∷ 56 ∷ 60 ∷ 62 ∷ [])) (ea))))
-    ∙ circuit-is 32 0x04C11DB7 (omega arith) (omega arith) ((6, (9 ∷ 10 ∷ 16 ∷ 20 ∷ 21 ∷ 22 ∷ 24 ∷ 25 ∷ 27 ∷ 28 ∷ 30 ∷ 31 ∷ 32 ∷ [])) ∷ (12, (18 ∷ 20 ∷ 32 ∷ 40 ∷ 42 ∷ 44 ∷ 48 ∷ 50 ∷ 54 ∷ 56 ∷ 60 ∷ 62 ∷ [])) ∷ (24, (36 ∷ 40 ∷ [])) ∷ (48, []) ∷ []) 1 (2 ∷ 4 ∷ 5 ∷ 7 ∷ 8 ∷ 10 ∷ 11 ∷ 12 ∷ 16 ∷ 22 ∷ 23 ∷ 26 ∷ []) refl tt v h
+    ap (product 32 (1 ∷ 2 ∷ 4 ∷ 5 ∷ 7 ∷ 8 ∷ 10 ∷ 11 ∷ 12 ∷ 16 ∷ 22 ∷ 23 ∷ 26 ∷ [])) (ed ∙ ap (spread 8 (6 ∷ 9 ∷ 10 ∷ 16 ∷ 20 ∷ 21 ∷ 22 ∷ 24 ∷ 25 ∷ 27 ∷ 28 ∷ 30 ∷ 31 ∷ 32 ∷ [])) (ec ∙ ap (spread 4 (6 ∷ 9 ∷ 10 ∷ 16 ∷ 20 ∷ 21 ∷ 22 ∷ 24 ∷ 25 ∷ 27 ∷ 28 ∷ 30 ∷ 31 ∷ 32 ∷ [])) (eb ∙ ap (spread 2 (6 ∷ 9 ∷ 10 ∷ 16 ∷ 20 ∷ 21 ∷ 22 ∷ 24 ∷ 25 ∷ 27 ∷ 28 ∷ 30 ∷ 31 ∷ 32 ∷ [])) ea)))
+    ∙ circuit-is 32 0x04C11DB7 (omega arith) (omega arith) (1 ∷ 2 ∷ 4 ∷ 8 ∷ []) (6 ∷ 9 ∷ 10 ∷ 16 ∷ 20 ∷ 21 ∷ 22 ∷ 24 ∷ 25 ∷ 27 ∷ 28 ∷ 30 ∷ 31 ∷ 32 ∷ []) (1 ∷ 2 ∷ 4 ∷ 5 ∷ 7 ∷ 8 ∷ 10 ∷ 11 ∷ 12 ∷ 16 ∷ 22 ∷ 23 ∷ 26 ∷ []) refl tt v h

@@ -1,15 +1,17 @@
 -- The steps as the code has them: TF006 by halves of bytes and a table, TF018's words of eight bytes, and its four cases.
 use mathlib.Core.Path.{◌≡◌, refl, sym, ap, ap₂, ◌∙◌, subst}
-use mathlib.Core.List.{List, [], ◌++◌, reverse, reverse-append}
+use mathlib.Core.List.{List, [], ◌∷◌, ◌++◌, reverse, reverse-append}
 use Prim.Native.Nat.{ℕ, zero, suc, ◌+◌, ◌-◌, ◌*◌, ◌/◌, ◌%◌, ◌^◌, ◌≤◌, ◌<◌}
-use native.Mathlib.Nat.{add_comm, mod-lt, lt_of_le_of_lt}
+use native.Mathlib.Nat.{add_comm, mod-lt, lt_of_le_of_lt, lt_of_lt_of_le, div-eq_of_lt}
 use native.Mathlib.Omega.{arith}
 use lib.Bits.{bit_xor, xor_lt, xor_zero_l}
 use lib.Dec.{eqb, eqb→eq}
 use lib.ListN.{length, length-drop, get_or, drop, drop_of_length-le}
-use lib.Pow.{pow_pos, shl_exact, shr_le}
+use lib.Pow.{pow_pos, pow_mono, shl_exact, shr_le}
 use mir.Syntax.{w8, w64}
 use mir.Val.{Fits}
+use Rattle.std.specs.Option.{SomeIff, unwrap_or}
+use Rattle.std.proofs.Common.{Option, Some, None}
 use Rattle.std.specs.Int.{from_be_bytes}
 use Rattle.std.specs.Simd.{first_chunks}
 use Rattle.bits.specs.Bits.{bits_of, to_bits, number, field, got, Bytes}
@@ -17,11 +19,11 @@ use Rattle.bits.specs.Laws.{bits_of-add, bits_of-mod, field_lt, got-there, more_
 use Rattle.checks.specs.Crc.{crc_bits, crc, low_first, reversed4, frame_crc, message_crc}
 use Rattle.checks.specs.Steps.{half_first, frame_half, frame_byte}
 use Rattle.checks.specs.declared.Pair.{Pair}
-use Rattle.checks.specs.Folds.{after, ups, Whole, number_of, word_bits, folded, Rule}
+use Rattle.checks.specs.Folds.{after, ups, xors, Whole, number_of, word_bits, folded, Rule}
 use Rattle.checks.specs.Register.{bits-append, bits-lt}
 use Rattle.checks.specs.Laws.{reversed4-lt}
 use Rattle.checks.proofs.Engine.{word-next, words-joined, first-few}
-use Rattle.checks.proofs.Folding.{after-lt, after_two, after_more, after-wide, fold_is, lows, overs, lows-lt, overs-lt, halves, over-laid}
+use Rattle.checks.proofs.Folding.{after-lt, after_two, after_more, after-wide, fold_is, halves, low-fits, over-fits, over-laid}
 use Rattle.checks.proofs.Table.{at-below}
 use Rattle.checks.proofs.Rules.{zeros, half-enters, half-xor, half-none, table-6, table-5, table-4, table-3, table-1}
 
@@ -190,11 +192,13 @@ pub record Going (w p : ℕ) (start : Pair) (words : List (List ℕ)) (pair : Pa
   pub same : crc_bits w p (after w p 128 (number_of pair)) (word_bits (drop i words)) ≡ crc_bits w p (after w p 128 (number_of start)) (word_bits words)
 
 module _ {w p e : ℕ} {es : List ℕ} (rule : Rule w p e es) where
-  pub fold-code : (h l c : ℕ) → c < 2 ^ 64 → bit_xor l (overs e es h) * 2 ^ 64 + bit_xor c (lows e es h) ≡ bit_xor (ups e es h) (l * 2 ^ 64 + c)
+  pub fold-code : (h l c : ℕ) → c < 2 ^ 64
+      → xors (λ k. h / 2 ^ (64 - k)) (e ∷ es) l * 2 ^ 64 + xors (λ k. h * 2 ^ k % 2 ^ 64) (e ∷ es) c ≡ bit_xor (ups e es h) (l * 2 ^ 64 + c)
   fold-code h l c hc = halves e es rule.near h l c hc
 
-  pub fold-fits : (h l c : ℕ) → h < 2 ^ 64 → l < 2 ^ 64 → c < 2 ^ 64 → Whole (record { high = bit_xor l (overs e es h); low = bit_xor c (lows e es h) })
-  fold-fits h l c hh hl hc = record { high_fits = xor_lt 64 l (overs e es h) hl (overs-lt e es h hh); low_fits = xor_lt 64 c (lows e es h) hc (lows-lt e es h) }
+  pub fold-fits : (h l c : ℕ) → h < 2 ^ 64 → l < 2 ^ 64 → c < 2 ^ 64
+      → Whole (record { high = xors (λ k. h / 2 ^ (64 - k)) (e ∷ es) l; low = xors (λ k. h * 2 ^ k % 2 ^ 64) (e ∷ es) c })
+  fold-fits h l c hh hl hc = record { high_fits = over-fits e es h l hh hl; low_fits = low-fits e es h c hc }
 
   -- a word goes in
   pub words-on : (words : List (List ℕ)) (start pair next : Pair) (i word : ℕ) → Whole next → Going w p start words pair i → i < length words
@@ -263,6 +267,11 @@ module _ {w p e : ℕ} {es : List ℕ} (rule : Rule w p e es) where
       ∙ ap (crc_bits w p (after w p 128 (number_of a))) joined
       ∙ begins begin a k s fa (omega arith) ea
       ∙ ap (λ (y : ℕ). crc w p y s) (ap (after w p 128) e ∙ es)
+
+-- a number moved down: 0 by 64 places or more
+pub down_is : (q places : ℕ) (o : Option ℕ) → q < 2 ^ 64 → SomeIff o (places < 64) (q / 2 ^ places) → unwrap_or o 0 ≡ q / 2 ^ places
+down_is q places None h o = let far : 64 ≤ places = omega (arith, o) in sym (div-eq_of_lt (lt_of_lt_of_le h (pow_mono far)))
+down_is q places (Some x) h o = o.1
 
 -- a number over 3 is taken as 3
 pub other-type : (k y : ℕ) (s : List ℕ) → (k ≡ 0 → ⊥) → (k ≡ 1 → ⊥) → (k ≡ 2 → ⊥) → y ≡ message_crc 3 s → y ≡ message_crc k s

@@ -17,14 +17,14 @@ unfoldable pub ups : ℕ → List ℕ → ℕ → ℕ
 ups e [] x = x * 2 ^ e
 ups e (f ∷ es) x = bit_xor (x * 2 ^ e) (ups f es x)
 
--- x moved down likewise
-abbrev pub downs : ℕ → List ℕ → ℕ → ℕ
-downs e [] x = x / 2 ^ e
-downs e (f ∷ es) x = bit_xor (x / 2 ^ e) (downs f es x)
+-- a number and what f gives of each of others, all added
+abbrev pub xors : (ℕ → ℕ) → List ℕ → ℕ → ℕ
+xors f [] x = x
+xors f (e ∷ es) x = xors f es (bit_xor x (f e))
 
--- x with what it leaves there
+-- x with what it leaves so many times the counts down
 abbrev pub spread : ℕ → List ℕ → ℕ → ℕ
-spread e es x = bit_xor x (downs e es x)
+spread times es x = xors (λ e. x / 2 ^ (e * times)) es x
 
 -- two numbers of 64 bits
 pub record Whole (pair : Pair) : Type 0 where

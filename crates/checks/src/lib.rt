@@ -65,6 +65,13 @@ fn head(start: u64, s: &[u8], count: u32) -> Pair
     }
 }
 
+// q moved down, also by 64 places or more.
+fn down(q: u64, places: u32) -> u64
+    ensures { result ≡ q / 2 ^ places }
+{
+    q.checked_shr(places).unwrap_or(0)
+}
+
 // How a message check of TF018 goes, 64 bits a turn.
 trait Polynomial {
     const WIDTH: u32;
@@ -100,6 +107,13 @@ trait Polynomial {
     ghost starts: { after WIDTH polynomial 128 START ≡ register };
 }
 
+fn spread_8<const TIMES: u32>(q: u64) -> u64
+    requires { TIMES ≤ 32 }
+    ensures { result ≡ spread TIMES (6 ∷ 7 ∷ 8 ∷ []) q }
+{
+    q ^ down(q, 6 * TIMES) ^ down(q, 7 * TIMES) ^ down(q, 8 * TIMES)
+}
+
 struct Crc8;
 
 impl Polynomial for Crc8 {
@@ -128,8 +142,8 @@ impl Polynomial for Crc8 {
     }
 
     fn reduced(v: u64) -> u64 {
-        let q = fourth_8(third_8(second_8(first_8(v))));
-        (q ^ ((q << 1) ^ (q << 2))) % 256
+        let q = spread_8::<8>(spread_8::<4>(spread_8::<2>(spread_8::<1>(v))));
+        (q ^ (q << 1) ^ (q << 2)) % 256
     }
 
     ghost rule = { rule_8 };
@@ -137,28 +151,11 @@ impl Polynomial for Crc8 {
     ghost starts = { start_8 };
 }
 
-fn first_8(q: u64) -> u64
-    ensures { result ≡ spread 6 (7 ∷ 8 ∷ []) q }
+fn spread_16<const TIMES: u32>(q: u64) -> u64
+    requires { TIMES ≤ 32 }
+    ensures { result ≡ spread TIMES (4 ∷ 11 ∷ 16 ∷ []) q }
 {
-    q ^ ((q >> 6) ^ ((q >> 7) ^ (q >> 8)))
-}
-
-fn second_8(q: u64) -> u64
-    ensures { result ≡ spread 12 (14 ∷ 16 ∷ []) q }
-{
-    q ^ ((q >> 12) ^ ((q >> 14) ^ (q >> 16)))
-}
-
-fn third_8(q: u64) -> u64
-    ensures { result ≡ spread 24 (28 ∷ 32 ∷ []) q }
-{
-    q ^ ((q >> 24) ^ ((q >> 28) ^ (q >> 32)))
-}
-
-fn fourth_8(q: u64) -> u64
-    ensures { result ≡ spread 48 (56 ∷ []) q }
-{
-    q ^ ((q >> 48) ^ (q >> 56))
+    q ^ down(q, 4 * TIMES) ^ down(q, 11 * TIMES) ^ down(q, 16 * TIMES)
 }
 
 struct Crc16;
@@ -183,14 +180,14 @@ impl Polynomial for Crc16 {
     fn fold(pair: Pair, word: u64) -> Pair {
         let high = pair.high;
         Pair {
-            high: pair.low ^ ((high >> 39) ^ ((high >> 38) ^ (high >> 12))),
-            low: word ^ ((high << 25) ^ ((high << 26) ^ (high << 52))),
+            high: pair.low ^ (high >> 39) ^ (high >> 38) ^ (high >> 12),
+            low: word ^ (high << 25) ^ (high << 26) ^ (high << 52),
         }
     }
 
     fn reduced(v: u64) -> u64 {
-        let q = fourth_16(third_16(second_16(first_16(v))));
-        (q ^ ((q << 5) ^ (q << 12))) % 65536
+        let q = spread_16::<8>(spread_16::<4>(spread_16::<2>(spread_16::<1>(v))));
+        (q ^ (q << 5) ^ (q << 12)) % 65536
     }
 
     ghost rule = { rule_16 };
@@ -198,28 +195,23 @@ impl Polynomial for Crc16 {
     ghost starts = { start_16 };
 }
 
-fn first_16(q: u64) -> u64
-    ensures { result ≡ spread 4 (11 ∷ 16 ∷ []) q }
+fn spread_24<const TIMES: u32>(q: u64) -> u64
+    requires { TIMES ≤ 32 }
+    ensures { result ≡ spread TIMES (1 ∷ 6 ∷ 7 ∷ 10 ∷ 13 ∷ 14 ∷ 17 ∷ 18 ∷ 19 ∷ 20 ∷ 21 ∷ 23 ∷ 24 ∷ []) q }
 {
-    q ^ ((q >> 4) ^ ((q >> 11) ^ (q >> 16)))
-}
-
-fn second_16(q: u64) -> u64
-    ensures { result ≡ spread 8 (22 ∷ 32 ∷ []) q }
-{
-    q ^ ((q >> 8) ^ ((q >> 22) ^ (q >> 32)))
-}
-
-fn third_16(q: u64) -> u64
-    ensures { result ≡ spread 16 (44 ∷ []) q }
-{
-    q ^ ((q >> 16) ^ (q >> 44))
-}
-
-fn fourth_16(q: u64) -> u64
-    ensures { result ≡ spread 32 [] q }
-{
-    q ^ (q >> 32)
+    q ^ down(q, 1 * TIMES)
+        ^ down(q, 6 * TIMES)
+        ^ down(q, 7 * TIMES)
+        ^ down(q, 10 * TIMES)
+        ^ down(q, 13 * TIMES)
+        ^ down(q, 14 * TIMES)
+        ^ down(q, 17 * TIMES)
+        ^ down(q, 18 * TIMES)
+        ^ down(q, 19 * TIMES)
+        ^ down(q, 20 * TIMES)
+        ^ down(q, 21 * TIMES)
+        ^ down(q, 23 * TIMES)
+        ^ down(q, 24 * TIMES)
 }
 
 struct Crc24;
@@ -244,24 +236,27 @@ impl Polynomial for Crc24 {
     fn fold(pair: Pair, word: u64) -> Pair {
         let high = pair.high;
         Pair {
-            high: pair.low
-                ^ ((high >> 32) ^ ((high >> 21) ^ ((high >> 15) ^ ((high >> 7) ^ (high >> 5))))),
-            low: word
-                ^ ((high << 32) ^ ((high << 43) ^ ((high << 49) ^ ((high << 57) ^ (high << 59))))),
+            high: pair.low ^ (high >> 32) ^ (high >> 21) ^ (high >> 15) ^ (high >> 7) ^ (high >> 5),
+            low: word ^ (high << 32) ^ (high << 43) ^ (high << 49) ^ (high << 57) ^ (high << 59),
         }
     }
 
     fn reduced(v: u64) -> u64 {
-        let q = sixth_24(fifth_24(fourth_24(third_24(second_24(first_24(v))))));
-        (q ^ ((q << 1)
-            ^ ((q << 3)
-                ^ ((q << 4)
-                    ^ ((q << 5)
-                        ^ ((q << 6)
-                            ^ ((q << 7)
-                                ^ ((q << 10)
-                                    ^ ((q << 11)
-                                        ^ ((q << 14) ^ ((q << 17) ^ ((q << 18) ^ (q << 23)))))))))))))
+        let q = spread_24::<32>(spread_24::<16>(spread_24::<8>(spread_24::<4>(spread_24::<2>(
+            spread_24::<1>(v),
+        )))));
+        (q ^ (q << 1)
+            ^ (q << 3)
+            ^ (q << 4)
+            ^ (q << 5)
+            ^ (q << 6)
+            ^ (q << 7)
+            ^ (q << 10)
+            ^ (q << 11)
+            ^ (q << 14)
+            ^ (q << 17)
+            ^ (q << 18)
+            ^ (q << 23))
             % 16777216
     }
 
@@ -270,60 +265,24 @@ impl Polynomial for Crc24 {
     ghost starts = { start_24 };
 }
 
-fn first_24(q: u64) -> u64
-    ensures { result ≡ spread 1 (6 ∷ 7 ∷ 10 ∷ 13 ∷ 14 ∷ 17 ∷ 18 ∷ 19 ∷ 20 ∷ 21 ∷ 23 ∷ 24 ∷ []) q }
+fn spread_32<const TIMES: u32>(q: u64) -> u64
+    requires { TIMES ≤ 32 }
+    ensures { result ≡ spread TIMES (6 ∷ 9 ∷ 10 ∷ 16 ∷ 20 ∷ 21 ∷ 22 ∷ 24 ∷ 25 ∷ 27 ∷ 28 ∷ 30 ∷ 31 ∷ 32 ∷ []) q }
 {
-    q ^ ((q >> 1)
-        ^ ((q >> 6)
-            ^ ((q >> 7)
-                ^ ((q >> 10)
-                    ^ ((q >> 13)
-                        ^ ((q >> 14)
-                            ^ ((q >> 17)
-                                ^ ((q >> 18)
-                                    ^ ((q >> 19)
-                                        ^ ((q >> 20)
-                                            ^ ((q >> 21) ^ ((q >> 23) ^ (q >> 24)))))))))))))
-}
-
-fn second_24(q: u64) -> u64
-    ensures { result ≡ spread 2 (12 ∷ 14 ∷ 20 ∷ 26 ∷ 28 ∷ 34 ∷ 36 ∷ 38 ∷ 40 ∷ 42 ∷ 46 ∷ 48 ∷ []) q }
-{
-    q ^ ((q >> 2)
-        ^ ((q >> 12)
-            ^ ((q >> 14)
-                ^ ((q >> 20)
-                    ^ ((q >> 26)
-                        ^ ((q >> 28)
-                            ^ ((q >> 34)
-                                ^ ((q >> 36)
-                                    ^ ((q >> 38)
-                                        ^ ((q >> 40)
-                                            ^ ((q >> 42) ^ ((q >> 46) ^ (q >> 48)))))))))))))
-}
-
-fn third_24(q: u64) -> u64
-    ensures { result ≡ spread 4 (24 ∷ 28 ∷ 40 ∷ 52 ∷ 56 ∷ []) q }
-{
-    q ^ ((q >> 4) ^ ((q >> 24) ^ ((q >> 28) ^ ((q >> 40) ^ ((q >> 52) ^ (q >> 56))))))
-}
-
-fn fourth_24(q: u64) -> u64
-    ensures { result ≡ spread 8 (48 ∷ 56 ∷ []) q }
-{
-    q ^ ((q >> 8) ^ ((q >> 48) ^ (q >> 56)))
-}
-
-fn fifth_24(q: u64) -> u64
-    ensures { result ≡ spread 16 [] q }
-{
-    q ^ (q >> 16)
-}
-
-fn sixth_24(q: u64) -> u64
-    ensures { result ≡ spread 32 [] q }
-{
-    q ^ (q >> 32)
+    q ^ down(q, 6 * TIMES)
+        ^ down(q, 9 * TIMES)
+        ^ down(q, 10 * TIMES)
+        ^ down(q, 16 * TIMES)
+        ^ down(q, 20 * TIMES)
+        ^ down(q, 21 * TIMES)
+        ^ down(q, 22 * TIMES)
+        ^ down(q, 24 * TIMES)
+        ^ down(q, 25 * TIMES)
+        ^ down(q, 27 * TIMES)
+        ^ down(q, 28 * TIMES)
+        ^ down(q, 30 * TIMES)
+        ^ down(q, 31 * TIMES)
+        ^ down(q, 32 * TIMES)
 }
 
 struct Crc32;
@@ -349,84 +308,47 @@ impl Polynomial for Crc32 {
         let high = pair.high;
         Pair {
             high: pair.low
-                ^ ((high >> 63)
-                    ^ ((high >> 55)
-                        ^ ((high >> 53)
-                            ^ ((high >> 34)
-                                ^ ((high >> 29) ^ ((high >> 25) ^ ((high >> 18) ^ (high >> 1)))))))),
+                ^ (high >> 63)
+                ^ (high >> 55)
+                ^ (high >> 53)
+                ^ (high >> 34)
+                ^ (high >> 29)
+                ^ (high >> 25)
+                ^ (high >> 18)
+                ^ (high >> 1),
             low: word
-                ^ ((high << 1)
-                    ^ ((high << 9)
-                        ^ ((high << 11)
-                            ^ ((high << 30)
-                                ^ ((high << 35) ^ ((high << 39) ^ ((high << 46) ^ (high << 63)))))))),
+                ^ (high << 1)
+                ^ (high << 9)
+                ^ (high << 11)
+                ^ (high << 30)
+                ^ (high << 35)
+                ^ (high << 39)
+                ^ (high << 46)
+                ^ (high << 63),
         }
     }
 
     fn reduced(v: u64) -> u64 {
-        let q = fourth_32(third_32(second_32(first_32(v))));
-        (q ^ ((q << 1)
-            ^ ((q << 2)
-                ^ ((q << 4)
-                    ^ ((q << 5)
-                        ^ ((q << 7)
-                            ^ ((q << 8)
-                                ^ ((q << 10)
-                                    ^ ((q << 11)
-                                        ^ ((q << 12)
-                                            ^ ((q << 16)
-                                                ^ ((q << 22) ^ ((q << 23) ^ (q << 26))))))))))))))
+        let q = spread_32::<8>(spread_32::<4>(spread_32::<2>(spread_32::<1>(v))));
+        (q ^ (q << 1)
+            ^ (q << 2)
+            ^ (q << 4)
+            ^ (q << 5)
+            ^ (q << 7)
+            ^ (q << 8)
+            ^ (q << 10)
+            ^ (q << 11)
+            ^ (q << 12)
+            ^ (q << 16)
+            ^ (q << 22)
+            ^ (q << 23)
+            ^ (q << 26))
             % 4294967296
     }
 
     ghost rule = { rule_32 };
 
     ghost starts = { start_32 };
-}
-
-fn first_32(q: u64) -> u64
-    ensures { result ≡ spread 6 (9 ∷ 10 ∷ 16 ∷ 20 ∷ 21 ∷ 22 ∷ 24 ∷ 25 ∷ 27 ∷ 28 ∷ 30 ∷ 31 ∷ 32 ∷ []) q }
-{
-    q ^ ((q >> 6)
-        ^ ((q >> 9)
-            ^ ((q >> 10)
-                ^ ((q >> 16)
-                    ^ ((q >> 20)
-                        ^ ((q >> 21)
-                            ^ ((q >> 22)
-                                ^ ((q >> 24)
-                                    ^ ((q >> 25)
-                                        ^ ((q >> 27)
-                                            ^ ((q >> 28)
-                                                ^ ((q >> 30) ^ ((q >> 31) ^ (q >> 32))))))))))))))
-}
-
-fn second_32(q: u64) -> u64
-    ensures { result ≡ spread 12 (18 ∷ 20 ∷ 32 ∷ 40 ∷ 42 ∷ 44 ∷ 48 ∷ 50 ∷ 54 ∷ 56 ∷ 60 ∷ 62 ∷ []) q }
-{
-    q ^ ((q >> 12)
-        ^ ((q >> 18)
-            ^ ((q >> 20)
-                ^ ((q >> 32)
-                    ^ ((q >> 40)
-                        ^ ((q >> 42)
-                            ^ ((q >> 44)
-                                ^ ((q >> 48)
-                                    ^ ((q >> 50)
-                                        ^ ((q >> 54)
-                                            ^ ((q >> 56) ^ ((q >> 60) ^ (q >> 62)))))))))))))
-}
-
-fn third_32(q: u64) -> u64
-    ensures { result ≡ spread 24 (36 ∷ 40 ∷ []) q }
-{
-    q ^ ((q >> 24) ^ ((q >> 36) ^ (q >> 40)))
-}
-
-fn fourth_32(q: u64) -> u64
-    ensures { result ≡ spread 48 [] q }
-{
-    q ^ (q >> 48)
 }
 
 // The words go in.
