@@ -4,10 +4,10 @@ use mathlib.Core.List.{List, [], ◌∷◌, ◌++◌, reverse, reverse-append}
 use Prim.Native.Nat.{ℕ, zero, suc, ◌+◌, ◌-◌, ◌*◌, ◌/◌, ◌%◌, ◌^◌, ◌≤◌, ◌<◌}
 use native.Mathlib.Nat.{add_comm, mod-lt, lt_of_le_of_lt, lt_of_lt_of_le, div-eq_of_lt}
 use native.Mathlib.Omega.{arith}
-use lib.Bits.{bit_xor, xor_lt, xor_zero_l}
+use lib.Bits.{bit_xor, xor_lt, xor_zero_l, xor_shifted}
 use lib.Dec.{eqb, eqb→eq}
 use lib.ListN.{length, length-drop, get_or, drop, drop_of_length-le}
-use lib.Pow.{pow_pos, pow_mono, shl_exact, shr_le}
+use lib.Pow.{pow_pos, pow_mono, shl_exact, shr_lt, split}
 use mir.Syntax.{w8, w64}
 use mir.Val.{Fits}
 use Rattle.std.specs.Option.{SomeIff, unwrap_or}
@@ -18,12 +18,11 @@ use Rattle.bits.specs.Bits.{bits_of, to_bits, number, field, got, Bytes}
 use Rattle.bits.specs.Laws.{bits_of-add, bits_of-mod, field_lt, got-there, more_lt, bytes_drop}
 use Rattle.checks.specs.Crc.{crc_bits, crc, low_first, reversed4, frame_crc, message_crc}
 use Rattle.checks.specs.Steps.{half_first, frame_half, frame_byte}
-use Rattle.checks.specs.declared.Pair.{Pair}
-use Rattle.checks.specs.Folds.{after, ups, xors, Whole, number_of, word_bits, folded, Rule}
+use Rattle.checks.specs.Folds.{after, ups, xors, word_bits, folded, Rule}
 use Rattle.checks.specs.Register.{bits-append, bits-lt}
 use Rattle.checks.specs.Laws.{reversed4-lt}
 use Rattle.checks.proofs.Engine.{word-next, words-joined, first-few}
-use Rattle.checks.proofs.Folding.{after-lt, after_two, after_more, after-wide, fold_is, halves, low-fits, over-fits, over-laid}
+use Rattle.checks.proofs.Folding.{after-lt, after_two, after_more, after-wide, fold_is, moved}
 use Rattle.checks.proofs.Table.{at-below}
 use Rattle.checks.proofs.Rules.{zeros, half-enters, half-xor, half-none, table-6, table-5, table-4, table-3, table-1}
 
@@ -166,84 +165,64 @@ frame_is a b c v w x y z ha hb hc ev ew ex ey ez =
 
 -- ---- TF018
 
--- no bytes before the words
-pub head-none : (start k : ℕ) (s : List ℕ) → k ≡ 0 → 0 * 2 ^ 64 + start ≡ start * 2 ^ (8 * k) + field s 0 (8 * k)
-unfolding field number
-head-none start k s e = rw e (omega arith)
-
-pub head-low : (start : ℕ) → start < 2 ^ 64 → Whole (record { high = 0; low = start })
-head-low start h = record { high_fits = omega arith; low_fits = h }
-
-pub head-fits : (start m n f : ℕ) → start < 2 ^ 64 → f < 2 ^ 64 → Whole (record { high = start / 2 ^ m; low = bit_xor (start * 2 ^ n % 2 ^ 64) f })
-head-fits start m n f h l = record { high_fits = lt_of_le_of_lt (shr_le start m) h; low_fits = xor_lt 64 (start * 2 ^ n % 2 ^ 64) f (mod-lt (start * 2 ^ n) (pow_pos 64)) l }
-
--- some
-pub head-some : (start k f : ℕ) (s : List ℕ) → k < 8 → k ≤ length s → f ≡ got s 0 (8 * k)
-    → start / 2 ^ (64 - 8 * k) * 2 ^ 64 + bit_xor (start * 2 ^ (8 * k) % 2 ^ 64) f ≡ start * 2 ^ (8 * k) + field s 0 (8 * k)
-head-some start k f s h l e =
+-- a start, and the first bytes behind it
+pub head-is : (start k f : ℕ) (s : List ℕ) → start < 2 ^ 64 → k < 8 → k ≤ length s → f ≡ got s 0 (8 * k)
+    → bit_xor (start * 2 ^ (8 * k) % 2 ^ 128) f ≡ start * 2 ^ (8 * k) + field s 0 (8 * k)
+head-is start k f s hs h l e =
     let m : ℕ = 8 * k in
     let f-is : f ≡ field s 0 m = e ∙ got-there s 0 m (omega arith) (omega arith) in
     let f_lt : f < 2 ^ m = subst (λ (x : ℕ). x < 2 ^ m) (sym f-is) (field_lt s 0 m) in
-    over-laid start m f (omega arith) f_lt ∙ ap (λ (x : ℕ). start * 2 ^ m + x) f-is
+    ap (λ (x : ℕ). bit_xor x f) (shl_exact 64 m 128 hs (omega arith)) ∙ xor_shifted start m f f_lt ∙ ap (λ (x : ℕ). start * 2 ^ m + x) f-is
 
 -- the loop's invariant: the bits of the words from i on, from what the number leaves, leave what they all do from what the start leaves
-pub record Going (w p : ℕ) (start : Pair) (words : List (List ℕ)) (pair : Pair) (i : ℕ) : Type 0 where
-  pub fits : Whole pair
-  pub same : crc_bits w p (after w p 128 (number_of pair)) (word_bits (drop i words)) ≡ crc_bits w p (after w p 128 (number_of start)) (word_bits words)
+pub record Going (w p start : ℕ) (words : List (List ℕ)) (n i : ℕ) : Type 0 where
+  pub fits : n < 2 ^ 128
+  pub same : crc_bits w p (after w p 128 n) (word_bits (drop i words)) ≡ crc_bits w p (after w p 128 start) (word_bits words)
 
-module _ {w p e : ℕ} {es : List ℕ} (rule : Rule w p e es) where
-  pub fold-code : (h l c : ℕ) → c < 2 ^ 64
-      → xors (λ k. h / 2 ^ (64 - k)) (e ∷ es) l * 2 ^ 64 + xors (λ k. h * 2 ^ k % 2 ^ 64) (e ∷ es) c ≡ bit_xor (ups e es h) (l * 2 ^ 64 + c)
-  fold-code h l c hc = halves e es rule.near h l c hc
-
-  pub fold-fits : (h l c : ℕ) → h < 2 ^ 64 → l < 2 ^ 64 → c < 2 ^ 64
-      → Whole (record { high = xors (λ k. h / 2 ^ (64 - k)) (e ∷ es) l; low = xors (λ k. h * 2 ^ k % 2 ^ 64) (e ∷ es) c })
-  fold-fits h l c hh hl hc = record { high_fits = over-fits e es h l hh hl; low_fits = low-fits e es h c hc }
+module _ {w p : ℕ} {es : List ℕ} (rule : Rule w p es) where
+  pub fold-code : (n h l c r : ℕ) → h ≡ n / 2 ^ 64 → l ≡ n % 2 ^ 64 → c < 2 ^ 64
+      → r ≡ xors (λ e. h / 2 ^ (64 - e)) es l * 2 ^ 64 + xors (λ e. h * 2 ^ e % 2 ^ 64) es c → r ≡ folded es n c
+  fold-code n h l c r eh el hc er =
+      er ∙ moved es rule.near h l c hc ∙ ap₂ (λ (x y : ℕ). bit_xor (ups es x) (y * 2 ^ 64 + c)) eh el
 
   -- a word goes in
-  pub words-on : (words : List (List ℕ)) (start pair next : Pair) (i word : ℕ) → Whole next → Going w p start words pair i → i < length words
-      → word < 2 ^ 64 → word ≡ from_be_bytes w64 (get_or words i []) → number_of next ≡ folded e es pair word → Going w p start words next (i + 1)
-  words-on words start pair next i word fits g h hw ew en =
-      let before : ℕ = after w p 128 (number_of pair) in
+  pub words-on : (words : List (List ℕ)) (start n next i word : ℕ) → next < 2 ^ 128 → Going w p start words n i → i < length words
+      → word < 2 ^ 64 → word ≡ from_be_bytes w64 (get_or words i []) → next ≡ folded es n word → Going w p start words next (i + 1)
+  words-on words start n next i word fits g h hw ew en =
+      let before : ℕ = after w p 128 n in
       let rest : List ℕ = word_bits (drop (i + 1) words) in
       record {
         fits = fits;
         same =
             ap (λ (z : ℕ). crc_bits w p (after w p 128 z) rest) en
-            ∙ ap (λ (z : ℕ). crc_bits w p z rest) (sym (fold_is rule pair.high pair.low word g.fits.high_fits g.fits.low_fits hw))
+            ∙ ap (λ (z : ℕ). crc_bits w p z rest) (sym (fold_is rule n word g.fits hw))
             ∙ sym (bits-append w p before (bits_of 64 word) rest)
             ∙ ap (λ (z : ℕ). crc_bits w p before (bits_of 64 z ++ rest)) ew
             ∙ ap (crc_bits w p before) (sym (word-next words i (get_or words i []) h refl))
             ∙ g.same;
       }
 
--- no word is left
-pub going_end : {w p : ℕ} {start : Pair} {words : List (List ℕ)} {pair : Pair} {i : ℕ} → Going w p start words pair i → length words ≤ i
-    → after w p 128 (number_of pair) ≡ crc_bits w p (after w p 128 (number_of start)) (word_bits words)
-unfolding crc_bits word_bits
-going_end {w} {p} {start} {words} {pair} {i} g h =
-    sym (ap (λ (l : List (List ℕ)). crc_bits w p (after w p 128 (number_of pair)) (word_bits l)) (drop_of_length-le words h)) ∙ g.same
-
-module _ {w p e : ℕ} {es : List ℕ} (rule : Rule w p e es) where
   -- the register that a number leaves, by its two halves
-  pub ends : (b : Pair) (x r : ℕ) → Whole b → x ≡ after w p 64 b.high → r ≡ after w p 64 (bit_xor b.low (x * 2 ^ (64 - w) % 2 ^ 64)) → r ≡ after w p 128 (number_of b)
-  ends b x r fits ex er =
-      let x_lt : x < 2 ^ w = subst (λ (y : ℕ). y < 2 ^ w) (sym ex) (after-lt w p rule.some rule.fits 64 b.high) in
+  pub ends : (n h l x r : ℕ) → h ≡ n / 2 ^ 64 → l ≡ n % 2 ^ 64 → x ≡ after w p 64 h
+      → r ≡ after w p 64 (bit_xor l (x * 2 ^ (64 - w) % 2 ^ 64)) → r ≡ after w p 128 n
+  ends n h l x r eh el ex er =
+      let l_lt : l < 2 ^ 64 = subst (λ (y : ℕ). y < 2 ^ 64) (sym el) (mod-lt n (pow_pos 64)) in
+      let x_lt : x < 2 ^ w = subst (λ (y : ℕ). y < 2 ^ w) (sym ex) (after-lt w p rule.some rule.fits 64 h) in
       er
-      ∙ ap (λ (y : ℕ). after w p 64 (bit_xor b.low y)) (shl_exact w (64 - w) 64 x_lt (omega (arith, rule.wide)))
-      ∙ sym (after_two w p rule.some rule.fits x b.low rule.wide x_lt fits.low_fits)
-      ∙ ap (λ (y : ℕ). crc_bits w p y (bits_of 64 b.low)) ex
-      ∙ after_more w p rule.some rule.fits 64 64 b.high b.low fits.low_fits
+      ∙ ap (λ (y : ℕ). after w p 64 (bit_xor l y)) (shl_exact w (64 - w) 64 x_lt (omega (arith, rule.wide)))
+      ∙ sym (after_two w p rule.some rule.fits x l rule.wide x_lt l_lt)
+      ∙ ap (λ (y : ℕ). crc_bits w p y (bits_of 64 l)) ex
+      ∙ after_more w p rule.some rule.fits 64 64 h l l_lt
+      ∙ ap (after w p 128) (ap₂ (λ (y z : ℕ). y * 2 ^ 64 + z) eh el ∙ split n 64)
 
   -- a start and the first bytes behind it
-  begins : (start : ℕ) (a : Pair) (k : ℕ) (s : List ℕ) → Whole a → k ≤ length s → number_of a ≡ start * 2 ^ (8 * k) + field s 0 (8 * k)
-      → crc_bits w p (after w p 128 (number_of a)) (to_bits (drop k s)) ≡ crc w p (after w p 128 start) s
+  begins : (start a k : ℕ) (s : List ℕ) → a < 2 ^ 128 → k ≤ length s → a ≡ start * 2 ^ (8 * k) + field s 0 (8 * k)
+      → crc_bits w p (after w p 128 a) (to_bits (drop k s)) ≡ crc w p (after w p 128 start) s
   unfolding crc
-  begins start a k s fits h ea =
+  begins start a k s a_lt h ea =
       let f : ℕ = field s 0 (8 * k) in
-      let a_lt : number_of a < 2 ^ 128 = more_lt 64 64 fits.high_fits fits.low_fits in
       ap (λ (y : ℕ). crc_bits w p y (to_bits (drop k s)))
-      (sym (after-wide w p rule.some rule.fits (8 * k) 128 (number_of a) a_lt)
+      (sym (after-wide w p rule.some rule.fits (8 * k) 128 a a_lt)
       ∙ ap₂ (λ (m n : ℕ). after w p m n) (add_comm (8 * k) 128) ea
       ∙ sym (after_more w p rule.some rule.fits 128 (8 * k) start f (field_lt s 0 (8 * k))))
       ∙ sym (bits-append w p (after w p 128 start) (bits_of (8 * k) f) (to_bits (drop k s)))
@@ -251,11 +230,11 @@ module _ {w p e : ℕ} {es : List ℕ} (rule : Rule w p e es) where
 
   -- the start and the first bytes, the words, and the register that they leave
   pub crc-all : (start reg : ℕ) → after w p 128 start ≡ reg
-      → (begin k r : ℕ) (s : List ℕ) (a b : Pair) (words : List (List ℕ)) → ((i : ℕ) → Fits w8 (get_or s i 0))
-      → begin ≡ start → k ≡ length s % 8 → r ≡ after w p 128 (number_of b)
-      → after w p 128 (number_of b) ≡ crc_bits w p (after w p 128 (number_of a)) (word_bits words)
+      → (begin k r : ℕ) (s : List ℕ) (a b : ℕ) (words : List (List ℕ)) → ((i : ℕ) → Fits w8 (get_or s i 0))
+      → begin ≡ start → k ≡ length s % 8 → r ≡ after w p 128 b
+      → after w p 128 b ≡ crc_bits w p (after w p 128 a) (word_bits words)
       → words ≡ first_chunks 8 (length s / 8) (drop (length s % 8) s)
-      → Whole a → number_of a ≡ begin * 2 ^ (8 * k) + field s 0 (8 * k) → r ≡ crc w p reg s
+      → a < 2 ^ 128 → a ≡ begin * 2 ^ (8 * k) + field s 0 (8 * k) → r ≡ crc w p reg s
   crc-all start reg es begin k r s a b words bytes e ek er eb ew fa ea =
       let m : ℕ = length s % 8 in
       let joined : word_bits words ≡ to_bits (drop k s)
@@ -264,9 +243,16 @@ module _ {w p e : ℕ} {es : List ℕ} (rule : Rule w p e es) where
       ∙ ap (λ (n : ℕ). to_bits (drop n s)) (sym ek) in
       er
       ∙ eb
-      ∙ ap (crc_bits w p (after w p 128 (number_of a))) joined
+      ∙ ap (crc_bits w p (after w p 128 a)) joined
       ∙ begins begin a k s fa (omega arith) ea
       ∙ ap (λ (y : ℕ). crc w p y s) (ap (after w p 128) e ∙ es)
+
+-- no word is left
+pub going_end : {w p start : ℕ} {words : List (List ℕ)} {n i : ℕ} → Going w p start words n i → length words ≤ i
+    → after w p 128 n ≡ crc_bits w p (after w p 128 start) (word_bits words)
+unfolding crc_bits word_bits
+going_end {w} {p} {start} {words} {n} {i} g h =
+    sym (ap (λ (l : List (List ℕ)). crc_bits w p (after w p 128 n) (word_bits l)) (drop_of_length-le words h)) ∙ g.same
 
 -- a number moved down: 0 by 64 places or more
 pub down_is : (q places : ℕ) (o : Option ℕ) → q < 2 ^ 64 → SomeIff o (places < 64) (q / 2 ^ places) → unwrap_or o 0 ≡ q / 2 ^ places

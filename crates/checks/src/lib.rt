@@ -4,7 +4,7 @@
 ghost use Rattle.std.specs.Prelude.{◌≡◌, ℕ, List, [], ◌∷◌, ◌+◌, ◌-◌, ◌*◌, ◌/◌, ◌%◌, ◌^◌, ◌≤◌, ◌<◌, length};
 ghost use Rattle.bits.specs.Bits.{field};
 ghost use Rattle.checks.specs.Crc.{crc_bits, crc, frame_crc, message_crc};
-ghost use Rattle.checks.specs.Folds.{after, spread, Whole, number_of, word_bits, folded, Rule};
+ghost use Rattle.checks.specs.Folds.{after, spread, word_bits, folded, Rule};
 ghost use Rattle.checks.specs.Moves.{rule_8, start_8, rule_16, start_16, rule_24, start_24, rule_32, start_32};
 
 // TF006's tables, sixteen entries of four bits in one number, the first least significant: entry k is the register, its bits in reverse, after
@@ -39,30 +39,27 @@ pub fn frame_crc(a: u8, b: u8, c: u8) -> u8
         ^ part(LAST, c / 16)
 }
 
-// A number of 128 bits.
-#[derive(Clone, Copy)]
-struct Pair {
-    high: u64,
-    low: u64,
+// A start, and behind it the first bytes, fewer than eight: so many that those left are whole words.
+fn head(start: u64, s: &[u8], count: u32) -> u128
+    requires { (count < 8) × (count ≤ length s.now) }
+    ensures { result ≡ start * 2 ^ (8 * count) + field s.now 0 (8 * count) }
+{
+    let width = 8 * count;
+    (u128::from(start) << width) ^ u128::from(bits::get(s, 0, width))
 }
 
-// A start, and behind it the first bytes, fewer than eight: so many that those left are whole words.
-fn head(start: u64, s: &[u8], count: u32) -> Pair
-    requires { (count < 8) × (count ≤ length s.now) }
-    ensures result_value { number_of result ≡ start * 2 ^ (8 * count) + field s.now 0 (8 * count) }
-    ensures whole { Whole result }
+// The upper and the lower 64 bits of a number.
+fn halves(number: u128) -> (u64, u64)
+    ensures high { result.0 ≡ number / 2 ^ 64 }
+    ensures low { result.1 ≡ number % 2 ^ 64 }
 {
-    if count == 0 {
-        return Pair {
-            high: 0,
-            low: start,
-        };
-    }
-    let width = 8 * count;
-    Pair {
-        high: start >> (64 - width),
-        low: (start << width) ^ bits::get(s, 0, width),
-    }
+    ((number >> 64) as u64, (number % (1 << 64)) as u64)
+}
+
+fn joined(high: u64, low: u64) -> u128
+    ensures { result ≡ high * 2 ^ 64 + low }
+{
+    u128::from(high) * (1 << 64) + u128::from(low)
 }
 
 // q moved down, also by 64 places or more.
@@ -89,29 +86,19 @@ trait Polynomial {
     ghost register: { ℕ };
 
     // A bit 128 places ahead leaves the register that bits so many places ahead leave.
-    ghost nearest: { ℕ };
+    ghost places: { List ℕ };
 
-    ghost others: { List ℕ };
-
-    // 64 bits more: the upper half is moved to those places.
-    fn fold(pair: Pair, word: u64) -> Pair
-        ensures result_value { number_of result ≡ folded nearest others pair word }
-        ensures whole { Whole result };
+    // 64 bits more behind 128: the upper 64 are moved to those places.
+    fn fold(number: u128, word: u64) -> u128
+        ensures { result ≡ folded places number word };
 
     // The register after 64 bits: their quotient by the polynomial, and what the polynomial times that leaves.
     fn reduced(v: u64) -> u64
         ensures { result ≡ after WIDTH polynomial 64 v };
 
-    ghost rule: { Rule WIDTH polynomial nearest others };
+    ghost rule: { Rule WIDTH polynomial places };
 
     ghost starts: { after WIDTH polynomial 128 START ≡ register };
-}
-
-fn spread_8<const TIMES: u32>(q: u64) -> u64
-    requires { TIMES ≤ 32 }
-    ensures { result ≡ spread TIMES (6 ∷ 7 ∷ 8 ∷ []) q }
-{
-    q ^ down(q, 6 * TIMES) ^ down(q, 7 * TIMES) ^ down(q, 8 * TIMES)
 }
 
 struct Crc8;
@@ -129,16 +116,11 @@ impl Polynomial for Crc8 {
 
     ghost register = { 0 };
 
-    ghost nearest = { 1 };
+    ghost places = { 1 ∷ [] };
 
-    ghost others = { [] };
-
-    fn fold(pair: Pair, word: u64) -> Pair {
-        let high = pair.high;
-        Pair {
-            high: pair.low ^ (high >> 63),
-            low: word ^ (high << 1),
-        }
+    fn fold(number: u128, word: u64) -> u128 {
+        let (high, low) = halves(number);
+        joined(low ^ (high >> 63), word ^ (high << 1))
     }
 
     fn reduced(v: u64) -> u64 {
@@ -151,11 +133,11 @@ impl Polynomial for Crc8 {
     ghost starts = { start_8 };
 }
 
-fn spread_16<const TIMES: u32>(q: u64) -> u64
+fn spread_8<const TIMES: u32>(q: u64) -> u64
     requires { TIMES ≤ 32 }
-    ensures { result ≡ spread TIMES (4 ∷ 11 ∷ 16 ∷ []) q }
+    ensures { result ≡ spread TIMES (6 ∷ 7 ∷ 8 ∷ []) q }
 {
-    q ^ down(q, 4 * TIMES) ^ down(q, 11 * TIMES) ^ down(q, 16 * TIMES)
+    q ^ down(q, 6 * TIMES) ^ down(q, 7 * TIMES) ^ down(q, 8 * TIMES)
 }
 
 struct Crc16;
@@ -173,16 +155,14 @@ impl Polynomial for Crc16 {
 
     ghost register = { 0 };
 
-    ghost nearest = { 25 };
+    ghost places = { 25 ∷ 26 ∷ 52 ∷ [] };
 
-    ghost others = { 26 ∷ 52 ∷ [] };
-
-    fn fold(pair: Pair, word: u64) -> Pair {
-        let high = pair.high;
-        Pair {
-            high: pair.low ^ (high >> 39) ^ (high >> 38) ^ (high >> 12),
-            low: word ^ (high << 25) ^ (high << 26) ^ (high << 52),
-        }
+    fn fold(number: u128, word: u64) -> u128 {
+        let (high, low) = halves(number);
+        joined(
+            low ^ (high >> 39) ^ (high >> 38) ^ (high >> 12),
+            word ^ (high << 25) ^ (high << 26) ^ (high << 52),
+        )
     }
 
     fn reduced(v: u64) -> u64 {
@@ -195,23 +175,11 @@ impl Polynomial for Crc16 {
     ghost starts = { start_16 };
 }
 
-fn spread_24<const TIMES: u32>(q: u64) -> u64
+fn spread_16<const TIMES: u32>(q: u64) -> u64
     requires { TIMES ≤ 32 }
-    ensures { result ≡ spread TIMES (1 ∷ 6 ∷ 7 ∷ 10 ∷ 13 ∷ 14 ∷ 17 ∷ 18 ∷ 19 ∷ 20 ∷ 21 ∷ 23 ∷ 24 ∷ []) q }
+    ensures { result ≡ spread TIMES (4 ∷ 11 ∷ 16 ∷ []) q }
 {
-    q ^ down(q, 1 * TIMES)
-        ^ down(q, 6 * TIMES)
-        ^ down(q, 7 * TIMES)
-        ^ down(q, 10 * TIMES)
-        ^ down(q, 13 * TIMES)
-        ^ down(q, 14 * TIMES)
-        ^ down(q, 17 * TIMES)
-        ^ down(q, 18 * TIMES)
-        ^ down(q, 19 * TIMES)
-        ^ down(q, 20 * TIMES)
-        ^ down(q, 21 * TIMES)
-        ^ down(q, 23 * TIMES)
-        ^ down(q, 24 * TIMES)
+    q ^ down(q, 4 * TIMES) ^ down(q, 11 * TIMES) ^ down(q, 16 * TIMES)
 }
 
 struct Crc24;
@@ -229,16 +197,14 @@ impl Polynomial for Crc24 {
 
     ghost register = { 0 };
 
-    ghost nearest = { 32 };
+    ghost places = { 32 ∷ 43 ∷ 49 ∷ 57 ∷ 59 ∷ [] };
 
-    ghost others = { 43 ∷ 49 ∷ 57 ∷ 59 ∷ [] };
-
-    fn fold(pair: Pair, word: u64) -> Pair {
-        let high = pair.high;
-        Pair {
-            high: pair.low ^ (high >> 32) ^ (high >> 21) ^ (high >> 15) ^ (high >> 7) ^ (high >> 5),
-            low: word ^ (high << 32) ^ (high << 43) ^ (high << 49) ^ (high << 57) ^ (high << 59),
-        }
+    fn fold(number: u128, word: u64) -> u128 {
+        let (high, low) = halves(number);
+        joined(
+            low ^ (high >> 32) ^ (high >> 21) ^ (high >> 15) ^ (high >> 7) ^ (high >> 5),
+            word ^ (high << 32) ^ (high << 43) ^ (high << 49) ^ (high << 57) ^ (high << 59),
+        )
     }
 
     fn reduced(v: u64) -> u64 {
@@ -265,24 +231,23 @@ impl Polynomial for Crc24 {
     ghost starts = { start_24 };
 }
 
-fn spread_32<const TIMES: u32>(q: u64) -> u64
+fn spread_24<const TIMES: u32>(q: u64) -> u64
     requires { TIMES ≤ 32 }
-    ensures { result ≡ spread TIMES (6 ∷ 9 ∷ 10 ∷ 16 ∷ 20 ∷ 21 ∷ 22 ∷ 24 ∷ 25 ∷ 27 ∷ 28 ∷ 30 ∷ 31 ∷ 32 ∷ []) q }
+    ensures { result ≡ spread TIMES (1 ∷ 6 ∷ 7 ∷ 10 ∷ 13 ∷ 14 ∷ 17 ∷ 18 ∷ 19 ∷ 20 ∷ 21 ∷ 23 ∷ 24 ∷ []) q }
 {
-    q ^ down(q, 6 * TIMES)
-        ^ down(q, 9 * TIMES)
+    q ^ down(q, 1 * TIMES)
+        ^ down(q, 6 * TIMES)
+        ^ down(q, 7 * TIMES)
         ^ down(q, 10 * TIMES)
-        ^ down(q, 16 * TIMES)
+        ^ down(q, 13 * TIMES)
+        ^ down(q, 14 * TIMES)
+        ^ down(q, 17 * TIMES)
+        ^ down(q, 18 * TIMES)
+        ^ down(q, 19 * TIMES)
         ^ down(q, 20 * TIMES)
         ^ down(q, 21 * TIMES)
-        ^ down(q, 22 * TIMES)
+        ^ down(q, 23 * TIMES)
         ^ down(q, 24 * TIMES)
-        ^ down(q, 25 * TIMES)
-        ^ down(q, 27 * TIMES)
-        ^ down(q, 28 * TIMES)
-        ^ down(q, 30 * TIMES)
-        ^ down(q, 31 * TIMES)
-        ^ down(q, 32 * TIMES)
 }
 
 struct Crc32;
@@ -300,15 +265,12 @@ impl Polynomial for Crc32 {
 
     ghost register = { 0xFFFFFFFF };
 
-    ghost nearest = { 1 };
+    ghost places = { 1 ∷ 9 ∷ 11 ∷ 30 ∷ 35 ∷ 39 ∷ 46 ∷ 63 ∷ [] };
 
-    ghost others = { 9 ∷ 11 ∷ 30 ∷ 35 ∷ 39 ∷ 46 ∷ 63 ∷ [] };
-
-    fn fold(pair: Pair, word: u64) -> Pair {
-        let high = pair.high;
-        Pair {
-            high: pair.low
-                ^ (high >> 63)
+    fn fold(number: u128, word: u64) -> u128 {
+        let (high, low) = halves(number);
+        joined(
+            low ^ (high >> 63)
                 ^ (high >> 55)
                 ^ (high >> 53)
                 ^ (high >> 34)
@@ -316,8 +278,7 @@ impl Polynomial for Crc32 {
                 ^ (high >> 25)
                 ^ (high >> 18)
                 ^ (high >> 1),
-            low: word
-                ^ (high << 1)
+            word ^ (high << 1)
                 ^ (high << 9)
                 ^ (high << 11)
                 ^ (high << 30)
@@ -325,7 +286,7 @@ impl Polynomial for Crc32 {
                 ^ (high << 39)
                 ^ (high << 46)
                 ^ (high << 63),
-        }
+        )
     }
 
     fn reduced(v: u64) -> u64 {
@@ -351,26 +312,44 @@ impl Polynomial for Crc32 {
     ghost starts = { start_32 };
 }
 
-// The words go in.
-fn words<P: Polynomial>(start: Pair, words: &[[u8; 8]]) -> Pair
-    requires { Whole start }
-    ensures result_value { after P.WIDTH P.polynomial 128 (number_of result)
-        ≡ crc_bits P.WIDTH P.polynomial (after P.WIDTH P.polynomial 128 (number_of start)) (word_bits words.now) }
-    ensures whole { Whole result }
+fn spread_32<const TIMES: u32>(q: u64) -> u64
+    requires { TIMES ≤ 32 }
+    ensures { result ≡ spread TIMES (6 ∷ 9 ∷ 10 ∷ 16 ∷ 20 ∷ 21 ∷ 22 ∷ 24 ∷ 25 ∷ 27 ∷ 28 ∷ 30 ∷ 31 ∷ 32 ∷ []) q }
 {
-    let mut pair = start;
+    q ^ down(q, 6 * TIMES)
+        ^ down(q, 9 * TIMES)
+        ^ down(q, 10 * TIMES)
+        ^ down(q, 16 * TIMES)
+        ^ down(q, 20 * TIMES)
+        ^ down(q, 21 * TIMES)
+        ^ down(q, 22 * TIMES)
+        ^ down(q, 24 * TIMES)
+        ^ down(q, 25 * TIMES)
+        ^ down(q, 27 * TIMES)
+        ^ down(q, 28 * TIMES)
+        ^ down(q, 30 * TIMES)
+        ^ down(q, 31 * TIMES)
+        ^ down(q, 32 * TIMES)
+}
+
+// The words go in.
+fn words<P: Polynomial>(start: u128, words: &[[u8; 8]]) -> u128
+    ensures { after P.WIDTH P.polynomial 128 result
+        ≡ crc_bits P.WIDTH P.polynomial (after P.WIDTH P.polynomial 128 start) (word_bits words.now) }
+{
+    let mut number = start;
     for word in words {
-        pair = P::fold(pair, u64::from_be_bytes(*word));
+        number = P::fold(number, u64::from_be_bytes(*word));
     }
-    pair
+    number
 }
 
 // The register that a number leaves.
-fn left<P: Polynomial>(pair: Pair) -> u64
-    requires { Whole pair }
-    ensures { result ≡ after P.WIDTH P.polynomial 128 (number_of pair) }
+fn left<P: Polynomial>(number: u128) -> u64
+    ensures { result ≡ after P.WIDTH P.polynomial 128 number }
 {
-    P::reduced(pair.low ^ (P::reduced(pair.high) << (64 - P::WIDTH)))
+    let (high, low) = halves(number);
+    P::reduced(low ^ (P::reduced(high) << (64 - P::WIDTH)))
 }
 
 fn crc<P: Polynomial>(s: &[u8]) -> u64

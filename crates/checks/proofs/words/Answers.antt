@@ -5,5 +5,5 @@ use Rattle.checks.proofs.words.Goals as goal
 pub loop-word-preserved : goal.loop-word-preserved
 loop-word-preserved g c = search (words-on g.met.P.Polynomial.rule, rules)
 
-pub returns-clause-result_value : goal.returns-clause-result_value
-returns-clause-result_value g c = search (going_end, rules)
+pub returns : goal.returns
+returns g c = search (going_end, rules)

@@ -3,4 +3,4 @@ use Rattle.checks.proofs.Turns.{Going}
 use Rattle.checks.proofs.words.Given as goal
 
 abbrev pub invariant-loop-word : goal.invariant-loop-word
-invariant-loop-word g l = let p = g.P.Polynomial in Going p.WIDTH p.polynomial l.initial.pair l.words l.pair l.word-index
+invariant-loop-word g l = let p = g.P.Polynomial in Going p.WIDTH p.polynomial l.initial.number l.words l.number l.word-index
