@@ -4,11 +4,11 @@ use mathlib.Core.Path.{◌≡◌, refl, sym, ap, ap₂, ◌∙◌, subst}
 use mathlib.Core.Bool.{Bool, true}
 use mathlib.Core.List.{List, [], ◌∷◌, ◌++◌}
 use Prim.Native.Nat.{ℕ, zero, suc, ◌+◌, ◌-◌, ◌*◌, ◌/◌, ◌%◌, ◌^◌, ◌≤◌, ◌<◌}
-use native.Mathlib.Nat.{zero-mul, add-zero, zero-add, add_comm, mul_assoc, add_assoc, add-mul, mod-lt, mod-eq_of_lt, div-eq_of_lt, mul-one, one-mul, lt_of_lt_of_le, lt_of_le_of_lt}
+use native.Mathlib.Nat.{zero-mul, add-zero, zero-add, add_comm, mul_assoc, add_assoc, add-mul, mod-lt, mod-eq_of_lt, div-eq_of_lt, mul-one, one-mul}
 use native.Mathlib.Omega.{arith}
 use lib.Dec.{T, eqb, eqb→eq}
 use lib.Bits.{bit_xor, xor_comm, xor_zero_r, xor_zero_l, xor_lt, xor_shr, xor_mod, xor_shifted, xor_block}
-use lib.Pow.{pow_pos, pow_mono, shl_lt, shr_lt, shr_le, shl-shr, shr-shr, split, high, shl_exact}
+use lib.Pow.{pow_pos, shl_lt, shr_lt, shl-shr, shr-shr, split, high}
 use Rattle.bits.specs.Bits.{bits_of}
 use Rattle.bits.specs.Laws.{bits_of-add, bits_of-low, more_lt}
 use Rattle.checks.specs.Crc.{shift, crc_bits}

@@ -8,7 +8,7 @@ use lib.Bits.{bit_xor}
 use lib.Dec.{T, eqb, eqb→eq}
 use Rattle.bits.specs.Bits.{bits_of, number}
 use Rattle.checks.specs.Crc.{shift, crc_bits, reversed4}
-use Rattle.checks.specs.Steps.{shifts, half_first, frame_half}
+use Rattle.checks.specs.Steps.{half_first, frame_half}
 use Rattle.checks.specs.Folds.{after, spread}
 use Rattle.checks.proofs.Table.{below, at-below}
 use Rattle.checks.proofs.Folding.{product, circuit-is}

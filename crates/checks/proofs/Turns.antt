@@ -1,21 +1,21 @@
 -- The steps as the code has them: TF006 by halves of bytes and a table, TF018's words of eight bytes, and its four cases.
 use mathlib.Core.Path.{◌≡◌, refl, sym, ap, ap₂, ◌∙◌, subst}
-use mathlib.Core.List.{List, [], ◌∷◌, ◌++◌, reverse, reverse-append}
+use mathlib.Core.List.{List, [], ◌++◌, reverse, reverse-append}
 use Prim.Native.Nat.{ℕ, zero, suc, ◌+◌, ◌-◌, ◌*◌, ◌/◌, ◌%◌, ◌^◌, ◌≤◌, ◌<◌}
-use native.Mathlib.Nat.{add_comm, mod-lt, lt_of_le_of_lt, lt_of_lt_of_le, div-eq_of_lt}
+use native.Mathlib.Nat.{add_comm, mod-lt, lt_of_lt_of_le, div-eq_of_lt}
 use native.Mathlib.Omega.{arith}
 use lib.Bits.{bit_xor, xor_lt, xor_zero_l, xor_shifted}
 use lib.Dec.{eqb, eqb→eq}
 use lib.ListN.{length, length-drop, get_or, drop, drop_of_length-le}
-use lib.Pow.{pow_pos, pow_mono, shl_exact, shr_lt, split}
+use lib.Pow.{pow_pos, pow_mono, shl_exact, split}
 use mir.Syntax.{w8, w64}
 use mir.Val.{Fits}
 use Rattle.std.specs.Option.{SomeIff, unwrap_or}
 use Rattle.std.proofs.Common.{Option, Some, None}
 use Rattle.std.specs.Int.{from_be_bytes}
 use Rattle.std.specs.Simd.{first_chunks}
-use Rattle.bits.specs.Bits.{bits_of, to_bits, number, field, got, Bytes}
-use Rattle.bits.specs.Laws.{bits_of-add, bits_of-mod, field_lt, got-there, more_lt, bytes_drop}
+use Rattle.bits.specs.Bits.{bits_of, to_bits, number, field, got}
+use Rattle.bits.specs.Laws.{bits_of-add, bits_of-mod, field_lt, got-there, bytes_drop}
 use Rattle.checks.specs.Crc.{crc_bits, crc, low_first, reversed4, frame_crc, message_crc}
 use Rattle.checks.specs.Steps.{half_first, frame_half, frame_byte}
 use Rattle.checks.specs.Folds.{after, ups, xors, word_bits, folded, Rule}
@@ -164,6 +164,11 @@ frame_is a b c v w x y z ha hb hc ev ew ex ey ez =
     (sym (all-halves (a % 16) (a / 16) (b % 16) (b / 16) (c / 16) a0 a1 b0 b1 c1) ∙ frame-six a b c)
 
 -- ---- TF018
+
+-- no bytes before the words
+pub head-none : (start k : ℕ) (s : List ℕ) → k ≡ 0 → start ≡ start * 2 ^ (8 * k) + field s 0 (8 * k)
+unfolding field number
+head-none start k s e = rw e (omega arith)
 
 -- a start, and the first bytes behind it
 pub head-is : (start k f : ℕ) (s : List ℕ) → start < 2 ^ 64 → k < 8 → k ≤ length s → f ≡ got s 0 (8 * k)

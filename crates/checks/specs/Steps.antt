@@ -1,5 +1,5 @@
 -- Serves proofs: what the code's steps compute. No contract of a public call cites these.
-use Rattle.std.specs.Prelude.{ℕ, zero, suc, ◌+◌, ◌-◌, ◌*◌, ◌^◌, List, reverse, get_or}
+use Rattle.std.specs.Prelude.{ℕ, zero, suc, ◌-◌, ◌*◌, ◌^◌, List, reverse}
 use Rattle.std.specs.Int.Bits.{bit_xor}
 use Rattle.bits.specs.Bits.{bits_of}
 use Rattle.checks.specs.Crc.{shift, crc_bits, low_first, reversed4}

@@ -44,6 +44,9 @@ fn head(start: u64, s: &[u8], count: u32) -> u128
     requires { (count < 8) × (count ≤ length s.now) }
     ensures { result ≡ start * 2 ^ (8 * count) + field s.now 0 (8 * count) }
 {
+    if count == 0 {
+        return u128::from(start);
+    }
     let width = 8 * count;
     (u128::from(start) << width) ^ u128::from(bits::get(s, 0, width))
 }
@@ -69,7 +72,8 @@ fn down(q: u64, places: u32) -> u64
     q.checked_shr(places).unwrap_or(0)
 }
 
-// How a message check of TF018 goes, 64 bits a turn.
+// How a message check of TF018 goes, 64 bits a turn. Each polynomial has its own moves, and gives them as code with no loop over them, which is
+// the fastest.
 trait Polynomial {
     const WIDTH: u32;
 
@@ -92,7 +96,9 @@ trait Polynomial {
     fn fold(number: u128, word: u64) -> u128
         ensures { result ≡ folded places number word };
 
-    // The register after 64 bits: their quotient by the polynomial, and what the polynomial times that leaves.
+    // The register after 64 bits: their quotient by the polynomial, and what the polynomial times that leaves. With s the moves down from the
+    // polynomial's top term to its others, the quotient is the bits by 1 / (1 + s), which is (1 + s)(1 + s^2)(1 + s^4) ..; a square doubles the
+    // moves.
     fn reduced(v: u64) -> u64
         ensures { result ≡ after WIDTH polynomial 64 v };
 
@@ -133,6 +139,7 @@ impl Polynomial for Crc8 {
     ghost starts = { start_8 };
 }
 
+// The step 1 + s^TIMES of the quotient by CRC-8's polynomial. The next three are those of the others.
 fn spread_8<const TIMES: u32>(q: u64) -> u64
     requires { TIMES ≤ 32 }
     ensures { result ≡ spread TIMES (6 ∷ 7 ∷ 8 ∷ []) q }
@@ -235,7 +242,7 @@ fn spread_24<const TIMES: u32>(q: u64) -> u64
     requires { TIMES ≤ 32 }
     ensures { result ≡ spread TIMES (1 ∷ 6 ∷ 7 ∷ 10 ∷ 13 ∷ 14 ∷ 17 ∷ 18 ∷ 19 ∷ 20 ∷ 21 ∷ 23 ∷ 24 ∷ []) q }
 {
-    q ^ down(q, 1 * TIMES)
+    q ^ down(q, TIMES)
         ^ down(q, 6 * TIMES)
         ^ down(q, 7 * TIMES)
         ^ down(q, 10 * TIMES)
@@ -332,7 +339,7 @@ fn spread_32<const TIMES: u32>(q: u64) -> u64
         ^ down(q, 32 * TIMES)
 }
 
-// The words go in.
+// The words go in, one after the other.
 fn words<P: Polynomial>(start: u128, words: &[[u8; 8]]) -> u128
     ensures { after P.WIDTH P.polynomial 128 result
         ≡ crc_bits P.WIDTH P.polynomial (after P.WIDTH P.polynomial 128 start) (word_bits words.now) }
@@ -355,6 +362,7 @@ fn left<P: Polynomial>(number: u128) -> u64
 fn crc<P: Polynomial>(s: &[u8]) -> u64
     ensures { result ≡ crc P.WIDTH P.polynomial P.register s.now }
 {
+    // the first bytes, fewer than eight, and the words behind them
     let (first, all) = s.as_rchunks();
     left::<P>(words::<P>(head(P::START, s, first.len() as u32), all))
 }
