@@ -221,8 +221,8 @@ fold_is {w} {p} {es} rule n c hn hc =
     ∙ sym (after-xor w p h1 hp 128 (ups es h) m)
 
 -- the halves of a number that is moved up: what goes over 64 bits, and what stays
-two-halves : (e x : ℕ) → e ≤ 64 → x / 2 ^ (64 - e) * 2 ^ 64 + x * 2 ^ e % 2 ^ 64 ≡ x * 2 ^ e
-two-halves e x n =
+moved-halves : (e x : ℕ) → e ≤ 64 → x / 2 ^ (64 - e) * 2 ^ 64 + x * 2 ^ e % 2 ^ 64 ≡ x * 2 ^ e
+moved-halves e x n =
     let s : e + (64 - e) ≡ 64 = omega arith in
     let over : x * 2 ^ e / 2 ^ 64 ≡ x / 2 ^ (64 - e)
     = ap (λ (k : ℕ). x * 2 ^ e / 2 ^ k) (sym s) ∙ sym (shr-shr (x * 2 ^ e) e (64 - e)) ∙ ap (λ (z : ℕ). z / 2 ^ (64 - e)) (shl-shr x e) in
@@ -240,7 +240,7 @@ moved (e ∷ es) near h l c hc =
     let m : ℕ = l * 2 ^ 64 + c in
     let y-lt : y < 2 ^ 64 = mod-lt (h * 2 ^ e) (pow_pos 64) in
     moved es near.1 h (bit_xor l x) (bit_xor c y) (xor_lt 64 c y hc y-lt)
-    ∙ ap (bit_xor u) (sym (xor_block 64 l x c y hc y-lt) ∙ ap (bit_xor m) (two-halves e h near.0) ∙ xor_comm m (h * 2 ^ e))
+    ∙ ap (bit_xor u) (sym (xor_block 64 l x c y hc y-lt) ∙ ap (bit_xor m) (moved-halves e h near.0) ∙ xor_comm m (h * 2 ^ e))
     ∙ sym (xor_assoc u (h * 2 ^ e) m)
     ∙ ap (λ (z : ℕ). bit_xor z m) (xor_comm u (h * 2 ^ e))
 

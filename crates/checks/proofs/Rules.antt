@@ -1,8 +1,8 @@
 -- The rules of TF006's table and of TF018's quotients, each from one test that antt computes.
 use mathlib.Core.Path.{◌≡◌, refl, ap, ◌∙◌}
-use mathlib.Core.List.{[], ◌∷◌}
+use mathlib.Core.List.{List, [], ◌∷◌}
 use mathlib.Core.Bool.{Bool}
-use Prim.Native.Nat.{ℕ, zero, suc, ◌*◌, ◌/◌, ◌%◌, ◌^◌, ◌<◌}
+use Prim.Native.Nat.{ℕ, zero, suc, ◌*◌, ◌/◌, ◌%◌, ◌^◌, ◌≤◌, ◌<◌}
 use native.Mathlib.Omega.{arith}
 use lib.Bits.{bit_xor}
 use lib.Dec.{T, eqb, eqb→eq}
@@ -11,7 +11,7 @@ use Rattle.checks.specs.Crc.{shift, crc_bits, reversed4}
 use Rattle.checks.specs.Steps.{half_first, frame_half}
 use Rattle.checks.specs.Folds.{after, spread}
 use Rattle.checks.proofs.Table.{below, at-below}
-use Rattle.checks.proofs.Folding.{product, circuit-is}
+use Rattle.checks.proofs.Folding.{powers, product, circuit, circuit-is}
 
 -- ---- TF006
 
@@ -74,48 +74,38 @@ table-1 = is-table 0x5BA48679C23D1FE0 1 tt
 
 -- ---- TF018: the register after 64 bits by moves
 
-pub circuit-8 : (v a b c d : ℕ) → v < 2 ^ 64
-    → a ≡ spread 1 (6 ∷ 7 ∷ 8 ∷ []) v
-    → b ≡ spread 2 (6 ∷ 7 ∷ 8 ∷ []) a
-    → c ≡ spread 4 (6 ∷ 7 ∷ 8 ∷ []) b
-    → d ≡ spread 8 (6 ∷ 7 ∷ 8 ∷ []) c
-    → product 8 (1 ∷ 2 ∷ []) d ≡ after 8 0x07 64 v
-unfolding after crc_bits bits_of shift
-circuit-8 v a b c d h ea eb ec ed =
-    ap (product 8 (1 ∷ 2 ∷ [])) (ed ∙ ap (spread 8 (6 ∷ 7 ∷ 8 ∷ [])) (ec ∙ ap (spread 4 (6 ∷ 7 ∷ 8 ∷ [])) (eb ∙ ap (spread 2 (6 ∷ 7 ∷ 8 ∷ [])) ea)))
-    ∙ circuit-is 8 0x07 (omega arith) (omega arith) (1 ∷ 2 ∷ 4 ∷ 8 ∷ []) (6 ∷ 7 ∷ 8 ∷ []) (1 ∷ 2 ∷ []) refl tt v h
+-- the steps of a quotient, as the code takes them, and the product
+abbrev pub Four : ℕ → ℕ → List ℕ → List ℕ → Type 0
+Four w p es fs = (v a b c d : ℕ) → v < 2 ^ 64 → a ≡ spread 1 es v → b ≡ spread 2 es a → c ≡ spread 4 es b → d ≡ spread 8 es c → product w fs d ≡ after w p 64 v
 
-pub circuit-16 : (v a b c d : ℕ) → v < 2 ^ 64
-    → a ≡ spread 1 (4 ∷ 11 ∷ 16 ∷ []) v
-    → b ≡ spread 2 (4 ∷ 11 ∷ 16 ∷ []) a
-    → c ≡ spread 4 (4 ∷ 11 ∷ 16 ∷ []) b
-    → d ≡ spread 8 (4 ∷ 11 ∷ 16 ∷ []) c
-    → product 16 (5 ∷ 12 ∷ []) d ≡ after 16 0x1021 64 v
-unfolding after crc_bits bits_of shift
-circuit-16 v a b c d h ea eb ec ed =
-    ap (product 16 (5 ∷ 12 ∷ [])) (ed ∙ ap (spread 8 (4 ∷ 11 ∷ 16 ∷ [])) (ec ∙ ap (spread 4 (4 ∷ 11 ∷ 16 ∷ [])) (eb ∙ ap (spread 2 (4 ∷ 11 ∷ 16 ∷ [])) ea)))
-    ∙ circuit-is 16 0x1021 (omega arith) (omega arith) (1 ∷ 2 ∷ 4 ∷ 8 ∷ []) (4 ∷ 11 ∷ 16 ∷ []) (5 ∷ 12 ∷ []) refl tt v h
+abbrev pub Six : ℕ → ℕ → List ℕ → List ℕ → Type 0
+Six w p es fs = (v a b c d e f : ℕ) → v < 2 ^ 64 → a ≡ spread 1 es v → b ≡ spread 2 es a → c ≡ spread 4 es b → d ≡ spread 8 es c → e ≡ spread 16 es d
+    → f ≡ spread 32 es e → product w fs f ≡ after w p 64 v
 
-pub circuit-24 : (v a b c d e f : ℕ) → v < 2 ^ 64
-    → a ≡ spread 1 (1 ∷ 6 ∷ 7 ∷ 10 ∷ 13 ∷ 14 ∷ 17 ∷ 18 ∷ 19 ∷ 20 ∷ 21 ∷ 23 ∷ 24 ∷ []) v
-    → b ≡ spread 2 (1 ∷ 6 ∷ 7 ∷ 10 ∷ 13 ∷ 14 ∷ 17 ∷ 18 ∷ 19 ∷ 20 ∷ 21 ∷ 23 ∷ 24 ∷ []) a
-    → c ≡ spread 4 (1 ∷ 6 ∷ 7 ∷ 10 ∷ 13 ∷ 14 ∷ 17 ∷ 18 ∷ 19 ∷ 20 ∷ 21 ∷ 23 ∷ 24 ∷ []) b
-    → d ≡ spread 8 (1 ∷ 6 ∷ 7 ∷ 10 ∷ 13 ∷ 14 ∷ 17 ∷ 18 ∷ 19 ∷ 20 ∷ 21 ∷ 23 ∷ 24 ∷ []) c
-    → e ≡ spread 16 (1 ∷ 6 ∷ 7 ∷ 10 ∷ 13 ∷ 14 ∷ 17 ∷ 18 ∷ 19 ∷ 20 ∷ 21 ∷ 23 ∷ 24 ∷ []) d
-    → f ≡ spread 32 (1 ∷ 6 ∷ 7 ∷ 10 ∷ 13 ∷ 14 ∷ 17 ∷ 18 ∷ 19 ∷ 20 ∷ 21 ∷ 23 ∷ 24 ∷ []) e
-    → product 24 (1 ∷ 3 ∷ 4 ∷ 5 ∷ 6 ∷ 7 ∷ 10 ∷ 11 ∷ 14 ∷ 17 ∷ 18 ∷ 23 ∷ []) f ≡ after 24 0x864CFB 64 v
-unfolding after crc_bits bits_of shift
-circuit-24 v a b c d e f h ea eb ec ed ee ef =
-    ap (product 24 (1 ∷ 3 ∷ 4 ∷ 5 ∷ 6 ∷ 7 ∷ 10 ∷ 11 ∷ 14 ∷ 17 ∷ 18 ∷ 23 ∷ [])) (ef ∙ ap (spread 32 (1 ∷ 6 ∷ 7 ∷ 10 ∷ 13 ∷ 14 ∷ 17 ∷ 18 ∷ 19 ∷ 20 ∷ 21 ∷ 23 ∷ 24 ∷ [])) (ee ∙ ap (spread 16 (1 ∷ 6 ∷ 7 ∷ 10 ∷ 13 ∷ 14 ∷ 17 ∷ 18 ∷ 19 ∷ 20 ∷ 21 ∷ 23 ∷ 24 ∷ [])) (ed ∙ ap (spread 8 (1 ∷ 6 ∷ 7 ∷ 10 ∷ 13 ∷ 14 ∷ 17 ∷ 18 ∷ 19 ∷ 20 ∷ 21 ∷ 23 ∷ 24 ∷ [])) (ec ∙ ap (spread 4 (1 ∷ 6 ∷ 7 ∷ 10 ∷ 13 ∷ 14 ∷ 17 ∷ 18 ∷ 19 ∷ 20 ∷ 21 ∷ 23 ∷ 24 ∷ [])) (eb ∙ ap (spread 2 (1 ∷ 6 ∷ 7 ∷ 10 ∷ 13 ∷ 14 ∷ 17 ∷ 18 ∷ 19 ∷ 20 ∷ 21 ∷ 23 ∷ 24 ∷ [])) ea)))))
-    ∙ circuit-is 24 0x864CFB (omega arith) (omega arith) (1 ∷ 2 ∷ 4 ∷ 8 ∷ 16 ∷ 32 ∷ []) (1 ∷ 6 ∷ 7 ∷ 10 ∷ 13 ∷ 14 ∷ 17 ∷ 18 ∷ 19 ∷ 20 ∷ 21 ∷ 23 ∷ 24 ∷ []) (1 ∷ 3 ∷ 4 ∷ 5 ∷ 6 ∷ 7 ∷ 10 ∷ 11 ∷ 14 ∷ 17 ∷ 18 ∷ 23 ∷ []) refl tt v h
+four : (w p : ℕ) (es fs : List ℕ) → 1 ≤ w → p < 2 ^ w → circuit w (1 ∷ 2 ∷ 4 ∷ 8 ∷ []) es fs 0 ≡ 0
+    → T (powers (circuit w (1 ∷ 2 ∷ 4 ∷ 8 ∷ []) es fs) w p 64 0 (after w p 1 1)) → Four w p es fs
+four w p es fs h1 hp z t v a b c d h ea eb ec ed =
+    ap (product w fs) (ed ∙ ap (spread 8 es) (ec ∙ ap (spread 4 es) (eb ∙ ap (spread 2 es) ea)))
+    ∙ circuit-is w p h1 hp (1 ∷ 2 ∷ 4 ∷ 8 ∷ []) es fs z t v h
 
-pub circuit-32 : (v a b c d : ℕ) → v < 2 ^ 64
-    → a ≡ spread 1 (6 ∷ 9 ∷ 10 ∷ 16 ∷ 20 ∷ 21 ∷ 22 ∷ 24 ∷ 25 ∷ 27 ∷ 28 ∷ 30 ∷ 31 ∷ 32 ∷ []) v
-    → b ≡ spread 2 (6 ∷ 9 ∷ 10 ∷ 16 ∷ 20 ∷ 21 ∷ 22 ∷ 24 ∷ 25 ∷ 27 ∷ 28 ∷ 30 ∷ 31 ∷ 32 ∷ []) a
-    → c ≡ spread 4 (6 ∷ 9 ∷ 10 ∷ 16 ∷ 20 ∷ 21 ∷ 22 ∷ 24 ∷ 25 ∷ 27 ∷ 28 ∷ 30 ∷ 31 ∷ 32 ∷ []) b
-    → d ≡ spread 8 (6 ∷ 9 ∷ 10 ∷ 16 ∷ 20 ∷ 21 ∷ 22 ∷ 24 ∷ 25 ∷ 27 ∷ 28 ∷ 30 ∷ 31 ∷ 32 ∷ []) c
-    → product 32 (1 ∷ 2 ∷ 4 ∷ 5 ∷ 7 ∷ 8 ∷ 10 ∷ 11 ∷ 12 ∷ 16 ∷ 22 ∷ 23 ∷ 26 ∷ []) d ≡ after 32 0x04C11DB7 64 v
+six : (w p : ℕ) (es fs : List ℕ) → 1 ≤ w → p < 2 ^ w → circuit w (1 ∷ 2 ∷ 4 ∷ 8 ∷ 16 ∷ 32 ∷ []) es fs 0 ≡ 0
+    → T (powers (circuit w (1 ∷ 2 ∷ 4 ∷ 8 ∷ 16 ∷ 32 ∷ []) es fs) w p 64 0 (after w p 1 1)) → Six w p es fs
+six w p es fs h1 hp z t v a b c d e f h ea eb ec ed ee ef =
+    ap (product w fs) (ef ∙ ap (spread 32 es) (ee ∙ ap (spread 16 es) (ed ∙ ap (spread 8 es) (ec ∙ ap (spread 4 es) (eb ∙ ap (spread 2 es) ea)))))
+    ∙ circuit-is w p h1 hp (1 ∷ 2 ∷ 4 ∷ 8 ∷ 16 ∷ 32 ∷ []) es fs z t v h
+
+pub circuit-8 : Four 8 0x07 (6 ∷ 7 ∷ 8 ∷ []) (1 ∷ 2 ∷ [])
 unfolding after crc_bits bits_of shift
-circuit-32 v a b c d h ea eb ec ed =
-    ap (product 32 (1 ∷ 2 ∷ 4 ∷ 5 ∷ 7 ∷ 8 ∷ 10 ∷ 11 ∷ 12 ∷ 16 ∷ 22 ∷ 23 ∷ 26 ∷ [])) (ed ∙ ap (spread 8 (6 ∷ 9 ∷ 10 ∷ 16 ∷ 20 ∷ 21 ∷ 22 ∷ 24 ∷ 25 ∷ 27 ∷ 28 ∷ 30 ∷ 31 ∷ 32 ∷ [])) (ec ∙ ap (spread 4 (6 ∷ 9 ∷ 10 ∷ 16 ∷ 20 ∷ 21 ∷ 22 ∷ 24 ∷ 25 ∷ 27 ∷ 28 ∷ 30 ∷ 31 ∷ 32 ∷ [])) (eb ∙ ap (spread 2 (6 ∷ 9 ∷ 10 ∷ 16 ∷ 20 ∷ 21 ∷ 22 ∷ 24 ∷ 25 ∷ 27 ∷ 28 ∷ 30 ∷ 31 ∷ 32 ∷ [])) ea)))
-    ∙ circuit-is 32 0x04C11DB7 (omega arith) (omega arith) (1 ∷ 2 ∷ 4 ∷ 8 ∷ []) (6 ∷ 9 ∷ 10 ∷ 16 ∷ 20 ∷ 21 ∷ 22 ∷ 24 ∷ 25 ∷ 27 ∷ 28 ∷ 30 ∷ 31 ∷ 32 ∷ []) (1 ∷ 2 ∷ 4 ∷ 5 ∷ 7 ∷ 8 ∷ 10 ∷ 11 ∷ 12 ∷ 16 ∷ 22 ∷ 23 ∷ 26 ∷ []) refl tt v h
+circuit-8 = four 8 0x07 (6 ∷ 7 ∷ 8 ∷ []) (1 ∷ 2 ∷ []) (omega arith) (omega arith) refl tt
+
+pub circuit-16 : Four 16 0x1021 (4 ∷ 11 ∷ 16 ∷ []) (5 ∷ 12 ∷ [])
+unfolding after crc_bits bits_of shift
+circuit-16 = four 16 0x1021 (4 ∷ 11 ∷ 16 ∷ []) (5 ∷ 12 ∷ []) (omega arith) (omega arith) refl tt
+
+pub circuit-24 : Six 24 0x864CFB (1 ∷ 6 ∷ 7 ∷ 10 ∷ 13 ∷ 14 ∷ 17 ∷ 18 ∷ 19 ∷ 20 ∷ 21 ∷ 23 ∷ 24 ∷ []) (1 ∷ 3 ∷ 4 ∷ 5 ∷ 6 ∷ 7 ∷ 10 ∷ 11 ∷ 14 ∷ 17 ∷ 18 ∷ 23 ∷ [])
+unfolding after crc_bits bits_of shift
+circuit-24 = six 24 0x864CFB (1 ∷ 6 ∷ 7 ∷ 10 ∷ 13 ∷ 14 ∷ 17 ∷ 18 ∷ 19 ∷ 20 ∷ 21 ∷ 23 ∷ 24 ∷ []) (1 ∷ 3 ∷ 4 ∷ 5 ∷ 6 ∷ 7 ∷ 10 ∷ 11 ∷ 14 ∷ 17 ∷ 18 ∷ 23 ∷ []) (omega arith) (omega arith) refl tt
+
+pub circuit-32 : Four 32 0x04C11DB7 (6 ∷ 9 ∷ 10 ∷ 16 ∷ 20 ∷ 21 ∷ 22 ∷ 24 ∷ 25 ∷ 27 ∷ 28 ∷ 30 ∷ 31 ∷ 32 ∷ []) (1 ∷ 2 ∷ 4 ∷ 5 ∷ 7 ∷ 8 ∷ 10 ∷ 11 ∷ 12 ∷ 16 ∷ 22 ∷ 23 ∷ 26 ∷ [])
+unfolding after crc_bits bits_of shift
+circuit-32 = four 32 0x04C11DB7 (6 ∷ 9 ∷ 10 ∷ 16 ∷ 20 ∷ 21 ∷ 22 ∷ 24 ∷ 25 ∷ 27 ∷ 28 ∷ 30 ∷ 31 ∷ 32 ∷ []) (1 ∷ 2 ∷ 4 ∷ 5 ∷ 7 ∷ 8 ∷ 10 ∷ 11 ∷ 12 ∷ 16 ∷ 22 ∷ 23 ∷ 26 ∷ []) (omega arith) (omega arith) refl tt
