@@ -72,8 +72,8 @@ fn down(q: u64, places: u32) -> u64
     q.checked_shr(places).unwrap_or(0)
 }
 
-// How a message check of TF018 goes, 64 bits a turn. Each polynomial has its own moves, and gives them as code with no loop over them, which is
-// the fastest.
+// How a message check of TF018 goes, 64 bits a turn. Each polynomial gives its own moves, one by one: a loop over a list of them would be
+// slower.
 trait Polynomial {
     const WIDTH: u32;
 
@@ -139,7 +139,8 @@ impl Polynomial for Crc8 {
     ghost starts = { start_8 };
 }
 
-// The step 1 + s^TIMES of the quotient by CRC-8's polynomial. The next three are those of the others.
+// The step 1 + s^TIMES of the quotient by CRC-8's polynomial. It stands beside the trait, whose methods take no const parameter. The others
+// have theirs below.
 fn spread_8<const TIMES: u32>(q: u64) -> u64
     requires { TIMES ≤ 32 }
     ensures { result ≡ spread TIMES (6 ∷ 7 ∷ 8 ∷ []) q }
