@@ -1,19 +1,24 @@
 -- Serves proofs, and is proved: one law for each step of the code, in the code's own terms. Assumes nothing.
 use mathlib.Core.Bool.{Bool, true, false, not}
 use mathlib.Core.Path.{◌≡◌, refl, sym, ap, ap₂, ◌∙◌, subst}
-use mathlib.Core.List.{List}
-use Prim.Native.Nat.{ℕ, ◌+◌, ◌-◌, ◌*◌, ◌/◌, ◌%◌, ◌^◌, ◌≤◌, ◌<◌}
-use native.Mathlib.Nat.{add-mul, add-zero, div-one, mul_assoc, mul-one, mod-lt}
+use mathlib.Core.List.{List, [], ◌++◌}
+use Prim.Native.Nat.{ℕ, suc, ◌+◌, ◌-◌, ◌*◌, ◌/◌, ◌%◌, ◌^◌, ◌≤◌, ◌<◌}
+use native.Mathlib.Nat.{add-zero, div-one, mod-lt}
 use native.Mathlib.Omega.{arith}
 use borrow.Author.Tests.{not-true, not-false}
-use lib.Bits.{bit_and, bit_or, and_high, and_mask, or_shifted}
-use lib.ListN.{length, get_or, set, length-set, take-append-drop}
-use lib.Pow.{pow-add, pow_pos, shl_exact, shl_lt, shl-shr, shr_lt, shr-shr, split, high, high_ones, mod-pow-add, ones_lt, ones_split}
+use lib.Bits.{bit_and, bit_or, and_high, and_mask}
+use lib.ListN.{length, get_or, set, take, drop, length-set, length-drop, take-append-drop}
+use lib.Seq.{drop-drop, length-take-le}
+use lib.Pow.{pow_pos, shl_exact, shl-shr, shr_lt, shr-shr, split, high, high_ones, mod-pow-add, ones_lt, ones_split}
 use lib.Pow.{field as middle}
-use mir.Syntax.{w8}
+use borrow.Rule.Slice.PartMut.{put_mid}
+use mir.Syntax.{w8, w64}
 use mir.Val.{Fits}
+use Rattle.std.proofs.lemmas.List.{take_all}
+use Rattle.std.specs.Simd.{first_chunks}
+use Rattle.std.specs.Int.{from_be_bytes, to_be_bytes}
 use Rattle.bits.specs.Bits.{to_bits, bits_of, number, Bytes, field, there, got, put_to, leaves}
-use Rattle.bits.specs.Laws.{placed, InOneWord, more_lt, appended, byte_put, field-byte, field_lt, field-part, field-split, length-to_bits, is-there, not_there, there-width, there-end, got-there, got-not, leaves-there, leaves-not, put_back, put-join, put-mod}
+use Rattle.bits.specs.Laws.{placed, InOneWord, more_lt, appended, byte_put, field-byte, field_lt, field-part, field-split, length-to_bits, to_bits-append, to_bits-take, to_bits-drop, bytes_take, bytes_drop, bytes-number, number-bytes, is-there, not_there, there-width, there-end, got-there, got-not, leaves-there, leaves-not, put_back, put-join, put-mod}
 
 -- ---- words
 
@@ -75,24 +80,6 @@ cut v o w m h =
 
 -- ---- fields read
 
--- `wide(s[i]) << up`
-pub byte-up : {s : List ℕ} → Bytes s → (i up b : ℕ) → i < length s → up ≤ 56 → b ≡ get_or s i 0 → b * 2 ^ up % 2 ^ 64 ≡ field s (8 * i) 8 * 2 ^ up
-byte-up {s} h i up b k small e =
-    let is : b ≡ field s (8 * i) 8 = e ∙ sym (field-byte h i k) in
-    shl_exact 8 up 64 (subst (λ (z : ℕ). z < 2 ^ 8) (sym is) (field_lt s (8 * i) 8)) (omega arith) ∙ ap (λ (z : ℕ). z * 2 ^ up) is
-
--- `a | f` of two fields in a row that are shifted up
-pub field-or : (s : List ℕ) (pos next k n up a f : ℕ) → next ≡ pos + k → pos + (k + n) ≤ 8 * length s
-    → a ≡ field s pos k * 2 ^ (n + up) → f ≡ field s next n * 2 ^ up → bit_or a f ≡ field s pos (k + n) * 2 ^ up
-field-or s pos next k n up a f at fits ea ef =
-    let x : ℕ = field s pos k in
-    let y : ℕ = field s next n in
-    ap₂ bit_or ea ef
-    ∙ or_shifted x (n + up) (y * 2 ^ up) (shl_lt n up (field_lt s next n))
-    ∙ ap (λ (z : ℕ). z + y * 2 ^ up) (ap (λ (z : ℕ). x * z) (pow-add 2 n up) ∙ sym (mul_assoc x (2 ^ n) (2 ^ up)))
-    ∙ sym (add-mul (x * 2 ^ n) y (2 ^ up))
-    ∙ ap (λ (z : ℕ). z * 2 ^ up) (ap (λ (z : ℕ). x * 2 ^ n + field s z n) at ∙ sym (field-split s pos k n fits))
-
 -- `(a << n) | f` of a field and the next
 pub field-more : (s : List ℕ) (pos next k n a f : ℕ) → next ≡ pos + k → k + n ≤ 64 → pos + (k + n) ≤ 8 * length s
     → a ≡ field s pos k → f ≡ field s next n → bit_or (a * 2 ^ n % 2 ^ 64) f ≡ field s pos (k + n)
@@ -110,11 +97,6 @@ field-in-byte {s} h p q o n m at all k =
     ∙ ap (λ (z : ℕ). z / 2 ^ m % 2 ^ n) (ap (λ (z : ℕ). field s (8 * q) z) all ∙ field-byte h q k)
 
 -- ---- fields put
-
--- a code put as two, one after the other
-pub put-or : (l₀ l₁ l₂ : List ℕ) (pos next k n x : ℕ) → next ≡ pos + k → pos + k ≤ length l₀
-    → l₁ ≡ put_to l₀ pos k (x / 2 ^ n) → l₂ ≡ put_to l₁ next n x → l₂ ≡ put_to l₀ pos (k + n) x
-put-or l₀ l₁ l₂ pos next k n x at h e₁ e₂ = e₂ ∙ ap (λ (z : ℕ). put_to l₁ z n x) at ∙ put-join l₀ l₁ pos k n x h e₁
 
 -- the low byte of a number is stored
 pub store_low : (s : List ℕ) (q v x : ℕ) → v ≡ x % 256 → q < length s → to_bits (set s q v) ≡ put_to (to_bits s) (8 * q) 8 x
@@ -331,35 +313,33 @@ module _ (s₀ s : List ℕ) (pos w code k : ℕ) (h : Writing s₀ pos w code s
       ∙ ap₂ (λ (i z : ℕ). put_to (to_bits s₀) pos i z) all (ap (λ (z : ℕ). code / 2 ^ z) none ∙ div-one code)
       ∙ sym (leaves-there s₀ pos w code h.width h.ends)
 
--- ---- two halves in a row
+-- ---- eight bytes as a word
 
--- `two_at` twice is `four_at`, that twice `eight_at`: halves of k bytes
-pub halves-read : (k : ℕ) (s : List ℕ) (at up a f : ℕ) → at + 2 * k ≤ length s → a ≡ field s (8 * at) (8 * k) * 2 ^ (up + 8 * k)
-    → f ≡ field s (8 * (at + k)) (8 * k) * 2 ^ up → bit_or a f ≡ field s (8 * at) (8 * k + 8 * k) * 2 ^ up
-halves-read k s at up a f h ea ef =
-    let e : up + 8 * k ≡ 8 * k + up = omega arith in
-    field-or s (8 * at) (8 * (at + k)) (8 * k) (8 * k) up a f (omega arith) (omega arith) (ea ∙ ap (λ (z : ℕ). field s (8 * at) (8 * k) * 2 ^ z) e) ef
+-- `from_be_bytes` of the first of the words of `&s[at..]`
+pub eight-read : (s : List ℕ) (words : List (List ℕ)) (at n r : ℕ) → ((i : ℕ) → Fits w8 (get_or s i 0)) → at + 8 ≤ length s → n ≡ length s - at
+    → words ≡ first_chunks 8 (length (take n (drop at s)) / 8) (take n (drop at s)) → r ≡ from_be_bytes w64 (get_or words 0 [])
+    → r ≡ field s (8 * at) 64
+unfolding field
+eight-read s words at n r bytes h en ew er =
+    let rest : List ℕ = drop at s in
+    let long : length rest ≡ length s - at = length-drop at s in
+    let all : take n rest ≡ rest = take_all n rest (omega arith) in
+    let some : length rest / 8 ≡ suc (length rest / 8 - 1) = omega arith in
+    let first : get_or words 0 [] ≡ take 8 rest
+    = ap (λ (l : List (List ℕ)). get_or l 0 []) (ew ∙ ap (λ (l : List ℕ). first_chunks 8 (length l / 8) l) all ∙ ap (λ (k : ℕ). first_chunks 8 k rest) some) in
+    er
+    ∙ ap (from_be_bytes w64) first
+    ∙ bytes-number (bytes_take 8 (bytes_drop at (record { byte = λ i. (bytes i).fits }))) (length-take-le 8 rest (omega arith))
+    ∙ ap number (to_bits-take 8 rest (omega arith) ∙ ap (take 64) (to_bits-drop at s (omega arith)))
 
--- both halves of the word: none is shifted on
-pub eight-read : (s : List ℕ) (at a f : ℕ) → at + 8 ≤ length s → a ≡ field s (8 * at) 32 * 2 ^ 32 → f ≡ field s (8 * (at + 4)) 32 * 1
-    → bit_or a f ≡ field s (8 * at) 64
-eight-read s at a f h ea ef = halves-read 4 s at 0 a f h ea ef ∙ mul-one (field s (8 * at) 64)
-
--- halves of one byte
-pub two-read : (s : List ℕ) (at up a b : ℕ) → ((i : ℕ) → Fits w8 (get_or s i 0)) → at + 2 ≤ length s → up ≤ 48 → a ≡ get_or s at 0
-    → b ≡ get_or s (at + 1) 0 → bit_or (a * 2 ^ (up + 8) % 2 ^ 64) (b * 2 ^ up % 2 ^ 64) ≡ field s (8 * at) 16 * 2 ^ up
-two-read s at up a b bytes h small ea eb =
-    let all : Bytes s = record { byte = λ i. (bytes i).fits } in
-    halves-read 1 s at up _ _ h (byte-up all at (up + 8) a (omega arith) (omega arith) ea) (byte-up all (at + 1) up b (omega arith) (omega arith) eb)
-
--- `put_two` twice is `put_four`, and that twice `put_eight`
-pub halves-put : (k : ℕ) (s s₁ s₂ : List ℕ) (at x : ℕ) → at + 2 * k ≤ length s → to_bits s₁ ≡ put_to (to_bits s) (8 * at) (8 * k) (x / 2 ^ (8 * k))
-    → to_bits s₂ ≡ put_to (to_bits s₁) (8 * (at + k)) (8 * k) x → to_bits s₂ ≡ put_to (to_bits s) (8 * at) (8 * k + 8 * k) x
-halves-put k s s₁ s₂ at x h e₁ e₂ =
-    put-or (to_bits s) (to_bits s₁) (to_bits s₂) (8 * at) (8 * (at + k)) (8 * k) (8 * k) x (omega arith) (omega (arith, length-to_bits s)) e₁ e₂
-
-pub two-put : (s : List ℕ) (at x v w : ℕ) → at + 2 ≤ length s → v ≡ x / 256 % 256 → w ≡ x % 256
-    → to_bits (set (set s at v) (at + 1) w) ≡ put_to (to_bits s) (8 * at) 16 x
-two-put s at x v w h ev ew =
-    halves-put 1 s (set s at v) _ at x h (store_low s at v (x / 256) ev (omega arith))
-    (store_low (set s at v) (at + 1) w x ew (omega (arith, length-set s at v)))
+-- `to_be_bytes` of a number is copied to `&mut s[at..at + 8]`
+pub eight-put : (s b : List ℕ) (at n x : ℕ) → at + 8 ≤ length s → n ≡ 8 → b ≡ to_be_bytes w64 x
+    → to_bits (put_mid at n s b) ≡ put_to (to_bits s) (8 * at) 64 x
+eight-put s b at n x h en eb =
+    let e : 8 * (at + 8) ≡ 8 * at + 64 = omega arith in
+    to_bits-append (take at s) (b ++ drop n (drop at s))
+    ∙ ap₂ (λ (y z : List ℕ). y ++ z) (to_bits-take at s (omega arith))
+    (to_bits-append b (drop n (drop at s))
+    ∙ ap₂ (λ (y z : List ℕ). y ++ z) (ap to_bits eb ∙ number-bytes x)
+    (ap to_bits (ap (λ (k : ℕ). drop k (drop at s)) en ∙ drop-drop 8 at s)
+    ∙ to_bits-drop (at + 8) s h ∙ ap (λ (k : ℕ). drop k (to_bits s)) e))

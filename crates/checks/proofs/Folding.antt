@@ -4,17 +4,17 @@ use mathlib.Core.Path.{◌≡◌, refl, sym, ap, ap₂, ◌∙◌, subst}
 use mathlib.Core.Bool.{Bool, true}
 use mathlib.Core.List.{List, [], ◌∷◌, ◌++◌}
 use Prim.Native.Nat.{ℕ, zero, suc, ◌+◌, ◌-◌, ◌*◌, ◌/◌, ◌%◌, ◌^◌, ◌≤◌, ◌<◌}
-use native.Mathlib.Nat.{zero-mul, add-zero, zero-add, add_comm, mul_assoc, add_assoc, add-mul, mod-lt, mod-eq_of_lt, div-eq_of_lt, mul-one, one-mul, lt_of_lt_of_le, lt_of_le_of_lt}
+use native.Mathlib.Nat.{zero-mul, add-zero, zero-add, add_comm, mul_assoc, add_assoc, add-mul, mod-lt, mod-eq_of_lt, div-eq_of_lt, mul-one, one-mul}
 use native.Mathlib.Omega.{arith}
 use lib.Dec.{T, eqb, eqb→eq}
 use lib.Bits.{bit_xor, xor_comm, xor_zero_r, xor_zero_l, xor_lt, xor_shr, xor_mod, xor_shifted, xor_block}
-use lib.Pow.{pow_pos, pow_mono, shl_lt, shr_lt, shr_le, shl-shr, shr-shr, split, high}
+use lib.Pow.{pow_pos, shl_lt, shr_lt, shl-shr, shr-shr, split, high}
 use Rattle.bits.specs.Bits.{bits_of}
 use Rattle.bits.specs.Laws.{bits_of-add, bits_of-low, more_lt}
 use Rattle.checks.specs.Crc.{shift, crc_bits}
 use Rattle.checks.specs.Steps.{shifts}
-use Rattle.checks.specs.Folds.{after, ups, downs, spread}
-use Rattle.checks.specs.Xor.{xor-four, xor-shl}
+use Rattle.checks.specs.Folds.{after, ups, xors, spread, folded, sums, Near, Rule}
+use Rattle.checks.specs.Xor.{xor_assoc, xor-four, xor-shl}
 use Rattle.checks.specs.Register.{shift-lt, shifts-lt, shift-xor, shifts-xor, shifts-add, shifts-zero, bits-append, bits-shifts}
 use Rattle.checks.proofs.Table.{both, both_left, both_right}
 
@@ -46,11 +46,6 @@ agree f g lf lg z (suc n) h x l =
 
 bit-lt : (w t : ℕ) → 1 ≤ w → t < 2 → t * 2 ^ (w - 1) < 2 ^ w
 bit-lt w t h l = subst (λ (x : ℕ). t * 2 ^ (w - 1) < 2 ^ x) {y = w} (omega arith) (shl_lt 1 (w - 1) l)
-
--- so many shifts, and each of others, all added
-abbrev pub sums : ℕ → ℕ → ℕ → List ℕ → ℕ → ℕ
-sums w p e [] r = shifts w p e r
-sums w p e (f ∷ es) r = bit_xor (shifts w p e r) (sums w p f es r)
 
 module _ (w p : ℕ) (h1 : 1 ≤ w) (hp : p < 2 ^ w) where
   in-lt : (r x n : ℕ) → r < 2 ^ w → bit_xor r (x / 2 ^ n % 2 * 2 ^ (w - 1)) < 2 ^ w
@@ -141,21 +136,21 @@ module _ (w p : ℕ) (h1 : 1 ≤ w) (hp : p < 2 ^ w) where
   shifts-past : (a b r : ℕ) → shifts w p a (shifts w p b r) ≡ shifts w p b (shifts w p a r)
   shifts-past a b r = sym (shifts-add w p b a r) ∙ ap (λ (n : ℕ). shifts w p n r) (add_comm b a) ∙ shifts-add w p a b r
 
-  sums_lt : (e : ℕ) (es : List ℕ) (r : ℕ) → r < 2 ^ w → sums w p e es r < 2 ^ w
-  sums_lt e [] r l = shifts-lt w p h1 hp e r l
-  sums_lt e (f ∷ es) r l = xor_lt w (shifts w p e r) (sums w p f es r) (shifts-lt w p h1 hp e r l) (sums_lt f es r l)
+  sums_lt : (es : List ℕ) (r : ℕ) → r < 2 ^ w → sums w p es r < 2 ^ w
+  sums_lt [] r l = pow_pos w
+  sums_lt (e ∷ es) r l = xor_lt w (shifts w p e r) (sums w p es r) (shifts-lt w p h1 hp e r l) (sums_lt es r l)
 
-  sums-past : (e : ℕ) (es : List ℕ) (k r : ℕ) → r < 2 ^ w → sums w p e es (shifts w p k r) ≡ shifts w p k (sums w p e es r)
-  sums-past e [] k r l = shifts-past e k r
-  sums-past e (f ∷ es) k r l =
-      ap₂ bit_xor (shifts-past e k r) (sums-past f es k r l)
-      ∙ sym (shifts-xor w p h1 hp k (shifts w p e r) (sums w p f es r) (shifts-lt w p h1 hp e r l) (sums_lt f es r l))
+  sums-past : (es : List ℕ) (k r : ℕ) → r < 2 ^ w → sums w p es (shifts w p k r) ≡ shifts w p k (sums w p es r)
+  sums-past [] k r l = sym (shifts-zero w p k h1)
+  sums-past (e ∷ es) k r l =
+      ap₂ bit_xor (shifts-past e k r) (sums-past es k r l)
+      ∙ sym (shifts-xor w p h1 hp k (shifts w p e r) (sums w p es r) (shifts-lt w p h1 hp e r l) (sums_lt es r l))
 
-  sums-xor : (e : ℕ) (es : List ℕ) (r s : ℕ) → r < 2 ^ w → s < 2 ^ w → sums w p e es (bit_xor r s) ≡ bit_xor (sums w p e es r) (sums w p e es s)
-  sums-xor e [] r s hr hs = shifts-xor w p h1 hp e r s hr hs
-  sums-xor e (f ∷ es) r s hr hs =
-      ap₂ bit_xor (shifts-xor w p h1 hp e r s hr hs) (sums-xor f es r s hr hs)
-      ∙ xor-four (shifts w p e r) (shifts w p e s) (sums w p f es r) (sums w p f es s)
+  sums-xor : (es : List ℕ) (r s : ℕ) → r < 2 ^ w → s < 2 ^ w → sums w p es (bit_xor r s) ≡ bit_xor (sums w p es r) (sums w p es s)
+  sums-xor [] r s hr hs = refl
+  sums-xor (e ∷ es) r s hr hs =
+      ap₂ bit_xor (shifts-xor w p h1 hp e r s hr hs) (sums-xor es r s hr hs)
+      ∙ xor-four (shifts w p e r) (shifts w p e s) (sums w p es r) (sums w p es s)
 
   -- a power of two is a bit moved up
   after-power : (k : ℕ) → k < 64 → after w p 64 (2 ^ k) ≡ shifts w p k (after w p 1 1)
@@ -168,33 +163,28 @@ module _ (w p : ℕ) (h1 : 1 ≤ w) (hp : p < 2 ^ w) where
   unfolding after
   after_none n = going-zeros n 0 ∙ shifts-zero w p n h1
 
-  module _ (e : ℕ) (es : List ℕ) (rule : shifts w p 128 (after w p 1 1) ≡ sums w p e es (after w p 1 1)) where
+  module _ (es : List ℕ) (rule : shifts w p 128 (after w p 1 1) ≡ sums w p es (after w p 1 1)) where
     -- 128 shifts of what 64 bits leave are those sums: at each power of two, and so at each number
-    far : (x : ℕ) → x < 2 ^ 64 → shifts w p 128 (after w p 64 x) ≡ sums w p e es (after w p 64 x)
+    far : (x : ℕ) → x < 2 ^ 64 → shifts w p 128 (after w p 64 x) ≡ sums w p es (after w p 64 x)
     far =
-        agree (λ x. shifts w p 128 (after w p 64 x)) (λ x. sums w p e es (after w p 64 x))
+        agree (λ x. shifts w p 128 (after w p 64 x)) (λ x. sums w p es (after w p 64 x))
         (λ x y. ap (shifts w p 128) (after-xor 64 x y) ∙ shifts-xor w p h1 hp 128 (after w p 64 x) (after w p 64 y) (after-lt 64 x) (after-lt 64 y))
-        (λ x y. ap (sums w p e es) (after-xor 64 x y) ∙ sums-xor e es (after w p 64 x) (after w p 64 y) (after-lt 64 x) (after-lt 64 y))
+        (λ x y. ap (sums w p es) (after-xor 64 x y) ∙ sums-xor es (after w p 64 x) (after w p 64 y) (after-lt 64 x) (after-lt 64 y))
         (at_none ∙ sym at-sums)
         64
         (λ k l.
         ap (shifts w p 128) (after-power k l) ∙ shifts-past 128 k (after w p 1 1) ∙ ap (shifts w p k) rule
-        ∙ sym (sums-past e es k (after w p 1 1) (after-lt 1 1)) ∙ ap (sums w p e es) (sym (after-power k l)))
+        ∙ sym (sums-past es k (after w p 1 1) (after-lt 1 1)) ∙ ap (sums w p es) (sym (after-power k l)))
       where
         at_none : shifts w p 128 (after w p 64 0) ≡ 0
         at_none = ap (shifts w p 128) (after_none 64) ∙ shifts-zero w p 128 h1
 
-        none-sums : (e : ℕ) (es : List ℕ) → sums w p e es 0 ≡ 0
-        none-sums e [] = shifts-zero w p e h1
-        none-sums e (f ∷ es) = ap₂ bit_xor (shifts-zero w p e h1) (none-sums f es)
+        none-sums : (es : List ℕ) → sums w p es 0 ≡ 0
+        none-sums [] = refl
+        none-sums (e ∷ es) = ap₂ bit_xor (shifts-zero w p e h1) (none-sums es)
 
-        at-sums : sums w p e es (after w p 64 0) ≡ 0
-        at-sums = ap (sums w p e es) (after_none 64) ∙ none-sums e es
-
--- all counts are at most 64
-abbrev pub Near : ℕ → List ℕ → Type 0
-Near e [] = e ≤ 64
-Near e (f ∷ es) = (e ≤ 64) × Near f es
+        at-sums : sums w p es (after w p 64 0) ≡ 0
+        at-sums = ap (sums w p es) (after_none 64) ∙ none-sums es
 
 module _ (w p : ℕ) (h1 : 1 ≤ w) (hp : p < 2 ^ w) where
   one_up : (e x : ℕ) → e ≤ 64 → x < 2 ^ 64 → after w p 128 (x * 2 ^ e) ≡ shifts w p e (after w p 64 x)
@@ -202,114 +192,76 @@ module _ (w p : ℕ) (h1 : 1 ≤ w) (hp : p < 2 ^ w) where
       let s : 64 - e + (64 + e) ≡ 128 = omega arith in
       ap (λ (k : ℕ). after w p k (x * 2 ^ e)) (sym s) ∙ after-wide w p h1 hp (64 - e) (64 + e) (x * 2 ^ e) (shl_lt 64 e l) ∙ after-up w p h1 hp 64 e x
 
-  after-ups : (e : ℕ) (es : List ℕ) → Near e es → (x : ℕ) → x < 2 ^ 64 → after w p 128 (ups e es x) ≡ sums w p e es (after w p 64 x)
+  after-ups : (es : List ℕ) → Near es → (x : ℕ) → x < 2 ^ 64 → after w p 128 (ups es x) ≡ sums w p es (after w p 64 x)
   unfolding ups
-  after-ups e [] n x l = one_up e x n l
-  after-ups e (f ∷ es) n x l = after-xor w p h1 hp 128 (x * 2 ^ e) (ups f es x) ∙ ap₂ bit_xor (one_up e x n.0 l) (after-ups f es n.1 x l)
+  after-ups [] n x l = after_none w p h1 hp 128
+  after-ups (e ∷ es) n x l = after-xor w p h1 hp 128 (x * 2 ^ e) (ups es x) ∙ ap₂ bit_xor (one_up e x n.0 l) (after-ups es n.1 x l)
 
 -- ---- 64 bits more: the upper half moves down
 
--- a bit 128 places ahead leaves the register that these bits leave
-pub record Rule (w p e : ℕ) (es : List ℕ) : Type 0 where
-  pub some : 1 ≤ w
-  pub fits : p < 2 ^ w
-  pub near : Near e es
-  pub same : shifts w p 128 (after w p 1 1) ≡ sums w p e es (after w p 1 1)
+pub fold_is : {w p : ℕ} {es : List ℕ} → Rule w p es → (n c : ℕ) → n < 2 ^ 128 → c < 2 ^ 64
+    → crc_bits w p (after w p 128 n) (bits_of 64 c) ≡ after w p 128 (folded es n c)
+fold_is {w} {p} {es} rule n c hn hc =
+    let h1 : 1 ≤ w = rule.some in
+    let hp : p < 2 ^ w = rule.fits in
+    let h : ℕ = n / 2 ^ 64 in
+    let l : ℕ = n % 2 ^ 64 in
+    let hh : h < 2 ^ 64 = shr_lt 64 64 hn in
+    let m : ℕ = l * 2 ^ 64 + c in
+    let m-lt : m < 2 ^ 128 = more_lt 64 64 (mod-lt n (pow_pos 64)) hc in
+    let parts : n * 2 ^ 64 + c ≡ bit_xor (h * 2 ^ 128) m
+    = ap (λ (z : ℕ). z * 2 ^ 64 + c) (sym (split n 64))
+    ∙ ap (λ (z : ℕ). z + c) (add-mul (h * 2 ^ 64) l (2 ^ 64) ∙ ap (λ (z : ℕ). z + l * 2 ^ 64) (mul_assoc h (2 ^ 64) (2 ^ 64)))
+    ∙ add_assoc (h * 2 ^ 128) (l * 2 ^ 64) c
+    ∙ sym (xor_shifted h 128 m m-lt) in
+    after_more w p h1 hp 128 64 n c hc
+    ∙ ap (after w p 192) parts
+    ∙ after-xor w p h1 hp 192 (h * 2 ^ 128) m
+    ∙ ap₂ bit_xor (after-up w p h1 hp 64 128 h ∙ far w p h1 hp es rule.same h hh ∙ sym (after-ups w p h1 hp es rule.near h hh)) (after-wide w p h1 hp 64 128 m m-lt)
+    ∙ sym (after-xor w p h1 hp 128 (ups es h) m)
 
-module _ {w p e : ℕ} {es : List ℕ} (rule : Rule w p e es) where
-  pub fold_is : (h l c : ℕ) → h < 2 ^ 64 → l < 2 ^ 64 → c < 2 ^ 64
-      → crc_bits w p (after w p 128 (h * 2 ^ 64 + l)) (bits_of 64 c) ≡ after w p 128 (bit_xor (ups e es h) (l * 2 ^ 64 + c))
-  fold_is h l c hh hl hc =
-      let h1 : 1 ≤ w = rule.some in
-      let hp : p < 2 ^ w = rule.fits in
-      let m : ℕ = l * 2 ^ 64 + c in
-      let m-lt : m < 2 ^ 128 = more_lt 64 64 hl hc in
-      let parts : (h * 2 ^ 64 + l) * 2 ^ 64 + c ≡ bit_xor (h * 2 ^ 128) m
-      = ap (λ (z : ℕ). z + c) (add-mul (h * 2 ^ 64) l (2 ^ 64) ∙ ap (λ (z : ℕ). z + l * 2 ^ 64) (mul_assoc h (2 ^ 64) (2 ^ 64)))
-      ∙ add_assoc (h * 2 ^ 128) (l * 2 ^ 64) c
-      ∙ sym (xor_shifted h 128 m m-lt) in
-      after_more w p h1 hp 128 64 (h * 2 ^ 64 + l) c hc
-      ∙ ap (after w p 192) parts
-      ∙ after-xor w p h1 hp 192 (h * 2 ^ 128) m
-      ∙ ap₂ bit_xor (after-up w p h1 hp 64 128 h ∙ far w p h1 hp e es rule.same h hh ∙ sym (after-ups w p h1 hp e es rule.near h hh)) (after-wide w p h1 hp 64 128 m m-lt)
-      ∙ sym (after-xor w p h1 hp 128 (ups e es h) m)
-
--- ---- halves of moves up: what stays in 64 bits, and what goes over
-
-abbrev pub lows : ℕ → List ℕ → ℕ → ℕ
-lows e [] x = x * 2 ^ e % 2 ^ 64
-lows e (f ∷ es) x = bit_xor (x * 2 ^ e % 2 ^ 64) (lows f es x)
-
-abbrev pub overs : ℕ → List ℕ → ℕ → ℕ
-overs e [] x = x / 2 ^ (64 - e)
-overs e (f ∷ es) x = bit_xor (x / 2 ^ (64 - e)) (overs f es x)
-
-pub lows-lt : (e : ℕ) (es : List ℕ) (x : ℕ) → lows e es x < 2 ^ 64
-lows-lt e [] x = mod-lt (x * 2 ^ e) (pow_pos 64)
-lows-lt e (f ∷ es) x = xor_lt 64 (x * 2 ^ e % 2 ^ 64) (lows f es x) (mod-lt (x * 2 ^ e) (pow_pos 64)) (lows-lt f es x)
-
-pub overs-lt : (e : ℕ) (es : List ℕ) (x : ℕ) → x < 2 ^ 64 → overs e es x < 2 ^ 64
-overs-lt e [] x h = lt_of_le_of_lt (shr_le x (64 - e)) h
-overs-lt e (f ∷ es) x h = xor_lt 64 (x / 2 ^ (64 - e)) (overs f es x) (lt_of_le_of_lt (shr_le x (64 - e)) h) (overs-lt f es x h)
-
-low_half : (e : ℕ) (es : List ℕ) (x : ℕ) → lows e es x ≡ ups e es x % 2 ^ 64
-unfolding ups
-low_half e [] x = refl
-low_half e (f ∷ es) x = ap (bit_xor (x * 2 ^ e % 2 ^ 64)) (low_half f es x) ∙ sym (xor_mod (x * 2 ^ e) (ups f es x) 64)
-
-over-one : (e x : ℕ) → e ≤ 64 → x / 2 ^ (64 - e) ≡ x * 2 ^ e / 2 ^ 64
-over-one e x n =
+-- the halves of a number that is moved up: what goes over 64 bits, and what stays
+moved-halves : (e x : ℕ) → e ≤ 64 → x / 2 ^ (64 - e) * 2 ^ 64 + x * 2 ^ e % 2 ^ 64 ≡ x * 2 ^ e
+moved-halves e x n =
     let s : e + (64 - e) ≡ 64 = omega arith in
-    sym (ap (λ (k : ℕ). x * 2 ^ e / 2 ^ k) (sym s) ∙ sym (shr-shr (x * 2 ^ e) e (64 - e)) ∙ ap (λ (z : ℕ). z / 2 ^ (64 - e)) (shl-shr x e))
+    let over : x * 2 ^ e / 2 ^ 64 ≡ x / 2 ^ (64 - e)
+    = ap (λ (k : ℕ). x * 2 ^ e / 2 ^ k) (sym s) ∙ sym (shr-shr (x * 2 ^ e) e (64 - e)) ∙ ap (λ (z : ℕ). z / 2 ^ (64 - e)) (shl-shr x e) in
+    ap (λ (z : ℕ). z * 2 ^ 64 + x * 2 ^ e % 2 ^ 64) (sym over) ∙ split (x * 2 ^ e) 64
 
-over-half : (e : ℕ) (es : List ℕ) → Near e es → (x : ℕ) → overs e es x ≡ ups e es x / 2 ^ 64
+-- the moves as the code adds them, one by one, to each half
+pub moved : (es : List ℕ) → Near es → (h l c : ℕ) → c < 2 ^ 64
+    → xors (λ e. h / 2 ^ (64 - e)) es l * 2 ^ 64 + xors (λ e. h * 2 ^ e % 2 ^ 64) es c ≡ bit_xor (ups es h) (l * 2 ^ 64 + c)
 unfolding ups
-over-half e [] n x = over-one e x n
-over-half e (f ∷ es) n x = ap₂ bit_xor (over-one e x n.0) (over-half f es n.1 x) ∙ sym (xor_shr (x * 2 ^ e) (ups f es x) 64)
-
--- a number moved up, with bits in the place that it leaves
-pub over-laid : (a m f : ℕ) → m ≤ 64 → f < 2 ^ m → a / 2 ^ (64 - m) * 2 ^ 64 + bit_xor (a * 2 ^ m % 2 ^ 64) f ≡ a * 2 ^ m + f
-over-laid a m f h l =
-    let f_lt : f < 2 ^ 64 = lt_of_lt_of_le l (pow_mono {j = 64} h) in
-    let n : ℕ = bit_xor (a * 2 ^ m) f in
-    ap₂ (λ (x y : ℕ). x * 2 ^ 64 + y)
-    (over-one m a h ∙ sym (xor_zero_r (a * 2 ^ m / 2 ^ 64)) ∙ ap (bit_xor (a * 2 ^ m / 2 ^ 64)) (sym (div-eq_of_lt f_lt)) ∙ sym (xor_shr (a * 2 ^ m) f 64))
-    (ap (bit_xor (a * 2 ^ m % 2 ^ 64)) (sym (mod-eq_of_lt f_lt)) ∙ sym (xor_mod (a * 2 ^ m) f 64))
-    ∙ split n 64
-    ∙ xor_shifted a m f l
-
-pub halves : (e : ℕ) (es : List ℕ) → Near e es → (h l c : ℕ) → c < 2 ^ 64
-    → bit_xor l (overs e es h) * 2 ^ 64 + bit_xor c (lows e es h) ≡ bit_xor (ups e es h) (l * 2 ^ 64 + c)
-halves e es n h l c hc =
-    let u : ℕ = ups e es h in
-    ap₂ (λ (a b : ℕ). a * 2 ^ 64 + b)
-    (ap (bit_xor l) (over-half e es n h) ∙ xor_comm l (u / 2 ^ 64))
-    (ap (bit_xor c) (low_half e es h) ∙ xor_comm c (u % 2 ^ 64))
-    ∙ sym (xor_block 64 (u / 2 ^ 64) l (u % 2 ^ 64) c (mod-lt u (pow_pos 64)) hc)
-    ∙ ap (λ (z : ℕ). bit_xor z (l * 2 ^ 64 + c)) (split u 64)
+moved [] near h l c hc = sym (xor_zero_l (l * 2 ^ 64 + c))
+moved (e ∷ es) near h l c hc =
+    let x : ℕ = h / 2 ^ (64 - e) in
+    let y : ℕ = h * 2 ^ e % 2 ^ 64 in
+    let u : ℕ = ups es h in
+    let m : ℕ = l * 2 ^ 64 + c in
+    let y-lt : y < 2 ^ 64 = mod-lt (h * 2 ^ e) (pow_pos 64) in
+    moved es near.1 h (bit_xor l x) (bit_xor c y) (xor_lt 64 c y hc y-lt)
+    ∙ ap (bit_xor u) (sym (xor_block 64 l x c y hc y-lt) ∙ ap (bit_xor m) (moved-halves e h near.0) ∙ xor_comm m (h * 2 ^ e))
+    ∙ sym (xor_assoc u (h * 2 ^ e) m)
+    ∙ ap (λ (z : ℕ). bit_xor z m) (xor_comm u (h * 2 ^ e))
 
 -- ---- a register from 64 bits by moves down and moves up
 
-downs-xor : (e : ℕ) (es : List ℕ) → Linear (downs e es)
-downs-xor e [] x y = xor_shr x y e
-downs-xor e (f ∷ es) x y = ap₂ bit_xor (xor_shr x y e) (downs-xor f es x y) ∙ xor-four (x / 2 ^ e) (y / 2 ^ e) (downs f es x) (downs f es y)
+xors-xor : (f g h : ℕ → ℕ) → ((e : ℕ) → h e ≡ bit_xor (f e) (g e)) → (es : List ℕ) (x y : ℕ) → xors h es (bit_xor x y) ≡ bit_xor (xors f es x) (xors g es y)
+xors-xor f g h r [] x y = refl
+xors-xor f g h r (e ∷ es) x y =
+    ap (xors h es) (ap (bit_xor (bit_xor x y)) (r e) ∙ xor-four x y (f e) (g e)) ∙ xors-xor f g h r es (bit_xor x (f e)) (bit_xor y (g e))
 
-lows-xor : (e : ℕ) (es : List ℕ) → Linear (lows e es)
-lows-xor e [] x y = ap (λ (z : ℕ). z % 2 ^ 64) (sym (xor-shl e x y)) ∙ xor_mod (x * 2 ^ e) (y * 2 ^ e) 64
-lows-xor e (f ∷ es) x y =
-    ap₂ bit_xor (ap (λ (z : ℕ). z % 2 ^ 64) (sym (xor-shl e x y)) ∙ xor_mod (x * 2 ^ e) (y * 2 ^ e) 64) (lows-xor f es x y)
-    ∙ xor-four (x * 2 ^ e % 2 ^ 64) (y * 2 ^ e % 2 ^ 64) (lows f es x) (lows f es y)
+-- moves down by the counts, by each of these times them
+abbrev pub through : List ℕ → List ℕ → ℕ → ℕ
+through [] es x = x
+through (t ∷ ts) es x = through ts es (spread t es x)
 
--- moves down, one group after the other
-abbrev pub through : List (ℕ × List ℕ) → ℕ → ℕ
-through [] x = x
-through (st ∷ sts) x = through sts (spread st.0 st.1 x)
-
-through-xor : (sts : List (ℕ × List ℕ)) → Linear (through sts)
-through-xor [] x y = refl
-through-xor (st ∷ sts) x y =
-    ap (through sts) (ap (bit_xor (bit_xor x y)) (downs-xor st.0 st.1 x y) ∙ xor-four x y (downs st.0 st.1 x) (downs st.0 st.1 y))
-    ∙ through-xor sts (spread st.0 st.1 x) (spread st.0 st.1 y)
+through-xor : (ts es : List ℕ) → Linear (through ts es)
+through-xor [] es x y = refl
+through-xor (t ∷ ts) es x y =
+    ap (through ts es)
+    (xors-xor (λ e. x / 2 ^ (e * t)) (λ e. y / 2 ^ (e * t)) (λ e. bit_xor x y / 2 ^ (e * t)) (λ e. xor_shr x y (e * t)) es x y)
+    ∙ through-xor ts es (spread t es x) (spread t es y)
 
 -- at each power of two from k on f is r, shifted once more each time
 abbrev pub powers : (ℕ → ℕ) → ℕ → ℕ → ℕ → ℕ → ℕ → Bool
@@ -325,23 +277,25 @@ powers-are f w p (suc n) k r t (suc j) l =
     ap (λ (m : ℕ). f (2 ^ m)) e ∙ powers-are f w p n (suc k) (shift w p r) (both_right (eqb (f (2 ^ k)) r) (powers f w p n (suc k) (shift w p r)) t) j (omega arith)
 
 -- the quotient, and what the polynomial times it leaves
-abbrev pub product : ℕ → ℕ → List ℕ → ℕ → ℕ
-product w e es q = bit_xor q (lows e es q) % 2 ^ w
+abbrev pub product : ℕ → List ℕ → ℕ → ℕ
+product w es q = xors (λ e. q * 2 ^ e % 2 ^ 64) es q % 2 ^ w
 
-product-xor : (w e : ℕ) (es : List ℕ) → Linear (product w e es)
-product-xor w e es x y =
-    ap (λ (z : ℕ). z % 2 ^ w) (ap (bit_xor (bit_xor x y)) (lows-xor e es x y) ∙ xor-four x y (lows e es x) (lows e es y))
-    ∙ xor_mod (bit_xor x (lows e es x)) (bit_xor y (lows e es y)) w
+product-xor : (w : ℕ) (es : List ℕ) → Linear (product w es)
+product-xor w es x y =
+    let low : (z e : ℕ) → ℕ = λ z e. z * 2 ^ e % 2 ^ 64 in
+    ap (λ (z : ℕ). z % 2 ^ w)
+    (xors-xor (low x) (low y) (low (bit_xor x y)) (λ e. ap (λ (z : ℕ). z % 2 ^ 64) (sym (xor-shl e x y)) ∙ xor_mod (x * 2 ^ e) (y * 2 ^ e) 64) es x y)
+    ∙ xor_mod (xors (low x) es x) (xors (low y) es y) w
 
-abbrev pub circuit : ℕ → List (ℕ × List ℕ) → ℕ → List ℕ → ℕ → ℕ
-circuit w sts e es x = product w e es (through sts x)
+abbrev pub circuit : ℕ → List ℕ → List ℕ → List ℕ → ℕ → ℕ
+circuit w ts es fs x = product w fs (through ts es x)
 
-pub circuit-is : (w p : ℕ) → 1 ≤ w → p < 2 ^ w → (sts : List (ℕ × List ℕ)) (e : ℕ) (es : List ℕ) → circuit w sts e es 0 ≡ 0
-    → T (powers (circuit w sts e es) w p 64 0 (after w p 1 1)) → (x : ℕ) → x < 2 ^ 64 → circuit w sts e es x ≡ after w p 64 x
-circuit-is w p h1 hp sts e es z t =
-    agree (circuit w sts e es) (after w p 64)
-    (λ x y. ap (product w e es) (through-xor sts x y) ∙ product-xor w e es (through sts x) (through sts y))
+pub circuit-is : (w p : ℕ) → 1 ≤ w → p < 2 ^ w → (ts es fs : List ℕ) → circuit w ts es fs 0 ≡ 0 → T (powers (circuit w ts es fs) w p 64 0 (after w p 1 1))
+    → (x : ℕ) → x < 2 ^ 64 → circuit w ts es fs x ≡ after w p 64 x
+circuit-is w p h1 hp ts es fs z t =
+    agree (circuit w ts es fs) (after w p 64)
+    (λ x y. ap (product w fs) (through-xor ts es x y) ∙ product-xor w fs (through ts es x) (through ts es y))
     (after-xor w p h1 hp 64)
     (z ∙ sym (after_none w p h1 hp 64))
     64
-    (λ k l. ap (λ (m : ℕ). circuit w sts e es (2 ^ m)) (sym (zero-add k)) ∙ powers-are (circuit w sts e es) w p 64 0 (after w p 1 1) t k l ∙ sym (after-power w p h1 hp k l))
+    (λ k l. ap (λ (m : ℕ). circuit w ts es fs (2 ^ m)) (sym (zero-add k)) ∙ powers-are (circuit w ts es fs) w p 64 0 (after w p 1 1) t k l ∙ sym (after-power w p h1 hp k l))

@@ -1,17 +1,17 @@
--- The rules of TF006's table and of TF018's moves, each from one test that antt computes.
+-- The rules of TF006's table and of TF018's quotients, each from one test that antt computes.
 use mathlib.Core.Path.{◌≡◌, refl, ap, ◌∙◌}
-use mathlib.Core.List.{[], ◌∷◌}
+use mathlib.Core.List.{List, [], ◌∷◌}
 use mathlib.Core.Bool.{Bool}
-use Prim.Native.Nat.{ℕ, zero, suc, ◌*◌, ◌/◌, ◌%◌, ◌^◌, ◌<◌}
+use Prim.Native.Nat.{ℕ, zero, suc, ◌*◌, ◌/◌, ◌%◌, ◌^◌, ◌≤◌, ◌<◌}
 use native.Mathlib.Omega.{arith}
 use lib.Bits.{bit_xor}
 use lib.Dec.{T, eqb, eqb→eq}
 use Rattle.bits.specs.Bits.{bits_of, number}
 use Rattle.checks.specs.Crc.{shift, crc_bits, reversed4}
-use Rattle.checks.specs.Steps.{shifts, half_first, frame_half}
+use Rattle.checks.specs.Steps.{half_first, frame_half}
 use Rattle.checks.specs.Folds.{after, spread}
 use Rattle.checks.proofs.Table.{below, at-below}
-use Rattle.checks.proofs.Folding.{Rule, product, circuit-is}
+use Rattle.checks.proofs.Folding.{powers, product, circuit, circuit-is}
 
 -- ---- TF006
 
@@ -72,86 +72,40 @@ pub table-1 : IsTable 0x5BA48679C23D1FE0 1
 unfolding frame_half half_first reversed4 crc_bits shift bits_of number
 table-1 = is-table 0x5BA48679C23D1FE0 1 tt
 
--- ---- TF018: where a bit 128 places ahead may be moved, and the register after 64 bits by moves
+-- ---- TF018: the register after 64 bits by moves
 
-pub rule-8 : Rule 8 0x07 1 []
-unfolding after crc_bits bits_of shift shifts
-rule-8 = record { some = omega arith; fits = omega arith; near = omega arith; same = refl }
+-- the steps of a quotient, as the code takes them, and the product
+abbrev pub Four : ℕ → ℕ → List ℕ → List ℕ → Type 0
+Four w p es fs = (v a b c d : ℕ) → v < 2 ^ 64 → a ≡ spread 1 es v → b ≡ spread 2 es a → c ≡ spread 4 es b → d ≡ spread 8 es c → product w fs d ≡ after w p 64 v
 
--- the start leaves 0
-pub start-8 : after 8 0x07 128 0 ≡ 0
+abbrev pub Six : ℕ → ℕ → List ℕ → List ℕ → Type 0
+Six w p es fs = (v a b c d e f : ℕ) → v < 2 ^ 64 → a ≡ spread 1 es v → b ≡ spread 2 es a → c ≡ spread 4 es b → d ≡ spread 8 es c → e ≡ spread 16 es d
+    → f ≡ spread 32 es e → product w fs f ≡ after w p 64 v
+
+four : (w p : ℕ) (es fs : List ℕ) → 1 ≤ w → p < 2 ^ w → circuit w (1 ∷ 2 ∷ 4 ∷ 8 ∷ []) es fs 0 ≡ 0
+    → T (powers (circuit w (1 ∷ 2 ∷ 4 ∷ 8 ∷ []) es fs) w p 64 0 (after w p 1 1)) → Four w p es fs
+four w p es fs h1 hp z t v a b c d h ea eb ec ed =
+    ap (product w fs) (ed ∙ ap (spread 8 es) (ec ∙ ap (spread 4 es) (eb ∙ ap (spread 2 es) ea)))
+    ∙ circuit-is w p h1 hp (1 ∷ 2 ∷ 4 ∷ 8 ∷ []) es fs z t v h
+
+six : (w p : ℕ) (es fs : List ℕ) → 1 ≤ w → p < 2 ^ w → circuit w (1 ∷ 2 ∷ 4 ∷ 8 ∷ 16 ∷ 32 ∷ []) es fs 0 ≡ 0
+    → T (powers (circuit w (1 ∷ 2 ∷ 4 ∷ 8 ∷ 16 ∷ 32 ∷ []) es fs) w p 64 0 (after w p 1 1)) → Six w p es fs
+six w p es fs h1 hp z t v a b c d e f h ea eb ec ed ee ef =
+    ap (product w fs) (ef ∙ ap (spread 32 es) (ee ∙ ap (spread 16 es) (ed ∙ ap (spread 8 es) (ec ∙ ap (spread 4 es) (eb ∙ ap (spread 2 es) ea)))))
+    ∙ circuit-is w p h1 hp (1 ∷ 2 ∷ 4 ∷ 8 ∷ 16 ∷ 32 ∷ []) es fs z t v h
+
+pub circuit-8 : Four 8 0x07 (6 ∷ 7 ∷ 8 ∷ []) (1 ∷ 2 ∷ [])
 unfolding after crc_bits bits_of shift
-start-8 = refl
+circuit-8 = four 8 0x07 (6 ∷ 7 ∷ 8 ∷ []) (1 ∷ 2 ∷ []) (omega arith) (omega arith) refl tt
 
-pub circuit-8 : (v a b c d : ℕ) → v < 2 ^ 64
-    → a ≡ spread 6 (7 ∷ 8 ∷ []) v
-    → b ≡ spread 12 (14 ∷ 16 ∷ []) a
-    → c ≡ spread 24 (28 ∷ 32 ∷ []) b
-    → d ≡ spread 48 (56 ∷ []) c
-    → product 8 1 (2 ∷ []) d ≡ after 8 0x07 64 v
+pub circuit-16 : Four 16 0x1021 (4 ∷ 11 ∷ 16 ∷ []) (5 ∷ 12 ∷ [])
 unfolding after crc_bits bits_of shift
-circuit-8 v a b c d h ea eb ec ed =
-    ap (product 8 1 (2 ∷ [])) (ed ∙ ap (spread 48 (56 ∷ [])) (ec ∙ ap (spread 24 (28 ∷ 32 ∷ [])) (eb ∙ ap (spread 12 (14 ∷ 16 ∷ [])) (ea))))
-    ∙ circuit-is 8 0x07 (omega arith) (omega arith) ((6, (7 ∷ 8 ∷ [])) ∷ (12, (14 ∷ 16 ∷ [])) ∷ (24, (28 ∷ 32 ∷ [])) ∷ (48, (56 ∷ [])) ∷ []) 1 (2 ∷ []) refl tt v h
+circuit-16 = four 16 0x1021 (4 ∷ 11 ∷ 16 ∷ []) (5 ∷ 12 ∷ []) (omega arith) (omega arith) refl tt
 
-pub rule-16 : Rule 16 0x1021 25 (26 ∷ 52 ∷ [])
-unfolding after crc_bits bits_of shift shifts
-rule-16 = record { some = omega arith; fits = omega arith; near = (omega arith, (omega arith, omega arith)); same = refl }
-
--- the start leaves 0
-pub start-16 : after 16 0x1021 128 0 ≡ 0
+pub circuit-24 : Six 24 0x864CFB (1 ∷ 6 ∷ 7 ∷ 10 ∷ 13 ∷ 14 ∷ 17 ∷ 18 ∷ 19 ∷ 20 ∷ 21 ∷ 23 ∷ 24 ∷ []) (1 ∷ 3 ∷ 4 ∷ 5 ∷ 6 ∷ 7 ∷ 10 ∷ 11 ∷ 14 ∷ 17 ∷ 18 ∷ 23 ∷ [])
 unfolding after crc_bits bits_of shift
-start-16 = refl
+circuit-24 = six 24 0x864CFB (1 ∷ 6 ∷ 7 ∷ 10 ∷ 13 ∷ 14 ∷ 17 ∷ 18 ∷ 19 ∷ 20 ∷ 21 ∷ 23 ∷ 24 ∷ []) (1 ∷ 3 ∷ 4 ∷ 5 ∷ 6 ∷ 7 ∷ 10 ∷ 11 ∷ 14 ∷ 17 ∷ 18 ∷ 23 ∷ []) (omega arith) (omega arith) refl tt
 
-pub circuit-16 : (v a b c d : ℕ) → v < 2 ^ 64
-    → a ≡ spread 4 (11 ∷ 16 ∷ []) v
-    → b ≡ spread 8 (22 ∷ 32 ∷ []) a
-    → c ≡ spread 16 (44 ∷ []) b
-    → d ≡ spread 32 [] c
-    → product 16 5 (12 ∷ []) d ≡ after 16 0x1021 64 v
+pub circuit-32 : Four 32 0x04C11DB7 (6 ∷ 9 ∷ 10 ∷ 16 ∷ 20 ∷ 21 ∷ 22 ∷ 24 ∷ 25 ∷ 27 ∷ 28 ∷ 30 ∷ 31 ∷ 32 ∷ []) (1 ∷ 2 ∷ 4 ∷ 5 ∷ 7 ∷ 8 ∷ 10 ∷ 11 ∷ 12 ∷ 16 ∷ 22 ∷ 23 ∷ 26 ∷ [])
 unfolding after crc_bits bits_of shift
-circuit-16 v a b c d h ea eb ec ed =
-    ap (product 16 5 (12 ∷ [])) (ed ∙ ap (spread 32 []) (ec ∙ ap (spread 16 (44 ∷ [])) (eb ∙ ap (spread 8 (22 ∷ 32 ∷ [])) (ea))))
-    ∙ circuit-is 16 0x1021 (omega arith) (omega arith) ((4, (11 ∷ 16 ∷ [])) ∷ (8, (22 ∷ 32 ∷ [])) ∷ (16, (44 ∷ [])) ∷ (32, []) ∷ []) 5 (12 ∷ []) refl tt v h
-
-pub rule-24 : Rule 24 0x864CFB 32 (43 ∷ 49 ∷ 57 ∷ 59 ∷ [])
-unfolding after crc_bits bits_of shift shifts
-rule-24 = record { some = omega arith; fits = omega arith; near = (omega arith, (omega arith, (omega arith, (omega arith, omega arith)))); same = refl }
-
--- the start leaves 0
-pub start-24 : after 24 0x864CFB 128 0 ≡ 0
-unfolding after crc_bits bits_of shift
-start-24 = refl
-
-pub circuit-24 : (v a b c d e f : ℕ) → v < 2 ^ 64
-    → a ≡ spread 1 (6 ∷ 7 ∷ 10 ∷ 13 ∷ 14 ∷ 17 ∷ 18 ∷ 19 ∷ 20 ∷ 21 ∷ 23 ∷ 24 ∷ []) v
-    → b ≡ spread 2 (12 ∷ 14 ∷ 20 ∷ 26 ∷ 28 ∷ 34 ∷ 36 ∷ 38 ∷ 40 ∷ 42 ∷ 46 ∷ 48 ∷ []) a
-    → c ≡ spread 4 (24 ∷ 28 ∷ 40 ∷ 52 ∷ 56 ∷ []) b
-    → d ≡ spread 8 (48 ∷ 56 ∷ []) c
-    → e ≡ spread 16 [] d
-    → f ≡ spread 32 [] e
-    → product 24 1 (3 ∷ 4 ∷ 5 ∷ 6 ∷ 7 ∷ 10 ∷ 11 ∷ 14 ∷ 17 ∷ 18 ∷ 23 ∷ []) f ≡ after 24 0x864CFB 64 v
-unfolding after crc_bits bits_of shift
-circuit-24 v a b c d e f h ea eb ec ed ee ef =
-    ap (product 24 1 (3 ∷ 4 ∷ 5 ∷ 6 ∷ 7 ∷ 10 ∷ 11 ∷ 14 ∷ 17 ∷ 18 ∷ 23 ∷ [])) (ef ∙ ap (spread 32 []) (ee ∙ ap (spread 16 []) (ed ∙ ap (spread 8 (48 ∷ 56 ∷ [])) (ec ∙ ap (spread 4 (24 ∷ 28 ∷ 40 ∷ 52 ∷ 56 ∷ [])) (eb ∙ ap (spread 2 (12 ∷ 14 ∷ 20 ∷ 26 ∷ 28 ∷ 34 ∷ 36 ∷ 38 ∷ 40 ∷ 42 ∷ 46 ∷ 48 ∷ [])) (ea))))))
-    ∙ circuit-is 24 0x864CFB (omega arith) (omega arith) ((1, (6 ∷ 7 ∷ 10 ∷ 13 ∷ 14 ∷ 17 ∷ 18 ∷ 19 ∷ 20 ∷ 21 ∷ 23 ∷ 24 ∷ [])) ∷ (2, (12 ∷ 14 ∷ 20 ∷ 26 ∷ 28 ∷ 34 ∷ 36 ∷ 38 ∷ 40 ∷ 42 ∷ 46 ∷ 48 ∷ [])) ∷ (4, (24 ∷ 28 ∷ 40 ∷ 52 ∷ 56 ∷ [])) ∷ (8, (48 ∷ 56 ∷ [])) ∷ (16, []) ∷ (32, []) ∷ []) 1 (3 ∷ 4 ∷ 5 ∷ 6 ∷ 7 ∷ 10 ∷ 11 ∷ 14 ∷ 17 ∷ 18 ∷ 23 ∷ []) refl tt v h
-
-pub rule-32 : Rule 32 0x04C11DB7 1 (9 ∷ 11 ∷ 30 ∷ 35 ∷ 39 ∷ 46 ∷ 63 ∷ [])
-unfolding after crc_bits bits_of shift shifts
-rule-32 = record { some = omega arith; fits = omega arith; near = (omega arith, (omega arith, (omega arith, (omega arith, (omega arith, (omega arith, (omega arith, omega arith))))))); same = refl }
-
--- a start that leaves all ones
-pub start-32 : after 32 0x04C11DB7 128 0x46AF6449 ≡ 0xFFFFFFFF
-unfolding after crc_bits bits_of shift
-start-32 = refl
-
-pub circuit-32 : (v a b c d : ℕ) → v < 2 ^ 64
-    → a ≡ spread 6 (9 ∷ 10 ∷ 16 ∷ 20 ∷ 21 ∷ 22 ∷ 24 ∷ 25 ∷ 27 ∷ 28 ∷ 30 ∷ 31 ∷ 32 ∷ []) v
-    → b ≡ spread 12 (18 ∷ 20 ∷ 32 ∷ 40 ∷ 42 ∷ 44 ∷ 48 ∷ 50 ∷ 54 ∷ 56 ∷ 60 ∷ 62 ∷ []) a
-    → c ≡ spread 24 (36 ∷ 40 ∷ []) b
-    → d ≡ spread 48 [] c
-    → product 32 1 (2 ∷ 4 ∷ 5 ∷ 7 ∷ 8 ∷ 10 ∷ 11 ∷ 12 ∷ 16 ∷ 22 ∷ 23 ∷ 26 ∷ []) d ≡ after 32 0x04C11DB7 64 v
-unfolding after crc_bits bits_of shift
-circuit-32 v a b c d h ea eb ec ed =
-    ap (product 32 1 (2 ∷ 4 ∷ 5 ∷ 7 ∷ 8 ∷ 10 ∷ 11 ∷ 12 ∷ 16 ∷ 22 ∷ 23 ∷ 26 ∷ [])) (ed ∙ ap (spread 48 []) (ec ∙ ap (spread 24 (36 ∷ 40 ∷ [])) (eb ∙ ap (spread 12 (18 ∷ 20 ∷ 32 ∷ 40 ∷ 42 ∷ 44 ∷ 48 ∷ 50 ∷ 54 ∷ 56 ∷ 60 ∷ 62 ∷ [])) (ea))))
-    ∙ circuit-is 32 0x04C11DB7 (omega arith) (omega arith) ((6, (9 ∷ 10 ∷ 16 ∷ 20 ∷ 21 ∷ 22 ∷ 24 ∷ 25 ∷ 27 ∷ 28 ∷ 30 ∷ 31 ∷ 32 ∷ [])) ∷ (12, (18 ∷ 20 ∷ 32 ∷ 40 ∷ 42 ∷ 44 ∷ 48 ∷ 50 ∷ 54 ∷ 56 ∷ 60 ∷ 62 ∷ [])) ∷ (24, (36 ∷ 40 ∷ [])) ∷ (48, []) ∷ []) 1 (2 ∷ 4 ∷ 5 ∷ 7 ∷ 8 ∷ 10 ∷ 11 ∷ 12 ∷ 16 ∷ 22 ∷ 23 ∷ 26 ∷ []) refl tt v h
+circuit-32 = four 32 0x04C11DB7 (6 ∷ 9 ∷ 10 ∷ 16 ∷ 20 ∷ 21 ∷ 22 ∷ 24 ∷ 25 ∷ 27 ∷ 28 ∷ 30 ∷ 31 ∷ 32 ∷ []) (1 ∷ 2 ∷ 4 ∷ 5 ∷ 7 ∷ 8 ∷ 10 ∷ 11 ∷ 12 ∷ 16 ∷ 22 ∷ 23 ∷ 26 ∷ []) (omega arith) (omega arith) refl tt

@@ -1,25 +1,28 @@
 -- The steps as the code has them: TF006 by halves of bytes and a table, TF018's words of eight bytes, and its four cases.
 use mathlib.Core.Path.{◌≡◌, refl, sym, ap, ap₂, ◌∙◌, subst}
-use mathlib.Core.List.{List, ◌++◌, reverse, reverse-append}
+use mathlib.Core.List.{List, [], ◌++◌, reverse, reverse-append}
 use Prim.Native.Nat.{ℕ, zero, suc, ◌+◌, ◌-◌, ◌*◌, ◌/◌, ◌%◌, ◌^◌, ◌≤◌, ◌<◌}
-use native.Mathlib.Nat.{add_comm, mod-lt, lt_of_le_of_lt}
+use native.Mathlib.Nat.{add_comm, mod-lt, lt_of_lt_of_le, div-eq_of_lt}
 use native.Mathlib.Omega.{arith}
-use lib.Bits.{bit_xor, xor_lt, xor_zero_l}
+use lib.Bits.{bit_xor, xor_lt, xor_zero_l, xor_shifted}
 use lib.Dec.{eqb, eqb→eq}
-use lib.ListN.{length, get_or, drop}
-use lib.Pow.{pow_pos, shl_exact, shr_le}
-use mir.Syntax.{w8}
+use lib.ListN.{length, length-drop, get_or, drop, drop_of_length-le}
+use lib.Pow.{pow_pos, pow_mono, shl_exact, split}
+use mir.Syntax.{w8, w64}
 use mir.Val.{Fits}
+use Rattle.std.specs.Option.{SomeIff, unwrap_or}
+use Rattle.std.proofs.Common.{Option, Some, None}
+use Rattle.std.specs.Int.{from_be_bytes}
+use Rattle.std.specs.Simd.{first_chunks}
 use Rattle.bits.specs.Bits.{bits_of, to_bits, number, field, got}
-use Rattle.bits.specs.Laws.{bits_of-add, bits_of-mod, field_lt, got-there, more_lt}
+use Rattle.bits.specs.Laws.{bits_of-add, bits_of-mod, field_lt, got-there, bytes_drop}
 use Rattle.checks.specs.Crc.{crc_bits, crc, low_first, reversed4, frame_crc, message_crc}
-use Rattle.checks.specs.Steps.{word_at, half_first, frame_half, frame_byte}
-use Rattle.checks.specs.declared.Pair.{Pair}
-use Rattle.checks.specs.Folds.{after, ups, Whole, number_of, folded}
+use Rattle.checks.specs.Steps.{half_first, frame_half, frame_byte}
+use Rattle.checks.specs.Folds.{after, ups, xors, word_bits, folded, Rule}
 use Rattle.checks.specs.Register.{bits-append, bits-lt}
 use Rattle.checks.specs.Laws.{reversed4-lt}
-use Rattle.checks.proofs.Engine.{eight-next, first-few, crc-done}
-use Rattle.checks.proofs.Folding.{Rule, after-lt, after_two, after_more, after-wide, fold_is, lows, overs, lows-lt, overs-lt, halves, over-laid}
+use Rattle.checks.proofs.Engine.{word-next, words-joined, first-few}
+use Rattle.checks.proofs.Folding.{after-lt, after_two, after_more, after-wide, fold_is, moved}
 use Rattle.checks.proofs.Table.{at-below}
 use Rattle.checks.proofs.Rules.{zeros, half-enters, half-xor, half-none, table-6, table-5, table-4, table-3, table-1}
 
@@ -163,88 +166,68 @@ frame_is a b c v w x y z ha hb hc ev ew ex ey ez =
 -- ---- TF018
 
 -- no bytes before the words
-pub head-none : (start k : ℕ) (s : List ℕ) → k ≡ 0 → 0 * 2 ^ 64 + start ≡ start * 2 ^ (8 * k) + field s 0 (8 * k)
+pub head-none : (start k : ℕ) (s : List ℕ) → k ≡ 0 → start ≡ start * 2 ^ (8 * k) + field s 0 (8 * k)
 unfolding field number
 head-none start k s e = rw e (omega arith)
 
-pub head-low : (start : ℕ) → start < 2 ^ 64 → Whole (record { high = 0; low = start })
-head-low start h = record { high_fits = omega arith; low_fits = h }
-
-pub head-fits : (start m n f : ℕ) → start < 2 ^ 64 → f < 2 ^ 64 → Whole (record { high = start / 2 ^ m; low = bit_xor (start * 2 ^ n % 2 ^ 64) f })
-head-fits start m n f h l = record { high_fits = lt_of_le_of_lt (shr_le start m) h; low_fits = xor_lt 64 (start * 2 ^ n % 2 ^ 64) f (mod-lt (start * 2 ^ n) (pow_pos 64)) l }
-
--- some
-pub head-some : (start k f : ℕ) (s : List ℕ) → k < 8 → k ≤ length s → f ≡ got s 0 (8 * k)
-    → start / 2 ^ (64 - 8 * k) * 2 ^ 64 + bit_xor (start * 2 ^ (8 * k) % 2 ^ 64) f ≡ start * 2 ^ (8 * k) + field s 0 (8 * k)
-head-some start k f s h l e =
+-- a start, and the first bytes behind it
+pub head-is : (start k f : ℕ) (s : List ℕ) → start < 2 ^ 64 → k < 8 → k ≤ length s → f ≡ got s 0 (8 * k)
+    → bit_xor (start * 2 ^ (8 * k) % 2 ^ 128) f ≡ start * 2 ^ (8 * k) + field s 0 (8 * k)
+head-is start k f s hs h l e =
     let m : ℕ = 8 * k in
     let f-is : f ≡ field s 0 m = e ∙ got-there s 0 m (omega arith) (omega arith) in
     let f_lt : f < 2 ^ m = subst (λ (x : ℕ). x < 2 ^ m) (sym f-is) (field_lt s 0 m) in
-    over-laid start m f (omega arith) f_lt ∙ ap (λ (x : ℕ). start * 2 ^ m + x) f-is
+    ap (λ (x : ℕ). bit_xor x f) (shl_exact 64 m 128 hs (omega arith)) ∙ xor_shifted start m f f_lt ∙ ap (λ (x : ℕ). start * 2 ^ m + x) f-is
 
--- the loops' invariant: the check of what is left of s, from what the number leaves, is the check of l from what the start leaves
-pub record Going (w p : ℕ) (start : Pair) (l s : List ℕ) (pair : Pair) (i : ℕ) : Type 0 where
-  pub inside : i ≤ length s
-  pub fits : Whole pair
-  pub whole : (length s - i) % 8 ≡ 0
-  pub same : crc w p (after w p 128 (number_of pair)) (drop i s) ≡ crc w p (after w p 128 (number_of start)) l
+-- the loop's invariant: the bits of the words from i on, from what the number leaves, leave what they all do from what the start leaves
+pub record Going (w p start : ℕ) (words : List (List ℕ)) (n i : ℕ) : Type 0 where
+  pub fits : n < 2 ^ 128
+  pub same : crc_bits w p (after w p 128 n) (word_bits (drop i words)) ≡ crc_bits w p (after w p 128 start) (word_bits words)
 
--- the next eight bytes are there
-pub eight-there : {w p : ℕ} {start : Pair} {l s : List ℕ} {pair : Pair} {i : ℕ} → Going w p start l s pair i → i < length s → i + 8 ≤ length s
-eight-there {w} {p} {start} {l} {s} {pair} {i} g h = omega (arith, g.whole)
+module _ {w p : ℕ} {es : List ℕ} (rule : Rule w p es) where
+  pub fold-code : (n h l c r : ℕ) → h ≡ n / 2 ^ 64 → l ≡ n % 2 ^ 64 → c < 2 ^ 64
+      → r ≡ xors (λ e. h / 2 ^ (64 - e)) es l * 2 ^ 64 + xors (λ e. h * 2 ^ e % 2 ^ 64) es c → r ≡ folded es n c
+  fold-code n h l c r eh el hc er =
+      er ∙ moved es rule.near h l c hc ∙ ap₂ (λ (x y : ℕ). bit_xor (ups es x) (y * 2 ^ 64 + c)) eh el
 
-module _ {w p e : ℕ} {es : List ℕ} (rule : Rule w p e es) where
-  pub fold-code : (h l c : ℕ) → c < 2 ^ 64 → bit_xor l (overs e es h) * 2 ^ 64 + bit_xor c (lows e es h) ≡ bit_xor (ups e es h) (l * 2 ^ 64 + c)
-  fold-code h l c hc = halves e es rule.near h l c hc
-
-  pub fold-fits : (h l c : ℕ) → h < 2 ^ 64 → l < 2 ^ 64 → c < 2 ^ 64 → Whole (record { high = bit_xor l (overs e es h); low = bit_xor c (lows e es h) })
-  fold-fits h l c hh hl hc = record { high_fits = xor_lt 64 l (overs e es h) hl (overs-lt e es h hh); low_fits = xor_lt 64 c (lows e es h) hc (lows-lt e es h) }
-
-  -- they go in
-  pub words-on : (s : List ℕ) → ((i : ℕ) → Fits w8 (get_or s i 0)) → (start pair next : Pair) (l : List ℕ) (i word : ℕ)
-      → word < 2 ^ 64 → Whole next → Going w p start l s pair i → i < length s
-      → word ≡ word_at s i * 2 ^ 32 + word_at s (i + 4) → number_of next ≡ folded e es pair word → Going w p start l s next (i + 8)
-  unfolding crc
-  words-on s bytes start pair next l i word hw fits g h ew en =
-      let k : i + 8 ≤ length s = eight-there g h in
-      let rest : List ℕ = to_bits (drop (i + 8) s) in
+  -- a word goes in
+  pub words-on : (words : List (List ℕ)) (start n next i word : ℕ) → next < 2 ^ 128 → Going w p start words n i → i < length words
+      → word < 2 ^ 64 → word ≡ from_be_bytes w64 (get_or words i []) → next ≡ folded es n word → Going w p start words next (i + 1)
+  words-on words start n next i word fits g h hw ew en =
+      let before : ℕ = after w p 128 n in
+      let rest : List ℕ = word_bits (drop (i + 1) words) in
       record {
-        inside = k;
         fits = fits;
-        whole = omega (arith, g.whole);
         same =
             ap (λ (z : ℕ). crc_bits w p (after w p 128 z) rest) en
-            ∙ ap (λ (z : ℕ). crc_bits w p z rest) (sym (fold_is rule pair.high pair.low word g.fits.high_fits g.fits.low_fits hw))
-            ∙ sym (bits-append w p (after w p 128 (number_of pair)) (bits_of 64 word) rest)
-            ∙ ap (λ (z : ℕ). crc_bits w p (after w p 128 (number_of pair)) (bits_of 64 z ++ rest)) ew
-            ∙ ap (crc_bits w p (after w p 128 (number_of pair))) (sym (eight-next s i (λ n. (bytes n).fits) k))
+            ∙ ap (λ (z : ℕ). crc_bits w p z rest) (sym (fold_is rule n word g.fits hw))
+            ∙ sym (bits-append w p before (bits_of 64 word) rest)
+            ∙ ap (λ (z : ℕ). crc_bits w p before (bits_of 64 z ++ rest)) ew
+            ∙ ap (crc_bits w p before) (sym (word-next words i (get_or words i []) h refl))
             ∙ g.same;
       }
 
-pub going_end : {w p : ℕ} {start : Pair} {l s : List ℕ} {pair : Pair} {i : ℕ} → Going w p start l s pair i → length s ≤ i
-    → after w p 128 (number_of pair) ≡ crc w p (after w p 128 (number_of start)) l
-going_end {w} {p} {start} {l} {s} {pair} {i} g h = sym (crc-done w p (after w p 128 (number_of pair)) s i (omega (arith, g.inside))) ∙ g.same
-
-module _ {w p e : ℕ} {es : List ℕ} (rule : Rule w p e es) where
   -- the register that a number leaves, by its two halves
-  pub ends : w ≤ 64 → (b : Pair) (x r : ℕ) → Whole b → x ≡ after w p 64 b.high → r ≡ after w p 64 (bit_xor b.low (x * 2 ^ (64 - w) % 2 ^ 64)) → r ≡ after w p 128 (number_of b)
-  ends wide b x r fits ex er =
-      let x_lt : x < 2 ^ w = subst (λ (y : ℕ). y < 2 ^ w) (sym ex) (after-lt w p rule.some rule.fits 64 b.high) in
+  pub ends : (n h l x r : ℕ) → h ≡ n / 2 ^ 64 → l ≡ n % 2 ^ 64 → x ≡ after w p 64 h
+      → r ≡ after w p 64 (bit_xor l (x * 2 ^ (64 - w) % 2 ^ 64)) → r ≡ after w p 128 n
+  ends n h l x r eh el ex er =
+      let l_lt : l < 2 ^ 64 = subst (λ (y : ℕ). y < 2 ^ 64) (sym el) (mod-lt n (pow_pos 64)) in
+      let x_lt : x < 2 ^ w = subst (λ (y : ℕ). y < 2 ^ w) (sym ex) (after-lt w p rule.some rule.fits 64 h) in
       er
-      ∙ ap (λ (y : ℕ). after w p 64 (bit_xor b.low y)) (shl_exact w (64 - w) 64 x_lt (omega arith))
-      ∙ sym (after_two w p rule.some rule.fits x b.low wide x_lt fits.low_fits)
-      ∙ ap (λ (y : ℕ). crc_bits w p y (bits_of 64 b.low)) ex
-      ∙ after_more w p rule.some rule.fits 64 64 b.high b.low fits.low_fits
+      ∙ ap (λ (y : ℕ). after w p 64 (bit_xor l y)) (shl_exact w (64 - w) 64 x_lt (omega (arith, rule.wide)))
+      ∙ sym (after_two w p rule.some rule.fits x l rule.wide x_lt l_lt)
+      ∙ ap (λ (y : ℕ). crc_bits w p y (bits_of 64 l)) ex
+      ∙ after_more w p rule.some rule.fits 64 64 h l l_lt
+      ∙ ap (after w p 128) (ap₂ (λ (y z : ℕ). y * 2 ^ 64 + z) eh el ∙ split n 64)
 
   -- a start and the first bytes behind it
-  begins : (start : ℕ) (a : Pair) (k : ℕ) (s : List ℕ) → Whole a → k ≤ length s → number_of a ≡ start * 2 ^ (8 * k) + field s 0 (8 * k)
-      → crc w p (after w p 128 (number_of a)) (drop k s) ≡ crc w p (after w p 128 start) s
+  begins : (start a k : ℕ) (s : List ℕ) → a < 2 ^ 128 → k ≤ length s → a ≡ start * 2 ^ (8 * k) + field s 0 (8 * k)
+      → crc_bits w p (after w p 128 a) (to_bits (drop k s)) ≡ crc w p (after w p 128 start) s
   unfolding crc
-  begins start a k s fits h ea =
+  begins start a k s a_lt h ea =
       let f : ℕ = field s 0 (8 * k) in
-      let a_lt : number_of a < 2 ^ 128 = more_lt 64 64 fits.high_fits fits.low_fits in
       ap (λ (y : ℕ). crc_bits w p y (to_bits (drop k s)))
-      (sym (after-wide w p rule.some rule.fits (8 * k) 128 (number_of a) a_lt)
+      (sym (after-wide w p rule.some rule.fits (8 * k) 128 a a_lt)
       ∙ ap₂ (λ (m n : ℕ). after w p m n) (add_comm (8 * k) 128) ea
       ∙ sym (after_more w p rule.some rule.fits 128 (8 * k) start f (field_lt s 0 (8 * k))))
       ∙ sym (bits-append w p (after w p 128 start) (bits_of (8 * k) f) (to_bits (drop k s)))
@@ -252,16 +235,34 @@ module _ {w p e : ℕ} {es : List ℕ} (rule : Rule w p e es) where
 
   -- the start and the first bytes, the words, and the register that they leave
   pub crc-all : (start reg : ℕ) → after w p 128 start ≡ reg
-      → (r : ℕ) (s : List ℕ) (a b : Pair) → r ≡ after w p 128 (number_of b)
-      → after w p 128 (number_of b) ≡ crc w p (after w p 128 (number_of a)) (drop (length s % 8) s)
-      → Whole a → number_of a ≡ start * 2 ^ (8 * (length s % 8)) + field s 0 (8 * (length s % 8)) → r ≡ crc w p reg s
-  crc-all start reg es r s a b er eb fa ea = er ∙ eb ∙ begins start a (length s % 8) s fa (omega arith) ea ∙ ap (λ (y : ℕ). crc w p y s) es
+      → (begin k r : ℕ) (s : List ℕ) (a b : ℕ) (words : List (List ℕ)) → ((i : ℕ) → Fits w8 (get_or s i 0))
+      → begin ≡ start → k ≡ length s % 8 → r ≡ after w p 128 b
+      → after w p 128 b ≡ crc_bits w p (after w p 128 a) (word_bits words)
+      → words ≡ first_chunks 8 (length s / 8) (drop (length s % 8) s)
+      → a < 2 ^ 128 → a ≡ begin * 2 ^ (8 * k) + field s 0 (8 * k) → r ≡ crc w p reg s
+  crc-all start reg es begin k r s a b words bytes e ek er eb ew fa ea =
+      let m : ℕ = length s % 8 in
+      let joined : word_bits words ≡ to_bits (drop k s)
+      = ap word_bits ew
+      ∙ words-joined (length s / 8) (drop m s) (bytes_drop m (record { byte = λ i. (bytes i).fits })) (omega (arith, length-drop m s))
+      ∙ ap (λ (n : ℕ). to_bits (drop n s)) (sym ek) in
+      er
+      ∙ eb
+      ∙ ap (crc_bits w p (after w p 128 a)) joined
+      ∙ begins begin a k s fa (omega arith) ea
+      ∙ ap (λ (y : ℕ). crc w p y s) (ap (after w p 128) e ∙ es)
 
-  pub crc-inverted : (start reg : ℕ) → after w p 128 start ≡ reg
-      → (r mask : ℕ) (s : List ℕ) (a b : Pair) → r ≡ after w p 128 (number_of b)
-      → after w p 128 (number_of b) ≡ crc w p (after w p 128 (number_of a)) (drop (length s % 8) s)
-      → Whole a → number_of a ≡ start * 2 ^ (8 * (length s % 8)) + field s 0 (8 * (length s % 8)) → bit_xor r mask ≡ bit_xor (crc w p reg s) mask
-  crc-inverted start reg es r mask s a b er eb fa ea = ap (λ (y : ℕ). bit_xor y mask) (crc-all start reg es r s a b er eb fa ea)
+-- no word is left
+pub going_end : {w p start : ℕ} {words : List (List ℕ)} {n i : ℕ} → Going w p start words n i → length words ≤ i
+    → after w p 128 n ≡ crc_bits w p (after w p 128 start) (word_bits words)
+unfolding crc_bits word_bits
+going_end {w} {p} {start} {words} {n} {i} g h =
+    sym (ap (λ (l : List (List ℕ)). crc_bits w p (after w p 128 n) (word_bits l)) (drop_of_length-le words h)) ∙ g.same
+
+-- a number moved down: 0 by 64 places or more
+pub down_is : (q places : ℕ) (o : Option ℕ) → q < 2 ^ 64 → SomeIff o (places < 64) (q / 2 ^ places) → unwrap_or o 0 ≡ q / 2 ^ places
+down_is q places None h o = let far : 64 ≤ places = omega (arith, o) in sym (div-eq_of_lt (lt_of_lt_of_le h (pow_mono far)))
+down_is q places (Some x) h o = o.1
 
 -- a number over 3 is taken as 3
 pub other-type : (k y : ℕ) (s : List ℕ) → (k ≡ 0 → ⊥) → (k ≡ 1 → ⊥) → (k ≡ 2 → ⊥) → y ≡ message_crc 3 s → y ≡ message_crc k s

@@ -1,5 +1,5 @@
 -- Serves proofs: what the code's steps compute. No contract of a public call cites these.
-use Rattle.std.specs.Prelude.{ℕ, zero, suc, ◌+◌, ◌-◌, ◌*◌, ◌^◌, List, reverse, get_or}
+use Rattle.std.specs.Prelude.{ℕ, zero, suc, ◌-◌, ◌*◌, ◌^◌, List, reverse}
 use Rattle.std.specs.Int.Bits.{bit_xor}
 use Rattle.bits.specs.Bits.{bits_of}
 use Rattle.checks.specs.Crc.{shift, crc_bits, low_first, reversed4}
@@ -12,10 +12,6 @@ shifts w poly (suc n) reg = shifts w poly n (shift w poly reg)
 -- a byte is added at the top of the register, and the register is shifted eight times
 unfoldable pub crc_byte : ℕ → ℕ → ℕ → ℕ → ℕ
 crc_byte w poly reg b = shifts w poly 8 (bit_xor reg (b * 2 ^ (w - 8)))
-
--- four bytes of a list as a number, the first most significant
-unfoldable pub word_at : List ℕ → ℕ → ℕ
-word_at s i = ((get_or s i 0 * 256 + get_or s (i + 1) 0) * 256 + get_or s (i + 2) 0) * 256 + get_or s (i + 3) 0
 
 -- four bits, the least significant first
 unfoldable pub half_first : ℕ → List ℕ

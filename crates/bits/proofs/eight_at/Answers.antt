@@ -1,6 +1,6 @@
--- Two fields of 32 bits in a row (`eight-read`).
+-- The first word from at on is the field of its bits (`eight-read`).
+use Rattle.std.proofs.Common.{rules}
 use Rattle.bits.proofs.Steps.{eight-read}
-use borrow.Author.Rules.{rules}
 use Rattle.bits.proofs.eight_at.Goals as goal
 
 pub returns : goal.returns

@@ -9,9 +9,7 @@ pub loop-k-init : goal.loop-k-init
 loop-k-init c = search (writing-first, rules)
 
 pub loop-k-preserved : goal.loop-k-preserved
-loop-k-preserved c =
-    writing-on _ _ _ _ _ _ _ _ _ _ c.loop-k.invariant (search rules) c.loop-k-test.true c.chunk-n.ensures c.wide.ensures c.in_word.ensures
-    c.narrow.ensures
+loop-k-preserved c = search (writing-on, rules)
 
 pub returns : goal.returns
 returns c = search (all_here, writing-end, rules)

@@ -1,7 +1,7 @@
--- Two codes of 32 bits put in a row are one (`halves-put`).
-use Rattle.bits.proofs.Steps.{halves-put}
-use borrow.Author.Rules.{rules}
+-- The bytes of x take the place of eight (`eight-put`).
+use Rattle.std.proofs.Common.{rules}
+use Rattle.bits.proofs.Steps.{eight-put}
 use Rattle.bits.proofs.put_eight.Goals as goal
 
 pub returns : goal.returns
-returns c = search (halves-put 4, rules)
+returns c = search (eight-put, rules)

@@ -1,0 +1,7 @@
+-- The moves are linear, and right at each power of two, which antt computes (Rules.antt).
+use Rattle.std.proofs.Common.{rules}
+use Rattle.checks.proofs.Rules.{circuit-24}
+use Rattle.checks.proofs.Crc24Polynomial.reduced.Goals as goal
+
+pub returns : goal.returns
+returns c = search (circuit-24, rules)

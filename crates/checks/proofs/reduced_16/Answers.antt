@@ -1,7 +1,0 @@
--- The moves are linear, and right at each power of two, which antt computes (Rules.antt).
-use borrow.Author.Rules.{rules}
-use Rattle.checks.proofs.Rules.{circuit-16}
-use Rattle.checks.proofs.reduced_16.Goals as goal
-
-pub returns : goal.returns
-returns c = search (circuit-16, rules)
