@@ -33,6 +33,7 @@ use Rattle.message.specs.Results.{Start}
 use Rattle.message.specs.Machine.{field_of, step_of, start_of, hpac_start, Starts, known, unknown, starts}
 use Rattle.message.specs.Results.{Subtype}
 use Rattle.message.specs.Messages.{Message, hpac_layout, constellation_of, constellation_for, by_constellation, layout_for}
+use Rattle.quick.specs.declared.Extent.{Extent}
 use Rattle.quick.specs.Results.{Quick}
 use Rattle.quick.specs.Quick.{quick_of, quick-reads}
 use Rattle.sheet.specs.Sheet.{bad_length, judging, judged, reading, read_answer_by, sheet_by, read_answer, sheet_after}
@@ -190,6 +191,13 @@ module _ {kind subtype : ℕ} {payload : List ℕ} (pass : Pass) (p : StartedPas
   pub pass-whole : (entries bits : ℕ) → pass ≡ Ok (record { entries = entries; bits = bits }) → StartedJudged kind subtype payload (Ok (record { bits = bits; entries = entries }))
   pass-whole entries bits e = record { from = λ start k. whole-judged pass (p.from start k) entries bits e }
 
+  pub pass-judged : StartedJudged kind subtype payload pass
+  pass-judged = go pass refl
+    where
+      go : (v : Pass) → pass ≡ v → StartedJudged kind subtype payload v
+      go (Ok x) e = pass-whole x.entries x.bits e
+      go (Err why) e = pass-fault why e
+
 start-there : (x : Start) → is_known_start x ≡ true → (s : State) × (x ≡ Some s)
 start-there (Some s) e = (s, refl)
 start-there None e = let z : ◌≡◌ {A = ℕ} 0 1 = cc in absurd (omega arith)
@@ -337,11 +345,10 @@ module _ (kind subtype : ℕ) (payload sheet : List ℕ) where
       pub read-refused : (why : answer.Fault) → j ≡ Err why → Met kind subtype payload sheet (Err why) sheet
       read-refused why e = meet (Err why) sheet e (λ start l here walks says. refused-leaves (read_l l (to_bits payload)) why sheet says)
 
-      pub read-stored : (sheet' : List ℕ) (bits entries : ℕ) → j ≡ Ok (record { bits = bits; entries = entries }) → Filled kind subtype payload sheet sheet'
-          → Met kind subtype payload sheet (Ok (record { bits = bits; entries = entries })) sheet'
-      read-stored sheet' bits entries e p =
-          meet (Ok (record { bits = bits; entries = entries })) sheet' e (λ start l here walks says.
-          stored-leaves payload sheet sheet' start l (read_l l (to_bits payload)) bits entries walks refl (good_length (length payload) good) room says (p.fills l here))
+      pub read-stored : (sheet' : List ℕ) (x : Extent) → j ≡ Ok x → Filled kind subtype payload sheet sheet' → Met kind subtype payload sheet (Ok x) sheet'
+      read-stored sheet' x e p =
+          meet (Ok x) sheet' e (λ start l here walks says.
+          stored-leaves payload sheet sheet' start l (read_l l (to_bits payload)) x.bits x.entries walks refl (good_length (length payload) good) room says (p.fills l here))
 
 -- ---- the codes of an accepted message
 

@@ -114,10 +114,7 @@ fn judge_from(kind: u8, subtype: u8, payload: &[u8]) -> ReadAnswer
     requires { length payload.now ≤ longest_payload }
     ensures { StartedJudged kind subtype payload.now result }
 {
-    match pass_of(kind, subtype, payload) {
-        Err(why) => Err(why),
-        Ok(Extent { entries, bits }) => Ok(Extent { bits, entries }),
-    }
+    pass_of(kind, subtype, payload)
 }
 
 // A payload of a known type and a good length: where the quick test says nothing of it, the machine judges it.
@@ -178,14 +175,9 @@ fn read_known(kind: u8, subtype: u8, payload: &[u8], sheet: &mut [u64]) -> ReadA
     ensures value { result ≡ read_answer kind subtype payload.now sheet.old }
     ensures sheet_after { sheet.new ≡ sheet_after kind subtype payload.now sheet.old }
 {
-    let judged = judge_known(kind, subtype, payload);
-    match judged {
-        Err(why) => Err(why),
-        Ok(Extent { bits, entries }) => {
-            store_codes(kind, subtype, payload, sheet);
-            Ok(Extent { bits, entries })
-        }
-    }
+    let extent = judge_known(kind, subtype, payload)?;
+    store_codes(kind, subtype, payload, sheet);
+    Ok(extent)
 }
 
 // What a payload of a type (TF002) and subtype (TF007) says, with no sheet to store it on. "UNKNOWN_TYPE, LENGTH, then the first fault in reading order".
@@ -282,16 +274,12 @@ fn sheet_pass(kind: u8, subtype: u8, sheet: &[u64], out: &mut [u8]) -> Pass
 fn keep_sheet(kind: u8, subtype: u8, sheet: &[u64], aside: &mut [u8]) -> WriteAnswer
     ensures { SheetKept kind subtype sheet.now aside.old result aside.new }
 {
-    match sheet_pass(kind, subtype, sheet, aside) {
-        Err(why) => Err(why),
-        Ok(Extent { entries: _, bits }) => {
-            let bytes = (bits + 7) / 8;
-            if bad_length(bytes) {
-                return Err(Fault::from(Refusal::Length));
-            }
-            Ok(Written { bits, bytes })
-        }
+    let bits = sheet_pass(kind, subtype, sheet, aside)?.bits;
+    let bytes = (bits + 7) / 8;
+    if bad_length(bytes) {
+        return Err(Fault::from(Refusal::Length));
     }
+    Ok(Written { bits, bytes })
 }
 
 // The sheet is judged before its bits and the fill behind them come into `out`: a refusal alters nothing.
@@ -299,16 +287,12 @@ fn write_by(kind: u8, subtype: u8, sheet: &[u64], out: &mut [u8], aside: &mut [u
     requires { (longest_payload ≤ length out.old) × (longest_payload ≤ length aside.old) }
     ensures { WriteWhole kind subtype sheet.now out.old result out.new }
 {
-    let judged = keep_sheet(kind, subtype, sheet, aside);
-    match judged {
-        Err(why) => Err(why),
-        Ok(Written { bits, bytes }) => {
-            let fill = (8 * bytes - bits) as u32;
-            bits::put(aside, bits, fill, 0);
-            out[..bytes].copy_from_slice(&aside[..bytes]);
-            Ok(Written { bits, bytes })
-        }
-    }
+    let written = keep_sheet(kind, subtype, sheet, aside)?;
+    let bytes = written.bytes;
+    let fill = (8 * bytes - written.bits) as u32;
+    bits::put(aside, written.bits, fill, 0);
+    out[..bytes].copy_from_slice(&aside[..bytes]);
+    Ok(written)
 }
 
 fn write_whole(kind: u8, subtype: u8, sheet: &[u64], out: &mut [u8]) -> WriteAnswer

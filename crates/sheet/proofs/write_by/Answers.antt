@@ -1,5 +1,6 @@
 -- A sheet that is not accepted alters nothing; the bits kept aside are copied, with the fill behind them.
 use Rattle.sheet.proofs.Writing.{whole-refused, fill-times, fill-under, fill-few, whole-written}
+use Rattle.std.proofs.lemmas.Result.{err_from_is_err_and}
 use borrow.Author.Rules.{rules}
 use Rattle.std.proofs.Common.{◌++◌, drop, refl, ap}
 use Rattle.sheet.proofs.write_by.Goals as goal
@@ -13,10 +14,12 @@ overflow_sub-fill c = search (fill-under, rules)
 pub overflow_cast-fill : goal.overflow_cast-fill
 overflow_cast-fill c = search (fill-few, rules)
 
-pub returns-in-Err : goal.returns-in-Err
-returns-in-Err c = search (whole-refused, rules)
+pub returns-in_err-written : goal.returns-in_err-written
+returns-in_err-written c =
+    let p = err_from_is_err_and c.from_residual.result c.from_residual.ensures.1 in
+    rw (p.1, p.2) (search (whole-refused, rules))
 
-pub returns-in-Ok : goal.returns-in-Ok
-returns-in-Ok c =
-    whole-written _ _ c.in-Ok.ensures c.in-Ok.field-0.bits c.in-Ok.field-0.bytes refl c.put.new.s _ c.requires.0 c.requires.1 c.keep_sheet-judged.auto.aside c.put.auto.s c.put.ensures.s_after
-    (ap (λ x. x ++ drop c.in-Ok.field-0.bytes c.args.out.now) c.copy_from_slice.ensures.after)
+pub returns : goal.returns
+returns c =
+    whole-written _ _ c.in_ok-written.ensures c.in_ok-written.written.bits c.in_ok-written.written.bytes refl c.put.new.s _ c.requires.0 c.requires.1 c.keep_sheet.auto.aside c.put.auto.s c.put.ensures.s_after
+    (ap (λ x. x ++ drop c.in_ok-written.written.bytes c.args.out.now) c.copy_from_slice.ensures.after)
