@@ -3,7 +3,7 @@ use Rattle.std.specs.Prelude.{◌≡◌, refl, Bool, true, false, List, [], ◌�
 use Rattle.std.proofs.Common.{ap, ap₂, sym, ◌∙◌, subst, append-nil, add-zero, mod-lt, pow-suc, arith, eq-eqb, ne_eqb, pow_pos, shl_lt, shr_lt}
 use Rattle.std.proofs.Math.Nat.{div-eq_of_lt}
 use Rattle.std.specs.Int.Count.{ones, count_leading_zeros, leading_of_zero}
-use Rattle.std.proofs.lemmas.Nat.{ones_cat, leading_le, leading_top, mod-pow-add, shl-shr}
+use Rattle.std.proofs.lemmas.Nat.{ones_cat, leading_top, mod-pow-add, shl-shr}
 use Rattle.std.proofs.Math.Pow.{high, low, split}
 use Rattle.bits.specs.Bits.{bits_of}
 use Rattle.bits.specs.Laws.{one_shl, length-bits_of, bits_of-add, bits_of-low, bits_of-mod}

@@ -1,5 +1,5 @@
 -- A mask with a bit set has its first one where the leading zeros end.
-use Rattle.codes.specs.Stepping.{position-fits, no-set, position-small, power_below, set_next}
+use Rattle.codes.specs.Stepping.{no-set, power_below}
 use borrow.Author.Rules.{rules}
 use Rattle.codes.proofs.satellites.next_set.Goals as goal
 
