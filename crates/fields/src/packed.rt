@@ -136,8 +136,5 @@ pub fn width(line: u64) -> u32
 pub fn refuses(line: u64, code: u64) -> bool
     ensures { result ≡ refuses line code }
 {
-    if code <= line / 0x100 % 0x100_0000 {
-        return false;
-    }
-    code != line / 0x1_0000_0000
+    line / 0x100 % 0x100_0000 < code && code != line / 0x1_0000_0000
 }
