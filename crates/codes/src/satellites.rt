@@ -9,7 +9,8 @@ ghost use Rattle.codes.specs.Stepping.{aligned_to, without_first};
 use crate::Constellation;
 use crate::tables::{first_satellite, mask_size};
 
-// The satellite numbers of a mask in mask order, and zeros after them.
+// The satellite numbers of a mask in mask order, and zeros after them: a count beside an array, since no heap is taken and the contract says what stands
+// behind the numbers. `InMask` hands them out without one.
 #[derive(Clone, Copy)]
 pub struct Satellites {
     pub count: u64,
@@ -42,7 +43,7 @@ impl Iterator for InMask {
 
 // The satellites of a mask of a size, one by one.
 pub fn in_mask(constellation: Constellation, size: u64, mask: u64) -> InMask
-    ensures { to_come result ≡ satellites_of constellation size mask }
+    ensures { (result ≡ record { constellation = constellation; left = aligned_to (mask_size constellation size) mask }) × (to_come result ≡ satellites_of constellation size mask) }
 {
     InMask {
         constellation,
