@@ -59,7 +59,7 @@ pub fn put_at(bytes: &mut [u8], at: usize, area: u64)
     }
 }
 
-// Of the first bytes.
+// `put_at` at the start. The six are stored in place; `copy_from_slice` would take them through an array on the stack, in twice the time.
 fn put_first(bytes: &mut [u8], area: u64)
     ensures { bytes.new ≡ put_at bytes.old 0 area }
 {

@@ -9,7 +9,7 @@ use crate::Constellation;
 use crate::masks::{full_width, mask_bits};
 use layout::Field;
 
-// "Mask sizes for size codes 0 to 3", a row a constellation.
+// "Mask sizes for size codes 0 to 3", a row a constellation. A `static` lies in the program's constants: no call lays it out on the stack.
 static MASK_SIZES: [[u32; 4]; 5] = [
     [32, 44, 56, 64],
     [24, 36, 48, 63],
