@@ -79,7 +79,7 @@ none-outside (line ∷ lines) t number h =
     let low : line.number ≤ 107 = leb→le _ 107 (and_l (leb line.number 107) (all_among lines) t) in
     rw (ne_eqb number line.number (λ e. omega arith)) (none-outside lines (and_r (leb line.number 107) (all_among lines) t) number h)
 
-none_over : (number : ℕ) → 107 < number → line_of number ≡ no_line
+pub none_over : (number : ℕ) → 107 < number → line_of number ≡ no_line
 unfolding line_of table all_among
 none_over number h = none-outside table tt number h
 

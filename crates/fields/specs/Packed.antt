@@ -25,18 +25,18 @@ refuses line code = ltb (line / 256 % 16777216) code && not (eqb code (line / 42
 -- ---- the code's table is the table
 
 -- f k, f (k + 1), .. to n of them
-unfoldable pub lines : (ℕ → ℕ) → ℕ → ℕ → List ℕ
+unfoldable pub lines : {A : Type 0} → (ℕ → A) → ℕ → ℕ → List A
 lines f zero k = []
 lines f (suc n) k = f k ∷ lines f n (suc k)
 
-line_at : (f : ℕ → ℕ) (n k i : ℕ) → i < n → get_or (lines f n k) i 0 ≡ f (k + i)
+pub line_at : {A : Type 0} (f : ℕ → A) (d : A) (n k i : ℕ) → i < n → get_or (lines f n k) i d ≡ f (k + i)
 unfolding lines
-line_at f zero k i h = absurd (omega arith)
-line_at f (suc n) k zero h = let e : k ≡ k + 0 = omega arith in ap f e
-line_at f (suc n) k (suc i) h = let e : suc k + i ≡ k + suc i = omega arith in line_at f n (suc k) i (omega arith) ∙ ap f e
+line_at f d zero k i h = absurd (omega arith)
+line_at f d (suc n) k zero h = let e : k ≡ k + 0 = omega arith in ap f e
+line_at f d (suc n) k (suc i) h = let e : suc k + i ≡ k + suc i = omega arith in line_at f d n (suc k) i (omega arith) ∙ ap f e
 
 pub packed_there : (l : List ℕ) → l ≡ lines packed_line 108 0 → (number : ℕ) → number < 108 → get_or l number 0 ≡ packed_line number
-packed_there l is number h = let e : 0 + number ≡ number = omega arith in ap (λ x. get_or x number 0) is ∙ line_at packed_line 108 0 number h ∙ ap packed_line e
+packed_there l is number h = let e : 0 + number ≡ number = omega arith in ap (λ x. get_or x number 0) is ∙ line_at packed_line 0 108 0 number h ∙ ap packed_line e
 
 pub packed_none : (number : ℕ) → 107 < number → 0 ≡ packed_line number
 unfolding packed_line
