@@ -1,17 +1,24 @@
 -- Two results of a public call of this crate cannot differ: for equal inputs, answers and lent buffers that meet the contract are equal. Proved.
 -- Written by tests/determined from the contracts in src/.
-use Rattle.std.specs.Prelude.{◌%◌, ◌+◌, ℕ, length, ◌≡◌}
 use Rattle.codes.specs.Fields.{listed, mask_field, satellite_at, satellites_of}
 use Rattle.codes.specs.Stepping.{aligned_to, without_first}
 use Rattle.codes.specs.Tables.{bias_size, first_satellite, mask_sf, mask_size}
 use Rattle.codes.specs.declared.Constellation.{Constellation}
+use Rattle.codes.specs.declared.satellites.InMask.{InMask}
 use Rattle.codes.specs.declared.satellites.Satellites.{Satellites}
 use Rattle.codes.specs.declared.satellites.Step.{Step}
 use Rattle.fields.specs.Fields.{sf}
 use Rattle.layout.specs.Parts.{free}
 use Rattle.layout.specs.declared.Field.{Field}
+use Rattle.std.proofs.Common.{sym, ◌∙◌}
 use Rattle.std.specs.Int.Count.{count_leading_zeros, ones}
-use Rattle.std.proofs.Common.{◌∙◌, sym}
+use Rattle.std.specs.Prelude.{length, ℕ, ◌%◌, ◌+◌, ◌≡◌}
+
+pub in-mask-determined : (constellation : Constellation) (size mask : ℕ) (r₁ r₂ : InMask)
+    → r₁ ≡ record { constellation = constellation; left = aligned_to (mask_size constellation size) mask }
+    → r₂ ≡ record { constellation = constellation; left = aligned_to (mask_size constellation size) mask }
+    → r₁ ≡ r₂
+in-mask-determined constellation size mask r₁ r₂ e0₁ e0₂ = e0₁ ∙ sym e0₂
 
 pub satellites-of-determined : (constellation : Constellation) (size mask : ℕ) (r₁ r₂ : Satellites)
     → r₁ ≡ listed (satellites_of constellation size mask)

@@ -5,6 +5,7 @@ use Rattle.layout.specs.declared.Field.{Field}
 use Rattle.layout.specs.Layout.{Layout, field, pick}
 use Rattle.fields.specs.Fields.{sf}
 use Rattle.codes.specs.declared.Constellation.{Constellation}
+use Rattle.codes.specs.declared.satellites.InMask.{InMask}
 use Rattle.codes.specs.declared.satellites.Satellites.{Satellites}
 use Rattle.codes.specs.Tables.{mask_sf, mask_size, first_satellite}
 
@@ -44,6 +45,10 @@ satellite_mask constellation k =
 -- a list of numbers in the code's array: how many, and zeros after them
 abbrev pub listed : List ℕ → Satellites
 listed ms = record { count = length ms; numbers = ms ++ replicate (64 - length ms) 0 }
+
+-- the satellites that are still to come: the set bits of what is left of the mask, which stands at the top of 64 bits
+abbrev pub to_come : InMask → List ℕ
+to_come s = numbered (first_satellite s.constellation) 64 s.left
 
 -- the element that has so many after it, 0 if there is none
 abbrev pub satellite_at : List ℕ → ℕ → ℕ

@@ -1,5 +1,4 @@
 pub mod Tables
-pub mod Bytes
 pub mod Fields
 pub mod Sizes
 pub mod Stepping

@@ -1,15 +1,19 @@
 -- Serves proofs, and is proved: the loops over a mask that stands at the top of 64 bits, a turn from set bit to set bit.
-use Rattle.std.specs.Prelude.{◌≡◌, refl, Bool, true, false, List, [], ◌∷◌, ◌++◌, ℕ, zero, suc, ◌+◌, ◌-◌, ◌*◌, ◌/◌, ◌%◌, ◌^◌, ◌≤◌, ◌<◌, eqb, length, get_or, set, replicate}
-use Rattle.std.proofs.Common.{ap, ap₂, sym, ◌∙◌, append_assoc, append-nil, arith, lt-ltb, le-ltb, length-append}
-use Rattle.std.specs.Int.Count.{ones, count_leading_zeros}
+use Rattle.std.specs.Prelude.{◌≡◌, refl, Bool, true, false, List, [], ◌∷◌, ◌++◌, ℕ, zero, suc, ◌+◌, ◌-◌, ◌*◌, ◌/◌, ◌%◌, ◌^◌, ◌≤◌, ◌<◌, eqb, length, set, replicate}
+use Rattle.std.proofs.Common.{ap, ap₂, sym, ◌∙◌, append_assoc, append-nil, arith, length-append}
+use Rattle.std.specs.Int.Count.{count_leading_zeros}
 use Rattle.std.proofs.lemmas.List.{set_at}
 use Rattle.layout.specs.Layout.{pick}
 use Rattle.codes.specs.declared.Constellation.{Constellation}
 use Rattle.codes.specs.declared.Constellation.TheVariants.{Gps, Glonass, Galileo, BeiDou, Qzss}
+use Rattle.std.specs.Prelude.{⊤, Some}
+use Rattle.std.specs.Iterator.{MakesProgress, item_count}
+use Rattle.codes.specs.declared.satellites.InMask.{InMask}
 use Rattle.codes.specs.declared.satellites.Step.{Step}
 use Rattle.codes.specs.Tables.{mask_size, first_satellite}
-use Rattle.codes.specs.Fields.{numbered, satellites_of, listed, satellite_at}
-use Rattle.codes.specs.Stepping.{aligned_to, without_first, counted, some-bit, Turn, turn, turn-number, none-set, top-fits, top-listed, top-counted}
+use Rattle.codes.specs.Fields.{numbered, satellites_of, listed, to_come}
+use Rattle.codes.specs.Stepping.{aligned_to, without_first, turn, none-set, top-listed}
+use Rattle.codes.specs.Sizes.{mask_word}
 
 -- ---- the first number and the width of a constellation
 
@@ -30,32 +34,46 @@ numbered-few first (suc width) mask = go (eqb (mask / 2 ^ width % 2) 1) (numbere
     go true h = omega arith
     go false h = omega arith
 
--- ---- the satellites in an array: some are found, and what is left of the mask has the others
+-- ---- the satellites of a mask one by one: the first of those that are still to come, and then the others
 
-pub record Listing (first top left : ℕ) (numbers : List ℕ) (count : ℕ) : Type 0 where
+module _ (s : InMask) where
+  pub none-come : s.left ≡ 0 → to_come s ≡ []
+  none-come e = ap (numbered (first_satellite s.constellation) 64) e ∙ none-set (first_satellite s.constellation) 64
+
+  module _ (first : ℕ) (one : Step) (n : s.left ≡ 0 → ⊥) (h : s.left < 2 ^ 64) (f : first ≡ first_satellite s.constellation)
+      (d : one ≡ record { position = count_leading_zeros 64 s.left; left = without_first s.left }) where
+    pub one-comes : to_come s ≡ (first + one.position) ∷ to_come (record { constellation = s.constellation; left = one.left })
+    one-comes = (turn (first_satellite s.constellation) s.left one d (omega arith) h).list ∙ ap (λ x. (x + one.position) ∷ numbered (first_satellite s.constellation) 64 one.left) (sym f)
+
+    pub fewer-come : MakesProgress {S = InMask} {A = ℕ} (λ _. ⊤) (item_count to_come) s (Some (first + one.position)) (record { constellation = s.constellation; left = one.left })
+    fewer-come = record { on = λ e. (tt, tt, omega (arith, ap length one-comes)); keeps = tt; rests = λ e. tt }
+
+pub all-come : (c : Constellation) (size mask top : ℕ) → top ≡ aligned_to (mask_size c size) mask → to_come (record { constellation = c; left = top }) ≡ satellites_of c size mask
+all-come c size mask top e = top-listed c size mask top e
+
+-- ---- the satellites in an array: some are found, and the others are to come
+
+pub record Listing (ms : List ℕ) (left : InMask) (numbers : List ℕ) (count : ℕ) : Type 0 where
   pub found : List ℕ
   pub here : count ≡ length found
   pub holds : numbers ≡ found ++ replicate (64 - count) 0
-  pub others : found ++ numbered first 64 left ≡ numbered first 64 top
-  pub word : left < 2 ^ 64
-  pub small : first ≤ 193
+  pub others : found ++ to_come left ≡ ms
+  pub few : length ms ≤ 64
 
-module _ (c : Constellation) (size mask first top : ℕ) (f : first ≡ first_satellite c) (e : top ≡ aligned_to (mask_size c size) mask) where
-  pub listing-starts : Listing first top top (replicate 64 0) 0
-  listing-starts = record { found = []; here = refl; holds = refl; others = refl; word = top-fits c size mask top e; small = first_small c first f }
+pub listing-starts : (c : Constellation) (size mask : ℕ) (left : InMask) → to_come left ≡ satellites_of c size mask → Listing (satellites_of c size mask) left (replicate 64 0) 0
+listing-starts c size mask left e =
+    record {
+      found = [];
+      here = refl;
+      holds = refl;
+      others = e;
+      few = omega (arith, numbered-few (first_satellite c) (mask_size c size) mask, (mask_word c size).most);
+    }
 
-module _ (first top left : ℕ) (numbers : List ℕ) (count : ℕ) (p : Listing first top left numbers count) where
-  module _ (some : left ≡ 0 → ⊥) (one : Step) (d : one ≡ record { position = count_leading_zeros 64 left; left = without_first left }) where
-    found-one : Turn first left one
-    found-one = turn first left one d (omega arith) p.word
-
-    pub listing-number : first + one.position < 2 ^ 64
-    listing-number = turn-number found-one p.small
-
+module _ (ms : List ℕ) (left : InMask) (numbers : List ℕ) (count : ℕ) (p : Listing ms left numbers count) where
+  module _ (n : ℕ) (next : InMask) (e : to_come left ≡ n ∷ to_come next) where
     pub listing-room : count < 64
-    listing-room =
-        let all : length p.found + length (numbered first 64 left) ≡ length (numbered first 64 top) = sym (length-append p.found (numbered first 64 left)) ∙ ap length p.others in
-        omega (arith, ap length found-one.list, p.here, numbered-few first 64 top)
+    listing-room = omega (arith, p.here, p.few, length-append p.found (to_come left), ap length p.others, ap length e)
 
     pub listing-bytes : count * 8 < 2 ^ 64
     listing-bytes = omega (arith, listing-room)
@@ -63,85 +81,21 @@ module _ (first top left : ℕ) (numbers : List ℕ) (count : ℕ) (p : Listing 
     pub listing-count : count + 1 < 2 ^ 64
     listing-count = omega (arith, listing-room)
 
-    pub listing-less : one.left < left
-    listing-less = found-one.fewer
-
-    pub listing-goes : Listing first top one.left (set numbers count (first + one.position)) (count + 1)
+    pub listing-goes : Listing ms next (set numbers count n) (count + 1)
     listing-goes =
         let f : List ℕ = p.found in
-        let n : ℕ = first + one.position in
         let room : 64 - count ≡ suc (64 - (count + 1)) = omega (arith, listing-room) in
         record {
           found = f ++ (n ∷ []);
           here = omega (arith, p.here, length-append f (n ∷ []));
           holds = ap (λ l. set l count n) (p.holds ∙ ap (λ x. f ++ replicate x 0) room)
               ∙ set_at f 0 (replicate (64 - (count + 1)) 0) n count (sym p.here) ∙ sym (append_assoc f (n ∷ []) _);
-          others = append_assoc f (n ∷ []) _ ∙ ap (λ l. f ++ l) (sym found-one.list) ∙ p.others;
-          word = omega (arith, found-one.fewer, p.word);
-          small = p.small;
+          others = append_assoc f (n ∷ []) _ ∙ ap (λ l. f ++ l) (sym e) ∙ p.others;
+          few = p.few;
         }
 
-  pub listing-ends : (c : Constellation) (size mask : ℕ) → first ≡ first_satellite c → top ≡ aligned_to (mask_size c size) mask → left ≡ 0
-      → record { count = count; numbers = numbers } ≡ listed (satellites_of c size mask)
-  listing-ends c size mask f e z =
-      let all : p.found ≡ satellites_of c size mask
-      = sym (append-nil p.found) ∙ ap (λ l. p.found ++ l) (sym (none-set first 64) ∙ ap (numbered first 64) (sym z)) ∙ p.others
-      ∙ ap (λ x. numbered x 64 top) f ∙ top-listed c size mask top e in
+  pub listing-ends : to_come left ≡ [] → record { count = count; numbers = numbers } ≡ listed ms
+  listing-ends e =
+      let all : p.found ≡ ms = sym (append-nil p.found) ∙ ap (λ l. p.found ++ l) (sym e) ∙ p.others in
       ap₂ (λ (x : ℕ) (l : List ℕ). record { count = x; numbers = l }) p.here (p.holds ∙ ap (λ x. p.found ++ replicate (64 - x) 0) p.here)
       ∙ ap listed all
-
--- ---- the satellite that has `more` after it: so many before it are passed
-
-pub record Passing (ms : List ℕ) (first more left before : ℕ) : Type 0 where
-  pub same : satellite_at (numbered first 64 left) more ≡ satellite_at ms more
-  pub bits : ones left ≡ before + suc more
-  pub word : left < 2 ^ 64
-
-module _ (c : Constellation) (size mask more left count : ℕ) (e : left ≡ aligned_to (mask_size c size) mask) (q : count ≡ ones left) where
-  pub passing-none : count ≤ more → 0 ≡ satellite_at (satellites_of c size mask) more
-  passing-none h = rw (le-ltb more (length (satellites_of c size mask)) (omega (arith, top-counted c size mask left e count q)))
-
-  pub passing-starts : more < count → Passing (satellites_of c size mask) (first_satellite c) more left (count - 1 - more)
-  passing-starts h =
-      record {
-        same = ap (λ l. satellite_at l more) (top-listed c size mask left e);
-        bits = omega (arith, q);
-        word = top-fits c size mask left e;
-      }
-
-past_head : (m : ℕ) (ms : List ℕ) (more : ℕ) → more < length ms → satellite_at ms more ≡ satellite_at (m ∷ ms) more
-past_head m ms more h =
-    rw (lt-ltb more (length ms) h, lt-ltb more (suc (length ms)) (omega arith))
-    (ap (λ x. get_or (m ∷ ms) x 0) {x = suc (length ms - 1 - more)} {y = suc (length ms) - 1 - more} (omega arith))
-
-at_head : (m : ℕ) (ms : List ℕ) (more : ℕ) → length ms ≡ more → m ≡ satellite_at (m ∷ ms) more
-at_head m ms more e =
-    rw (lt-ltb more (suc (length ms)) (omega arith))
-    (ap (λ x. get_or (m ∷ ms) x 0) {x = 0} {y = suc (length ms) - 1 - more} (omega arith))
-
-module _ (ms : List ℕ) (first more left before : ℕ) (p : Passing ms first more left before) where
-  module _ (one : Step) (d : one ≡ record { position = count_leading_zeros 64 left; left = without_first left }) where
-    passed : Turn first left one
-    passed = turn first left one d (some-bit left (before + more) (p.bits ∙ omega arith)) p.word
-
-    after : length (numbered first 64 one.left) ≡ before + more
-    after = counted first 64 one.left (omega (arith, passed.fewer, p.word)) ∙ omega (arith, passed.bits, p.bits)
-
-    pub passing-goes : 0 < before → Passing ms first more one.left (before - 1)
-    passing-goes h =
-        record {
-          same = past_head (first + one.position) (numbered first 64 one.left) more (omega (arith, after))
-              ∙ ap (λ l. satellite_at l more) (sym passed.list) ∙ p.same;
-          bits = omega (arith, passed.bits, p.bits);
-          word = omega (arith, passed.fewer, p.word);
-        }
-
-    module _ (c : Constellation) (n : ℕ) (e : n ≡ first_satellite c) where
-      pub passing-number : n + one.position < 2 ^ 64
-      passing-number = omega (arith, passed.near, first_small c n e)
-
-      pub passing-ends : first ≡ first_satellite c → before ≤ 0 → n + one.position ≡ satellite_at ms more
-      passing-ends f h =
-          ap (λ x. x + one.position) (e ∙ sym f)
-          ∙ at_head (first + one.position) (numbered first 64 one.left) more (omega (arith, after))
-          ∙ ap (λ l. satellite_at l more) (sym passed.list) ∙ p.same

@@ -11,11 +11,7 @@ fn largest(width: u32) -> u64
     requires { width ≤ 64 }
     ensures { result ≡ 2 ^ width - 1 }
 {
-    if width < 64 {
-        (1u64 << width) - 1
-    } else {
-        18446744073709551615
-    }
+    u64::MAX.checked_shr(64 - width).unwrap_or(0)
 }
 
 // A field that takes its full width. Internal: as `largest`.

@@ -1,37 +1,69 @@
 // The satellites of a mask, walked from set bit to set bit by the leading zeros.
 ghost use Rattle.std.specs.Prelude.{◌≡◌, ◌≤◌, length};
 ghost use Rattle.std.specs.Int.Count.{ones, count_leading_zeros};
-ghost use Rattle.codes.specs.Fields.{satellites_of, listed, satellite_at};
+ghost use Rattle.std.specs.Iterator.{YieldsFirst, item_count};
+ghost use Rattle.codes.specs.Fields.{satellites_of, listed, satellite_at, to_come};
 ghost use Rattle.codes.specs.Tables.{mask_size};
 ghost use Rattle.codes.specs.Stepping.{aligned_to, without_first};
 
 use crate::Constellation;
 use crate::tables::{first_satellite, mask_size};
 
-// The satellite numbers of a mask in mask order, and zeros after them.
+// The satellite numbers of a mask in mask order, and zeros after them: a count beside an array, since no heap is taken and the contract says what stands
+// behind the numbers. `InMask` hands them out without one.
 #[derive(Clone, Copy)]
 pub struct Satellites {
     pub count: u64,
     pub numbers: [u64; 64],
 }
 
+// The satellites of a mask that are still to come, in mask order: those of what is left of it, at the top of a word.
+#[derive(Clone, Copy)]
+pub struct InMask {
+    constellation: Constellation,
+    left: u64,
+}
+
+impl Iterator for InMask {
+    type Item = u64;
+
+    ghost next_gives = { YieldsFirst to_come };
+
+    ghost remaining = { item_count to_come };
+
+    fn next(&mut self) -> Option<u64> {
+        if self.left == 0 {
+            return None;
+        }
+        let step = next_set(self.left);
+        self.left = step.left;
+        Some(first_satellite(self.constellation) + step.position)
+    }
+}
+
+// The satellites of a mask of a size, one by one.
+pub fn in_mask(constellation: Constellation, size: u64, mask: u64) -> InMask
+    ensures { (result ≡ record { constellation = constellation; left = aligned_to (mask_size constellation size) mask }) × (to_come result ≡ satellites_of constellation size mask) }
+{
+    InMask {
+        constellation,
+        left: aligned(constellation, size, mask),
+    }
+}
+
 // The satellites of a mask of a size, for a caller who wants the list: no function of these crates does.
 pub fn satellites_of(constellation: Constellation, size: u64, mask: u64) -> Satellites
     ensures { result ≡ listed (satellites_of constellation size mask) }
 {
-    let first = first_satellite(constellation);
-    let mut left = aligned(constellation, size, mask);
     let mut numbers = [0u64; 64];
     let mut count: usize = 0;
-    while left != 0 {
-        let step = next_set(left);
-        numbers[count] = first + step.position;
+    for number in in_mask(constellation, size, mask) {
+        numbers[count] = number;
         count += 1;
-        left = step.left;
     }
     Satellites {
         count: count as u64,
-        numbers: numbers,
+        numbers,
     }
 }
 
@@ -46,19 +78,14 @@ pub fn satellite_count(constellation: Constellation, size: u64, mask: u64) -> u6
 pub fn satellite_number(constellation: Constellation, size: u64, mask: u64, more: u64) -> u64
     ensures { result ≡ satellite_at (satellites_of constellation size mask) more }
 {
-    let mut left = aligned(constellation, size, mask);
-    let count = set_bits(left);
+    let count = satellite_count(constellation, size, mask);
     if count <= more {
         return 0;
     }
-    let mut before = count - 1 - more;
-    while 0 < before {
-        let step = next_set(left);
-        left = step.left;
-        before -= 1;
-    }
-    let here = next_set(left);
-    first_satellite(constellation) + here.position
+    let before = count - 1 - more;
+    in_mask(constellation, size, mask)
+        .nth(before as usize)
+        .unwrap_or(0)
 }
 
 // A step of a walk over the set bits of a mask: the position of the first one, and the mask without it.
@@ -79,7 +106,7 @@ pub fn aligned(constellation: Constellation, size: u64, mask: u64) -> u64
 pub fn next_set(left: u64) -> Step
     ensures { result ≡ record { position = count_leading_zeros 64 left; left = without_first left } }
 {
-    let position = u64::leading_zeros(left);
+    let position = left.leading_zeros();
     if left == 0 {
         return Step {
             position: 64,
@@ -87,7 +114,7 @@ pub fn next_set(left: u64) -> Step
         };
     }
     Step {
-        position: position as u64,
+        position: u64::from(position),
         left: left - (1 << (63 - position)),
     }
 }
@@ -96,5 +123,5 @@ pub fn next_set(left: u64) -> Step
 pub fn set_bits(mask: u64) -> u64
     ensures { (result ≡ ones mask) × (result ≤ 64) }
 {
-    u64::count_ones(mask) as u64
+    u64::from(mask.count_ones())
 }

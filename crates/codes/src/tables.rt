@@ -3,48 +3,33 @@ ghost use Rattle.std.specs.Prelude.{◌≡◌, ◌+◌, ◌%◌};
 ghost use Rattle.layout.specs.Parts.{free};
 ghost use Rattle.fields.specs.Fields.{sf};
 ghost use Rattle.codes.specs.Fields.{mask_field};
-ghost use Rattle.codes.specs.Bytes.{mask_bytes, bias_bytes};
 ghost use Rattle.codes.specs.Tables.{mask_size, bias_size, first_satellite, mask_sf};
 
 use crate::Constellation;
 use crate::masks::{full_width, mask_bits};
 use layout::Field;
 
-// "Mask sizes for size codes 0 to 3", a byte each, that of code 0 the last. A number, and no array, which would be laid out on the stack at each call.
-fn mask_sizes(constellation: Constellation) -> u64
-    ensures { result ≡ mask_bytes constellation }
-{
-    match constellation {
-        Constellation::Gps => 0x40_38_2C_20,
-        Constellation::Glonass => 0x3F_30_24_18,
-        Constellation::Galileo => 0x40_36_2D_24,
-        Constellation::BeiDou => 0x40_37_2E_25,
-        Constellation::Qzss => 0x40_30_28_0A,
-    }
-}
+// "Mask sizes for size codes 0 to 3", a row a constellation. A `static` lies in the program's constants: no call lays it out on the stack.
+static MASK_SIZES: [[u32; 4]; 5] = [
+    [32, 44, 56, 64],
+    [24, 36, 48, 63],
+    [36, 45, 54, 64],
+    [37, 46, 55, 64],
+    [10, 40, 48, 64],
+];
 
 // "Bias masks", for size codes 0 and 1, likewise.
-fn bias_sizes(constellation: Constellation) -> u64
-    ensures { result ≡ bias_bytes constellation }
-{
-    match constellation {
-        Constellation::Gps => 0x0B_06,
-        Constellation::Glonass => 0x09_05,
-        Constellation::Galileo => 0x0F_08,
-        Constellation::BeiDou => 0x0F_08,
-        Constellation::Qzss => 0x0B_06,
-    }
-}
+static BIAS_SIZES: [[u32; 2]; 5] = [[6, 11], [5, 9], [8, 15], [8, 15], [6, 11]];
 
 // The bits of a satellite mask. A size code has two bits.
 pub fn mask_size(constellation: Constellation, size: u64) -> u32
     ensures { result ≡ mask_size constellation size }
 {
     if size < 4 {
-        let sizes = mask_sizes(constellation);
-        return ((sizes >> (8 * size)) % 256) as u32;
+        MASK_SIZES[constellation as usize][size as usize]
+    } else {
+        64
     }
-    64
 }
 
 // The bits of a bias mask. A size code has one bit.
@@ -52,10 +37,10 @@ pub fn bias_size(constellation: Constellation, size: u64) -> u32
     ensures { result ≡ bias_size constellation size }
 {
     if size < 2 {
-        let sizes = bias_sizes(constellation);
-        return ((sizes >> (8 * size)) % 256) as u32;
+        BIAS_SIZES[constellation as usize][size as usize]
+    } else {
+        15
     }
-    15
 }
 
 // The satellite number of mask position 0.
@@ -63,11 +48,8 @@ pub fn first_satellite(constellation: Constellation) -> u64
     ensures { result ≡ first_satellite constellation }
 {
     match constellation {
-        Constellation::Gps => 1,
-        Constellation::Glonass => 1,
-        Constellation::Galileo => 1,
-        Constellation::BeiDou => 1,
         Constellation::Qzss => 193,
+        _ => 1,
     }
 }
 

@@ -3,3 +3,4 @@ pub mod Columns
 pub mod Packed
 pub mod Meant
 pub mod Determined
+pub mod Numbered

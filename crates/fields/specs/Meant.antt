@@ -1,18 +1,21 @@
 -- Mirror of `line_of`: a field's line as numbers, out of its packed line and by an arm for what its codes mean; and the law that every field whose codes mean
 -- something has its arm.
-use Rattle.std.specs.Prelude.{◌≡◌, refl, List, [], ◌∷◌, Bool, true, false, ◌&&◌, ◌||◌, ℕ, ◌/◌, ◌%◌, ◌≤◌, ◌<◌, T, eqb}
+use Rattle.std.specs.Prelude.{◌≡◌, refl, List, [], ◌∷◌, Bool, true, false, ◌&&◌, ◌||◌, ℕ, ◌/◌, ◌%◌, ◌≤◌, ◌<◌, T, eqb, Option, Some, None}
 use Rattle.std.proofs.Common.{sym, ap, ◌∙◌, subst, inl, inr, arith, eqb→eq}
 use Rattle.std.specs.Float.Ieee.Fits.{and_l, and_r}
 use Rattle.std.proofs.Math.Facts.{or_yes}
 use mir.Val.{has_key}
 use types.Run.{OneOf, hit}
+use Rattle.fields.specs.declared.Meaning.{Meaning}
+use Rattle.fields.specs.declared.Steps.{Steps}
+use Rattle.fields.specs.declared.Steps.TheVariants.{About}
 use Rattle.fields.specs.declared.Numbers.{Numbers}
 use Rattle.fields.specs.Fields.{Means, nothing, counts, Line, table, or_else, find, line_of, sf}
-use Rattle.fields.specs.Columns.{means_columns, struct, numbers_of, width_small}
-use Rattle.fields.specs.Packed.{packed, packed_line, all_low, find-low, most-small, packed-width}
+use Rattle.fields.specs.Columns.{numbers_by, numbers_of, width_small}
+use Rattle.fields.specs.Packed.{packed, packed_line, most-small, invalid-small, packed-width}
 
 -- a line as numbers out of its packed line, with what its codes mean
-abbrev pub unpacked : (line steps middle per_unit meaning : ℕ) → Numbers
+abbrev pub unpacked : (line : ℕ) → Steps → (middle per_unit : ℕ) → Option Meaning → Numbers
 unpacked line steps middle per_unit meaning =
     record {
       width = line % 256;
@@ -24,8 +27,8 @@ unpacked line steps middle per_unit meaning =
       meaning = meaning;
     }
 
-abbrev pub unpacked_about : (line per_unit meaning : ℕ) → Numbers
-unpacked_about line per_unit meaning = unpacked line 0 (line / 256 % 65536 / 2) per_unit meaning
+abbrev pub unpacked_about : (line per_unit : ℕ) → Meaning → Numbers
+unpacked_about line per_unit meaning = unpacked line About (line / 256 % 65536 / 2) per_unit (Some meaning)
 
 -- ---- an arm, of some numbers
 
@@ -81,12 +84,8 @@ found-meant arms (line ∷ lines) t number out =
     go true e nothing q t later = q
     go true e (counts steps per_unit meaning) q t later = absurd (out (subst (λ n. T (keyed arms n)) (sym (eqb→eq number line.number (subst T (sym e) tt))) t))
 
-invalid-small : (number : ℕ) → (sf number).extra ≤ 0xFFFF
-unfolding sf line_of table all_low
-invalid-small number = find-low (λ line. line.invalid) table tt number
-
 unpacked-is : (width most invalid : ℕ) → width < 256 → most ≤ 0xFFFF → invalid ≤ 0xFFFF
-    → unpacked (packed width most invalid) 0 0 0 0 ≡ struct (width ∷ most ∷ invalid ∷ 0 ∷ 0 ∷ 0 ∷ 0 ∷ [])
+    → unpacked (packed width most invalid) About 0 0 None ≡ numbers_by width most invalid nothing
 unpacked-is width most invalid w m i = rw (packed-width width most invalid w, most-in, invalid-in) refl
   where
     most-in : packed width most invalid / 256 % 65536 ≡ most
@@ -96,11 +95,11 @@ unpacked-is width most invalid w m i = rw (packed-width width most invalid w, mo
     invalid-in = omega arith
 
 pub meaning-none : (arms : List (List ℕ)) → T (all_meant arms table) → (number line : ℕ) {r : Numbers} → Outside arms number
-    → line ≡ packed_line number → r ≡ unpacked line 0 0 0 0 → r ≡ numbers_of (line_of number)
+    → line ≡ packed_line number → r ≡ unpacked line About 0 0 None → r ≡ numbers_of (line_of number)
 unfolding packed_line sf line_of
 meaning-none arms t number line o e q =
     let l : Line = find table number in
     let plain : l.means ≡ nothing = found-meant arms table t number (not-keyed arms number o) in
-    q ∙ ap (λ x. unpacked x 0 0 0 0) e
+    q ∙ ap (λ x. unpacked x About 0 0 None) e
     ∙ unpacked-is l.width l.most l.invalid (omega (arith, width_small number)) (most-small number) (invalid-small number)
-    ∙ ap (λ m. struct (l.width ∷ l.most ∷ l.invalid ∷ means_columns m)) (sym plain)
+    ∙ ap (numbers_by l.width l.most l.invalid) (sym plain)

@@ -1,14 +1,14 @@
 -- Mirror of src/packed.rt, over the table of Fields.antt: a field's bits and the codes that it takes in one number; and the law that the number refuses what the field refuses.
-use Rattle.std.specs.Prelude.{◌≡◌, List, [], ◌∷◌, Bool, ◌&&◌, not, ℕ, zero, suc, ◌+◌, ◌*◌, ◌/◌, ◌%◌, ◌≤◌, ◌<◌, T, eqb, ltb, leb, Ok, Err}
+use Rattle.std.specs.Prelude.{◌≡◌, List, [], ◌∷◌, Bool, ◌&&◌, not, ℕ, zero, suc, ◌+◌, ◌*◌, ◌/◌, ◌%◌, ◌≤◌, ◌<◌, T, eqb, ltb, leb, get_or, Ok, Err}
 use Rattle.std.proofs.Math.Path.{refl}
-use Rattle.std.proofs.Common.{sym, ap, ◌∙◌, arith, leb→le, le-ltb, lt-ltb}
+use Rattle.std.proofs.Common.{ap, ◌∙◌, arith, leb→le, le-ltb}
 use Rattle.std.proofs.Math.Bool.{true, false}
 use Rattle.std.specs.Float.Ieee.Fits.{and_l, and_r}
 use Rattle.answer.specs.declared.Refusal.TheVariants as refusal
 use Rattle.layout.specs.declared.Field.{Field}
 use Rattle.layout.specs.Layout.{pick, judge}
 use Rattle.fields.specs.Fields.{Line, table, no_line, or_else, find, line_of, field_of, sf}
-use Rattle.fields.specs.Columns.{no_field}
+use Rattle.fields.specs.Columns.{no_field, width_small}
 
 -- in base 16 two digits for the bits, six for `most`, `invalid` in front
 abbrev pub packed : (width most invalid : ℕ) → ℕ
@@ -21,34 +21,25 @@ packed_line number = packed (sf number).width (sf number).most (sf number).extra
 unfoldable pub refuses : (line code : ℕ) → Bool
 refuses line code = ltb (line / 256 % 16777216) code && not (eqb code (line / 4294967296))
 
--- ---- the returns of the code
+-- ---- the code's table is the table
 
-pub packed-at : (n : ℕ) {number r : ℕ} → number ≡ n → r ≡ packed_line n → r ≡ packed_line number
-packed-at n e q = q ∙ ap packed_line (sym e)
+-- f k, f (k + 1), .. to n of them
+unfoldable pub lines : {A : Type 0} → (ℕ → A) → ℕ → ℕ → List A
+lines f zero k = []
+lines f (suc n) k = f k ∷ lines f n (suc k)
 
--- a number from `low` on that is none of so many is behind all of them: the last arm of such a `match`
-abbrev pub Others : (low k number : ℕ) → Type 0
-Others low zero number = Unit
-Others low (suc k) number = Others low k number × (number ≡ low + k → ⊥)
+pub line_at : {A : Type 0} (f : ℕ → A) (d : A) (n k i : ℕ) → i < n → get_or (lines f n k) i d ≡ f (k + i)
+unfolding lines
+line_at f d zero k i h = absurd (omega arith)
+line_at f d (suc n) k zero h = let e : k ≡ k + 0 = omega arith in ap f e
+line_at f d (suc n) k (suc i) h = let e : suc k + i ≡ k + suc i = omega arith in line_at f d n (suc k) i (omega arith) ∙ ap f e
 
-pub past-others : (low k : ℕ) {number : ℕ} → low ≤ number → Others low k number → low + k ≤ number
-past-others low zero h others = omega arith
-past-others low (suc k) h others = go (past-others low k h others.0) others.1
-  where
-    go : {number : ℕ} → low + k ≤ number → (number ≡ low + k → ⊥) → low + suc k ≤ number
-    go p n = omega arith
+pub packed_there : (l : List ℕ) → l ≡ lines packed_line 108 0 → (number : ℕ) → number < 108 → get_or l number 0 ≡ packed_line number
+packed_there l is number h = let e : 0 + number ≡ number = omega arith in ap (λ x. get_or x number 0) is ∙ line_at packed_line 0 108 0 number h ∙ ap packed_line e
 
 pub packed_none : (number : ℕ) → 107 < number → 0 ≡ packed_line number
 unfolding packed_line
 packed_none number h = ap (λ (f : Field). packed f.width f.most f.extra) (no_field number h refl)
-
-pub refuses-low : (line code : ℕ) → code ≤ line / 256 % 16777216 → false ≡ refuses line code
-unfolding refuses
-refuses-low line code h = rw (le-ltb (line / 256 % 16777216) code h)
-
-pub refuses-high : (line code : ℕ) → line / 256 % 16777216 < code → not (eqb code (line / 4294967296)) ≡ refuses line code
-unfolding refuses
-refuses-high line code h = rw (lt-ltb (line / 256 % 16777216) code h)
 
 -- ---- a field by its packed line
 
@@ -97,3 +88,23 @@ module _ (number width most invalid code : ℕ) (small : width < 256) (low : mos
   -- the field's verdict
   pub packed-judges : judge (field_of number width most invalid) code ≡ pick (refuses (packed width most invalid) code) (Err refusal.Field) (Ok tt)
   packed-judges = rw by_parts (judged-by (ltb most code) (eqb code invalid) refl refl (le-ltb code 0 (omega arith)))
+
+-- ---- the field by its packed line
+
+pub invalid-small : (number : ℕ) → (sf number).extra ≤ 0xFFFF
+unfolding sf line_of table all_low
+invalid-small number = find-low (λ line. line.invalid) table tt number
+
+unpacked-field : (number line bits width most invalid : ℕ) → width < 256 → most ≤ 0xFFFF → invalid ≤ 0xFFFF → line ≡ packed width most invalid → bits ≡ line % 256
+    → field_of number bits (line / 256 % 16777216) (line / 4294967296) ≡ field_of number width most invalid
+unpacked-field number line bits width most invalid w m i e q =
+    let b : bits ≡ width = omega arith in
+    let c : line / 256 % 16777216 ≡ most = omega arith in
+    let d : line / 4294967296 ≡ invalid = omega arith in
+    rw (b, c, d) refl
+
+pub field-is : (number line bits : ℕ) → line ≡ packed_line number → bits ≡ line % 256 → field_of number bits (line / 256 % 16777216) (line / 4294967296) ≡ sf number
+unfolding packed_line sf
+field-is number line bits e q =
+    let l : Line = line_of number in
+    unpacked-field number line bits l.width l.most l.invalid (omega (arith, width_small number)) (most-small number) (invalid-small number) e q

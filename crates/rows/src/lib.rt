@@ -25,13 +25,13 @@ pub fn one(group: u64) -> Row
     ensures { result ≡ one_row group }
 {
     Row {
-        group: group,
+        group,
         more: 0,
         tail: 0,
     }
 }
 
-// The entry at `at` is made the code, where there is one.
+// The entry at `at` is made the code, where there is one. By its index: once a slice's `get_mut` is over, a proof knows no element of it.
 pub fn store(sheet: &mut [u64], at: usize, code: u64)
     ensures { sheet.new ≡ set sheet.old at code }
 {
@@ -44,8 +44,9 @@ pub fn store(sheet: &mut [u64], at: usize, code: u64)
 pub fn counted(pos: usize, width: u32) -> usize
     ensures { (result ≡ onward pos width) × (pos < 2 ^ 33 → result < 2 ^ 33) }
 {
-    if sizes::SHEET_ROOM < pos {
-        return pos;
+    if pos <= sizes::SHEET_ROOM {
+        pos + width as usize
+    } else {
+        pos
     }
-    pos + width as usize
 }

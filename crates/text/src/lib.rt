@@ -9,13 +9,10 @@ pub fn put(out: &mut [u8], at: usize, text: &[u8]) -> usize
     ensures value { result ≡ end_after out.old at text.now }
     ensures out_after { out.new ≡ out_after out.old at text.now }
 {
-    if out.len() < at {
-        return at;
-    }
-    if out.len() - at < text.len() {
-        return at;
-    }
-    let end = at + text.len();
+    let end = match at.checked_add(text.len()) {
+        Some(end) if end <= out.len() => end,
+        _ => return at,
+    };
     out[at..end].copy_from_slice(text);
     end
 }
@@ -35,25 +32,23 @@ fn place_for(rt: &HostRuntime, out: &[u8], at: usize, text: &[u8]) -> usize
     ensures value { result ≡ place_for out.now at text.now }
     ensures upper_bound { result ≤ length out.now }
 {
-    if out.len() < at {
-        return 0;
+    match at.checked_add(text.len()) {
+        Some(end) if end <= out.len() => at,
+        _ => {
+            flush(rt, out, at);
+            0
+        }
     }
-    let room = out.len() - at;
-    if room < text.len() {
-        flush(rt, out, at);
-        return 0;
-    }
-    at
 }
 
 // Writes the `at` bytes that wait, and says whether all of them went out.
 pub fn flush(rt: &HostRuntime, out: &[u8], at: usize) -> bool
     ensures { length out.now < at → result ≡ false }
 {
-    if out.len() < at {
-        return false;
+    match out.get(..at) {
+        Some(waiting) => rt.write_all(waiting).is_ok(),
+        None => false,
     }
-    rt.write_all(&out[..at]).is_ok()
 }
 
 // A number in decimal digits, put as `put` does.

@@ -3,7 +3,7 @@ use Rattle.std.specs.Prelude.{Ok, Err}
 use mathlib.Core.Path.{◌≡◌, refl, sym, ap, ap₂, subst, ◌∙◌}
 use mathlib.Core.List.{[], ◌∷◌}
 use mathlib.Core.Bool.{Bool, true, false, cond}
-use Prim.Native.Nat.{ℕ, zero, suc, ◌+◌, ◌-◌, ◌*◌, ◌^◌, ◌≤◌, ◌<◌}
+use Prim.Native.Nat.{ℕ, zero, suc, ◌-◌, ◌^◌, ◌<◌}
 use native.Mathlib.Omega.{arith}
 use lib.Dec.{ltb}
 use lib.IntN.{ℤ, pos, negsuc, ◌-ℤ◌}
@@ -12,13 +12,10 @@ use lib.Ieee.{Float, binary64, div, of_int}
 use mir.Syntax.{w16, w32}
 use mir.Val.{Fits, SFits, to_z, of_z}
 use mir.ValLaws.{to_z_pos, to_z-of_z}
-use borrow.Author.Tests.{lt-ltb, le-ltb}
 use Rattle.answer.specs.declared.Refusal.TheVariants.{Field}
 use Rattle.values.specs.Values.{half_degrees, quotient, value_of, residual_by, residual_of, yaw_by, yaw_of, count_by, count_of, in_metres, orbit_with, orbit_from, orbit_of, number_of_value}
-use Rattle.values.specs.Columns.{steps_in, number_in, meant_in, meant_at, invalid_in}
 use Rattle.values.specs.declared.Value.{Value}
 use Rattle.values.specs.declared.Value.TheVariants.{Metres, Degrees, Tecu, Coefficient, Count, OfResidual, OfYaw, Refused}
-use Rattle.fields.specs.declared.Numbers.{Numbers}
 use Rattle.values.specs.declared.Residual.{Residual}
 use Rattle.values.specs.declared.Yaw.{Yaw}
 use Rattle.values.specs.Results.{ResidualAnswer}
@@ -61,77 +58,6 @@ spacing-past (suc zero) a b c d = absurd (b refl)
 spacing-past (suc (suc zero)) a b c d = absurd (c refl)
 spacing-past (suc (suc (suc zero))) a b c d = absurd (d refl)
 spacing-past (suc (suc (suc (suc n)))) a b c d = refl
-
-module _ (r : Numbers) (code : ℕ) (x : Float) where
-  pub number-about : r.steps ≡ 0 → x ≡ quotient (pos code -ℤ pos r.middle) r.per_unit → x ≡ number_in r code
-  number-about e q = rw e q
-
-  pub number-one-more : r.steps ≡ 1 → x ≡ quotient (pos (code + 1)) r.per_unit → x ≡ number_in r code
-  number-one-more e q = rw e q
-
-  pub number-sixfold : r.steps ≡ 2 → x ≡ quotient (pos (6 * code)) r.per_unit → x ≡ number_in r code
-  number-sixfold e q = rw e q
-
-  pub number-spacing : (n : ℕ) → (r.steps ≡ 0 → ⊥) → (r.steps ≡ 1 → ⊥) → (r.steps ≡ 2 → ⊥) → n ≡ half_degrees code
-      → x ≡ quotient (pos n) r.per_unit → x ≡ number_in r code
-  number-spacing n a b c e q = q ∙ go r.steps a b c
-    where
-      go : (k : ℕ) → (k ≡ 0 → ⊥) → (k ≡ 1 → ⊥) → (k ≡ 2 → ⊥) → quotient (pos n) r.per_unit ≡ quotient (steps_in k r.middle code) r.per_unit
-      go zero a b c = absurd (a refl)
-      go (suc zero) a b c = absurd (b refl)
-      go (suc (suc zero)) a b c = absurd (c refl)
-      go (suc (suc (suc k))) a b c = ap (λ (y : ℕ). quotient (pos y) r.per_unit) e
-
--- ---- what it means
-
-module _ (r : Numbers) (code : ℕ) where
-  pub meant-count : (n : ℕ) → r.meaning ≡ 5 → n ≡ code + 1 → Count n ≡ meant_in r code
-  meant-count n e q = rw (e, q)
-
-  module _ (x : Float) (is : x ≡ number_in r code) where
-    pub meant-metres : r.meaning ≡ 1 → Metres x ≡ meant_in r code
-    meant-metres e = rw e (ap Metres is)
-
-    pub meant-degrees : r.meaning ≡ 2 → Degrees x ≡ meant_in r code
-    meant-degrees e = rw e (ap Degrees is)
-
-    pub meant-tecu : r.meaning ≡ 3 → Tecu x ≡ meant_in r code
-    meant-tecu e = rw e (ap Tecu is)
-
-    pub meant-coefficient : r.meaning ≡ 4 → Coefficient x ≡ meant_in r code
-    meant-coefficient e = rw e (ap Coefficient is)
-
-    pub meant-residual-metres : r.meaning ≡ 6 → OfResidual (Residual.Metres x) ≡ meant_in r code
-    meant-residual-metres e = rw e (ap (λ (y : Float). OfResidual (Residual.Metres y)) is)
-
-    pub meant-residual-tecu : r.meaning ≡ 7 → OfResidual (Residual.Tecu x) ≡ meant_in r code
-    meant-residual-tecu e = rw e (ap (λ (y : Float). OfResidual (Residual.Tecu y)) is)
-
-    pub meant-yaw : (r.meaning ≡ 5 → ⊥) → (r.meaning ≡ 1 → ⊥) → (r.meaning ≡ 2 → ⊥) → (r.meaning ≡ 3 → ⊥) → (r.meaning ≡ 4 → ⊥) → (r.meaning ≡ 6 → ⊥) → (r.meaning ≡ 7 → ⊥)
-        → OfYaw (Yaw.Degrees x) ≡ meant_in r code
-    meant-yaw e a b c d f g = ap (λ (y : Float). OfYaw (Yaw.Degrees y)) is ∙ go r.meaning a b c d e f g
-      where
-        go : (k : ℕ) → (k ≡ 1 → ⊥) → (k ≡ 2 → ⊥) → (k ≡ 3 → ⊥) → (k ≡ 4 → ⊥) → (k ≡ 5 → ⊥) → (k ≡ 6 → ⊥) → (k ≡ 7 → ⊥)
-            → OfYaw (Yaw.Degrees (number_in r code)) ≡ meant_at k code (number_in r code)
-        go zero a b c d e f g = refl
-        go (suc zero) a b c d e f g = absurd (a refl)
-        go (suc (suc zero)) a b c d e f g = absurd (b refl)
-        go (suc (suc (suc zero))) a b c d e f g = absurd (c refl)
-        go (suc (suc (suc (suc zero)))) a b c d e f g = absurd (d refl)
-        go (suc (suc (suc (suc (suc zero))))) a b c d e f g = absurd (e refl)
-        go (suc (suc (suc (suc (suc (suc zero)))))) a b c d e f g = absurd (f refl)
-        go (suc (suc (suc (suc (suc (suc (suc zero))))))) a b c d e f g = absurd (g refl)
-        go (suc (suc (suc (suc (suc (suc (suc (suc k)))))))) a b c d e f g = refl
-
-module _ (k : ℕ) where
-  pub invalid-field : k < 6 → Refused Field ≡ invalid_in k
-  invalid-field h = rw (lt-ltb k 6 h)
-
-  pub invalid-residual : 6 ≤ k → k < 8 → OfResidual Residual.Invalid ≡ invalid_in k
-  invalid-residual h l = rw (le-ltb k 6 h, lt-ltb k 8 l)
-
-  pub invalid-yaw : 6 ≤ k → 8 ≤ k → OfYaw Yaw.Invalid ≡ invalid_in k
-  invalid-yaw h l = rw (le-ltb k 6 h, le-ltb k 8 l)
 
 -- ---- one variant of the value, and any other
 

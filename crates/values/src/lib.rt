@@ -6,7 +6,7 @@ ghost use Rattle.values.specs.Values.{half_degrees, quotient, value_of, residual
 ghost use Rattle.values.specs.Columns.{number_in, meant_in, invalid_in};
 
 use answer::Refusal;
-use fields::Numbers;
+use fields::{Meaning, Numbers, Steps};
 
 // "A residual is either invalid or a float in its unit": SF052, 053, 064 to 067, 082 and 083.
 #[derive(Clone, Copy)]
@@ -91,16 +91,12 @@ fn spacing(code: u16) -> u32
 fn number_in(line: Numbers, code: u16) -> f64
     ensures { result ≡ number_in line code }
 {
-    if line.steps == fields::ABOUT {
-        return quotient_about(code, line.middle, line.per_unit);
+    match line.steps {
+        Steps::About => quotient_about(code, line.middle, line.per_unit),
+        Steps::OneMore => quotient_of(code as u32 + 1, line.per_unit),
+        Steps::Sixfold => quotient_of(6 * (code as u32), line.per_unit),
+        Steps::Spacings => quotient_of(spacing(code), line.per_unit),
     }
-    if line.steps == fields::ONE_MORE {
-        return quotient_of(code as u32 + 1, line.per_unit);
-    }
-    if line.steps == fields::SIXFOLD {
-        return quotient_of(6 * (code as u32), line.per_unit);
-    }
-    quotient_of(spacing(code), line.per_unit)
 }
 
 // A count: code plus one.
@@ -111,45 +107,30 @@ fn one_more(code: u16) -> u64
 }
 
 // What a code that the field takes means.
-fn meant_in(line: Numbers, code: u16) -> Value
-    ensures { result ≡ meant_in line code }
+fn meant_in(line: Numbers, meaning: Meaning, code: u16) -> Value
+    ensures { result ≡ meant_in meaning line code }
 {
-    if line.meaning == fields::COUNT {
-        return Value::Count(one_more(code));
+    match meaning {
+        Meaning::Metres => Value::Metres(number_in(line, code)),
+        Meaning::Degrees => Value::Degrees(number_in(line, code)),
+        Meaning::Tecu => Value::Tecu(number_in(line, code)),
+        Meaning::Coefficient => Value::Coefficient(number_in(line, code)),
+        Meaning::Count => Value::Count(one_more(code)),
+        Meaning::ResidualMetres => Value::OfResidual(Residual::Metres(number_in(line, code))),
+        Meaning::ResidualTecu => Value::OfResidual(Residual::Tecu(number_in(line, code))),
+        Meaning::Yaw => Value::OfYaw(Yaw::Degrees(number_in(line, code))),
     }
-    let x = number_in(line, code);
-    if line.meaning == fields::METRES {
-        return Value::Metres(x);
-    }
-    if line.meaning == fields::DEGREES {
-        return Value::Degrees(x);
-    }
-    if line.meaning == fields::TECU {
-        return Value::Tecu(x);
-    }
-    if line.meaning == fields::COEFFICIENT {
-        return Value::Coefficient(x);
-    }
-    if line.meaning == fields::RESIDUAL_METRES {
-        return Value::OfResidual(Residual::Metres(x));
-    }
-    if line.meaning == fields::RESIDUAL_TECU {
-        return Value::OfResidual(Residual::Tecu(x));
-    }
-    Value::OfYaw(Yaw::Degrees(x))
 }
 
 // What the one code that a field takes besides its range means: invalid for a residual and the yaw; no other field has one.
-fn invalid_in(meaning: u16) -> Value
+fn invalid_in(meaning: Meaning) -> Value
     ensures { result ≡ invalid_in meaning }
 {
-    if meaning < fields::RESIDUAL_METRES {
-        return Value::Refused(Refusal::Field);
+    match meaning {
+        Meaning::ResidualMetres | Meaning::ResidualTecu => Value::OfResidual(Residual::Invalid),
+        Meaning::Yaw => Value::OfYaw(Yaw::Invalid),
+        _ => Value::Refused(Refusal::Field),
     }
-    if meaning < fields::YAW {
-        return Value::OfResidual(Residual::Invalid);
-    }
-    Value::OfYaw(Yaw::Invalid)
 }
 
 // The value of the field SF `sf` at a code; FIELD for a code that the field does not take and for a field without a value.
@@ -157,14 +138,14 @@ pub fn value_of(sf: u16, code: u64) -> Value
     ensures { result ≡ value_of sf code }
 {
     let line = fields::line_of(sf);
-    if line.meaning == 0 {
+    let Some(meaning) = line.meaning else {
         return Value::Refused(Refusal::Field);
-    }
+    };
     if code <= line.most as u64 {
-        return meant_in(line, code as u16);
+        return meant_in(line, meaning, code as u16);
     }
     if code == line.invalid as u64 {
-        return invalid_in(line.meaning);
+        return invalid_in(meaning);
     }
     Value::Refused(Refusal::Field)
 }

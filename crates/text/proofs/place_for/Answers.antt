@@ -1,13 +1,12 @@
 -- Where it has room a text goes behind the bytes that wait, else to the start.
-use Rattle.text.proofs.Putting.{place-past, place-start, place-behind}
-use borrow.Author.Rules.{rules}
+use Rattle.std.proofs.Common.{rules}
+use Rattle.text.specs.Text.{fits, place_for}
 use Rattle.text.proofs.place_for.Goals as goal
 
-pub returns-then-out-at : goal.returns-then-out-at
-returns-then-out-at c = search (place-past, rules)
+pub returns-in-Some-clause-value : goal.returns-in-Some-clause-value
+unfolding place_for fits
+returns-in-Some-clause-value c = search rules
 
-pub returns-then-room-text : goal.returns-then-room-text
-returns-then-room-text c = search (place-start, rules)
-
-pub returns : goal.returns
-returns c = search (place-behind, rules)
+pub returns-in_default-clause-value : goal.returns-in_default-clause-value
+unfolding place_for fits
+returns-in_default-clause-value c = search rules

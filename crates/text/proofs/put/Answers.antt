@@ -1,13 +1,28 @@
 -- With no room nothing is put; else the text takes the place of as many bytes.
-use Rattle.text.proofs.Putting.{end-past, out-past, end_short, out-short, end-put, out-put}
-use borrow.Author.Rules.{rules}
+use Rattle.std.proofs.Common.{rules}
+use Rattle.text.specs.Text.{fits, end_after, out_after}
+use Rattle.text.proofs.Putting.{out-put}
 use Rattle.text.proofs.put.Goals as goal
 
-pub returns-then-out-at : goal.returns-then-out-at
-returns-then-out-at c = search (end-past, out-past, rules)
+pub returns-in_default-clause-value : goal.returns-in_default-clause-value
+unfolding end_after fits
+returns-in_default-clause-value c = search rules
 
-pub returns-then-out-at-2 : goal.returns-then-out-at-2
-returns-then-out-at-2 c = search (end_short, out-short, rules)
+pub returns-in_default-clause-out_after : goal.returns-in_default-clause-out_after
+unfolding out_after fits
+returns-in_default-clause-out_after c = search rules
 
-pub returns : goal.returns
-returns c = search (end-put, out-put, rules)
+pub returns-in_default-2-clause-value : goal.returns-in_default-2-clause-value
+unfolding end_after fits
+returns-in_default-2-clause-value c = search rules
+
+pub returns-in_default-2-clause-out_after : goal.returns-in_default-2-clause-out_after
+unfolding out_after fits
+returns-in_default-2-clause-out_after c = search rules
+
+pub returns-clause-value : goal.returns-clause-value
+unfolding end_after fits
+returns-clause-value c = search rules
+
+pub returns-clause-out_after : goal.returns-clause-out_after
+returns-clause-out_after c = search (out-put, rules)

@@ -1,27 +1,22 @@
-use Rattle.codes.specs.Listing.{listing-starts, listing-number, listing-room, listing-bytes, listing-count, listing-less, listing-goes, listing-ends}
-use borrow.Author.Rules.{rules}
+-- The satellites that come are put behind those found so far; when none is to come, all are found.
+use Rattle.std.proofs.Common.{rules}
+use Rattle.codes.specs.Listing.{listing-starts, listing-room, listing-bytes, listing-count, listing-goes, listing-ends}
 use Rattle.codes.proofs.satellites.satellites_of.Goals as goal
 
-pub loop-left-init : goal.loop-left-init
-loop-left-init c = search (listing-starts, rules)
-
-pub overflow_add-numbers : goal.overflow_add-numbers
-overflow_add-numbers c = search (listing-number, rules)
+pub loop-number-init : goal.loop-number-init
+loop-number-init c = ((tt, tt), search (listing-starts, rules))
 
 pub offset_bounds-numbers-count : goal.offset_bounds-numbers-count
-offset_bounds-numbers-count c = search (listing-bytes, rules)
+offset_bounds-numbers-count c = record { fits = listing-bytes _ _ _ _ c.loop-number.invariant.1 _ _ c.in-Some.ensures.steps }
 
 pub bounds-numbers-count : goal.bounds-numbers-count
-bounds-numbers-count c = search (listing-room, rules)
+bounds-numbers-count c = listing-room _ _ _ _ c.loop-number.invariant.1 _ _ c.in-Some.ensures.steps
 
 pub overflow_add-count : goal.overflow_add-count
-overflow_add-count c = search (listing-count, rules)
+overflow_add-count c = record { fits = listing-count _ _ _ _ c.loop-number.invariant.1 _ _ c.in-Some.ensures.steps }
 
-pub loop-left-smaller : goal.loop-left-smaller
-loop-left-smaller c = search (listing-less, rules)
-
-pub loop-left-preserved : goal.loop-left-preserved
-loop-left-preserved c = search (listing-goes, rules)
+pub loop-number-preserved : goal.loop-number-preserved
+loop-number-preserved c = ((tt, tt), search (listing-goes, rules))
 
 pub returns : goal.returns
 returns c = search (listing-ends, rules)

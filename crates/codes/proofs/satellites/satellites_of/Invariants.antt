@@ -1,9 +1,11 @@
--- The loop keeps the numbers found so far, zeros behind them, and that what is left of the mask has the others (Listing.antt).
+-- The loop keeps the numbers found so far, zeros behind them, and that the others are to come (Listing.antt).
+
+use Rattle.codes.specs.Fields.{satellites_of}
 use Rattle.codes.specs.Listing.{Listing}
 use Rattle.codes.proofs.satellites.satellites_of.Given as goal
 
-abbrev pub invariant-loop-left : goal.invariant-loop-left
-invariant-loop-left l = Listing l.first l.initial.left l.left l.numbers l.count
-
-abbrev pub decreases-loop-left : goal.decreases-loop-left
-decreases-loop-left l = l.left
+abbrev pub invariant-loop-number : goal.invariant-loop-number
+invariant-loop-number l =
+    ((goal.iterator-loop-number).can_next l.number-iterator ×
+    (goal.iterator-loop-number).is_finite l.number-iterator) ×
+    Listing (satellites_of l.fn.constellation l.fn.size l.fn.mask) l.number-iterator l.numbers l.count

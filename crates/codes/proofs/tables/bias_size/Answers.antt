@@ -1,11 +1,12 @@
--- The byte of a size code is the size of the table; past them both give the last default.
-use Rattle.codes.specs.Bytes.{bias-byte}
-use Rattle.codes.proofs.Laws.{bias-past}
-use borrow.Author.Rules.{rules}
+-- The row and the column of a table; past the columns both give the last default.
+use Rattle.std.proofs.Common.{rules}
+use Rattle.codes.specs.Tables.{bias_mask_sizes}
+use Rattle.codes.proofs.Laws.{bias-there, bias-past}
 use Rattle.codes.proofs.tables.bias_size.Goals as goal
 
 pub returns-then-size-lt2 : goal.returns-then-size-lt2
-returns-then-size-lt2 c = search (bias-byte, rules)
+unfolding bias_mask_sizes
+returns-then-size-lt2 c = search (bias-there, rules)
 
-pub returns : goal.returns
-returns c = search (bias-past, rules)
+pub returns-else-size-lt2 : goal.returns-else-size-lt2
+returns-else-size-lt2 c = search (bias-past, rules)

@@ -1,10 +1,12 @@
 -- By `most`, then by `invalid`.
-use Rattle.fields.specs.Packed.{refuses-low, refuses-high}
-use borrow.Author.Rules.{rules}
+use Rattle.std.proofs.Common.{rules}
+use Rattle.fields.specs.Packed.{refuses}
 use Rattle.fields.proofs.packed.refuses.Goals as goal
 
-pub returns-then-code-line : goal.returns-then-code-line
-returns-then-code-line c = search (refuses-low, rules)
+pub returns-then-line-code : goal.returns-then-line-code
+unfolding refuses
+returns-then-line-code c = search rules
 
-pub returns : goal.returns
-returns c = search (refuses-high, rules)
+pub returns-else-line-code : goal.returns-else-line-code
+unfolding refuses
+returns-else-line-code c = search rules
