@@ -1,41 +1,16 @@
--- Laws: numbers, or floats, laid into a lent slice one by one; an answer when a slice has room, and when it has not.
+-- Laws: an answer when a slice has room, and when it has not.
 use mathlib.Core.Path.{◌≡◌, refl, sym, ap, ap₂, ◌∙◌}
 use mathlib.Core.List.{List, [], ◌∷◌, ◌++◌}
-use mathlib.Core.Bool.{true, false}
-use Prim.Native.Nat.{ℕ, zero, suc, ◌+◌, ◌*◌, ◌≤◌, ◌<◌}
-use native.Mathlib.Nat.{le_antisymm, le_of_suc-le-suc, not-suc-le-zero}
-use native.Mathlib.Numerals.{add-one}
+use mathlib.Core.Bool.{Bool, true, false, cond}
+use Prim.Native.Nat.{ℕ, ◌+◌, ◌*◌, ◌≤◌, ◌<◌, min}
 use native.Mathlib.Omega.{arith}
 use lib.Dec.{ltb}
-use lib.ListN.{length, take, drop, get_or, set, length-set}
-use lib.Seq.{take_all}
-use borrow.Author.Tests.{lt-ltb, le-ltb}
+use lib.ListN.{length, drop}
+use borrow.Author.Tests.{lt-ltb, le-ltb, ltb-true, ltb-false}
 use Rattle.answer.specs.Number.{number_of}
 use Rattle.answer.specs.Place.{sf_in, at_in}
 use Rattle.answer.specs.declared.Fault.{Fault}
 use Rattle.export.specs.Numbers.{Told, room_for, laid, answered, lent_after, at_most, most_sf, most_place, answer_of}
-
--- ---- numbers, or floats, laid into a slice
-
-store : {A : Type 0} (src dst : List A) (d : A) (i : ℕ) → i < length src → i < length dst → set (take i src ++ drop i dst) i (get_or src i d) ≡ take (suc i) src ++ drop (suc i) dst
-store [] dst d i h k = absurd (not-suc-le-zero h)
-store (x ∷ xs) [] d i h k = absurd (not-suc-le-zero k)
-store (x ∷ xs) (y ∷ ys) d zero h k = refl
-store (x ∷ xs) (y ∷ ys) d (suc i) h k = ap (λ l. x ∷ l) (store xs ys d i (le_of_suc-le-suc h) (le_of_suc-le-suc k))
-
-module _ {A : Type 0} (numbers out₀ out : List A) (i : ℕ) (m : length numbers ≤ length out₀) (inv : out ≡ take i numbers ++ drop i out₀) where
-  pub put-more : (d : A) → i < length numbers → set out i (get_or numbers i d) ≡ take (i + 1) numbers ++ drop (i + 1) out₀
-  put-more d h =
-      ap (λ l. set l i (get_or numbers i d)) inv
-      ∙ store numbers out₀ d i h (omega arith)
-      ∙ ap (λ (n : ℕ). take n numbers ++ drop n out₀) (sym (add-one i))
-
-  pub put_all : length numbers ≤ i → i ≤ length numbers → out ≡ laid numbers out₀
-  unfolding laid
-  put_all h k = inv ∙ ap (λ (n : ℕ). take n numbers ++ drop n out₀) (le_antisymm k h) ∙ ap (λ l. l ++ drop (length numbers) out₀) (take_all (length numbers) numbers (omega arith))
-
-pub length-put : {A : Type 0} (out out₀ : List A) (i : ℕ) (x : A) → length out ≡ length out₀ → length (set out i x) ≡ length out₀
-length-put out out₀ i x h = length-set out i x ∙ h
 
 -- ---- a slice that has room, and one that has not
 
@@ -97,34 +72,34 @@ module _ {S : Type 0} (told : S → Told) (a v : S) where
 pub cons-as : (x y : ℕ) (xs ys : List ℕ) → x ≡ y → xs ≡ ys → x ∷ xs ≡ y ∷ ys
 cons-as x y xs ys e f = ap₂ (λ (x : ℕ) (xs : List ℕ). x ∷ xs) e f
 
--- ---- nothing is laid
+-- ---- numbers that took the first places, and nothing that is laid
+
+pub laid-behind : {A : Type 0} (numbers lent part : List A) → part ≡ numbers → part ++ drop (length numbers) lent ≡ laid numbers lent
+unfolding laid
+laid-behind numbers lent part e = ap (λ l. l ++ drop (length numbers) lent) e
 
 pub laid_none : {A : Type 0} (lent : List A) → lent ≡ laid [] lent
 unfolding laid
 laid_none lent = refl
 
--- ---- a number, or the highest that counts, which the code has as w
+-- ---- a number, or the highest that counts
 
-module _ (most w x : ℕ) (e : w ≡ most) where
-  pub under : x < w → x ≡ at_most most x
-  unfolding at_most
-  under h = let z : ltb x most ≡ true = lt-ltb _ _ (rw e at h) in rw z
+min-is : (most x : ℕ) → min x most ≡ at_most most x
+unfolding at_most
+min-is most x = go (ltb x most) refl
+  where
+    go : (b : Bool) → ltb x most ≡ b → min x most ≡ cond b x most
+    go true e = omega (arith, ltb-true x most e)
+    go false e = omega (arith, ltb-false x most e)
 
-  pub over : w ≤ x → most ≡ at_most most x
-  unfolding at_most
-  over h = let z : ltb x most ≡ false = le-ltb _ _ (rw e at h) in rw z
-
-module _ (most x : ℕ) where
-  pub most-under : x < most → (x ≡ at_most most x) × (x ≤ most)
-  most-under h = (under most most x refl h, omega arith)
-
-  pub most-over : most ≤ x → (most ≡ at_most most x) × (most ≤ most)
-  most-over h = (over most most x refl h, omega arith)
+pub most-is : (most x m : ℕ) → m ≡ min x most → m ≡ at_most most x
+most-is most x m e = e ∙ min-is most x
 
 -- ---- a refusal and its place in one number
 
-module _ (fault : Fault) (number wide sf most-sf at count most-at : ℕ) (e : number ≡ number_of fault.refusal) (w : wide ≡ number) (s : sf ≡ sf_in fault.place)
-    (p : (most-sf ≡ at_most most_sf sf) × (most-sf ≤ most_sf)) (a : at ≡ at_in fault.place) (c : count ≡ at) (q : (most-at ≡ at_most most_place count) × (most-at ≤ most_place)) where
-  pub answer-made : wide + (256 * most-sf + 4294967296 * most-at) ≡ answer_of fault
-  unfolding answer_of
-  answer-made = rw (w, e, p.0, s, q.0, c, a)
+pub answer-made : (fault : Fault) (number sf m at n : ℕ) → number ≡ number_of fault.refusal → sf ≡ sf_in fault.place → m ≡ min sf most_sf → at ≡ at_in fault.place → n ≡ min at most_place
+    → number + (256 * m + 4294967296 * n) ≡ answer_of fault
+unfolding answer_of
+answer-made fault number sf m at n e s p a q =
+    ap₂ (λ x y. x + y) e
+    (ap₂ (λ x y. 256 * x + 4294967296 * y) (most-is most_sf sf m p ∙ ap (at_most most_sf) s) (most-is most_place at n q ∙ ap (at_most most_place) a))

@@ -1,8 +1,8 @@
 -- Laws: a book and a tray taken out of numbers and put back, and what is told of a stream's answer, worded as the code makes them.
-use mathlib.Core.Path.{◌≡◌, refl, sym, ap, ◌∙◌}
+use mathlib.Core.Path.{◌≡◌, sym, ap, ◌∙◌}
 use mathlib.Core.Bool.{true, false}
 use mathlib.Core.List.{List}
-use Prim.Native.Nat.{ℕ, ◌+◌, ◌≤◌, ◌<◌}
+use Prim.Native.Nat.{ℕ, ◌+◌, ◌≤◌, ◌<◌, min}
 use lib.Dec.{eqb}
 use lib.ListN.{length, get_or}
 use borrow.Author.Tests.{eq-eqb, ne_eqb}
@@ -13,43 +13,33 @@ use Rattle.book.specs.declared.Book.{Book}
 use Rattle.book.specs.Book.{no_book, book_of as book_with}
 use Rattle.export.specs.Numbers.{laid, at_most}
 use Rattle.export.specs.Frames.{header_room}
-use Rattle.export.specs.Streams.{tray_room, told_room, rooms, tray_in, event_of, told_said, told_answer, tray_said, tray_told, header_said, header_told}
+use Rattle.export.specs.Streams.{tray_room, told_room, rooms, tray_in, told_said, told_answer, tray_said, tray_told, header_said, header_told}
 use Rattle.export.specs.Books.{book_in}
-use Rattle.export.proofs.Laws.{under, over, short-is, enough-is}
+use Rattle.export.proofs.Laws.{most-is, short-is, enough-is}
 
 -- ---- a book as numbers
 
-pub aiou-under : (x : ℕ) → x < 16 → x + 1 ≡ at_most 16 x + 1
-aiou-under x h = ap (λ y. y + 1) (under 16 16 x refl h)
-
-pub aiou-over : (x : ℕ) → 16 ≤ x → 17 ≡ at_most 16 x + 1
-aiou-over x h = ap (λ y. y + 1) (over 16 16 x refl h)
-
-pub siou-under : (x : ℕ) → x < 513 → x ≡ at_most 513 x
-siou-under x h = under 513 513 x refl h
-
-pub siou-over : (x : ℕ) → 513 ≤ x → 513 ≡ at_most 513 x
-siou-over x h = over 513 513 x refl h
+pub aiou-is : (x m : ℕ) → m ≡ min x 16 → m + 1 ≡ at_most 16 x + 1
+aiou-is x m e = ap (λ y. y + 1) (most-is 16 x m e)
 
 module _ (s : List ℕ) where
   pub book-empty : (b : Book) (n : ℕ) → n ≡ get_or s 2 0 → n ≡ 0 → b ≡ no_book → b ≡ book_in s
   unfolding book_in
   book-empty b n m h e = let z : eqb (get_or s 2 0) 0 ≡ true = eq-eqb _ _ (sym m ∙ h) in rw z e
 
-  pub book-areas : (b : Book) (x y z a i n : ℕ) → n ≡ get_or s 2 0 → (n ≡ 0 → ⊥) → a ≡ get_or s 0 0 → x ≡ at_most 16 a + 1 → i ≡ get_or s 1 0 → y ≡ at_most 513 i → z ≡ n
-      → b ≡ book_with x y z → b ≡ book_in s
+  pub book-areas : (b : Book) (x y a i n : ℕ) → n ≡ get_or s 2 0 → (n ≡ 0 → ⊥) → a ≡ get_or s 0 0 → x ≡ at_most 16 a + 1 → i ≡ get_or s 1 0 → y ≡ at_most 513 i
+      → b ≡ book_with x y n → b ≡ book_in s
   unfolding book_in
-  book-areas b x y z a i n m h l p k o q e =
+  book-areas b x y a i n m h l p k o e =
       let u : eqb (get_or s 2 0) 0 ≡ false = ne_eqb _ _ (λ w. h (m ∙ w)) in
       let v : b ≡ book_with (at_most 16 (get_or s 0 0) + 1) (at_most 513 (get_or s 1 0)) (get_or s 2 0) = cc in
       rw u v
 
 -- ---- a tray as numbers
 
-pub tray-in : (s : List ℕ) (x y z a b n : ℕ) → a ≡ get_or s 0 0 → b ≡ get_or s 1 0 → n ≡ get_or s 2 0 → x ≡ a → y ≡ b → z ≡ at_most most_noise n
-    → record { held = x; shown = y; noise = z } ≡ tray_in s
+pub tray-in : (s : List ℕ) (a b n z : ℕ) → a ≡ get_or s 0 0 → b ≡ get_or s 1 0 → n ≡ get_or s 2 0 → z ≡ at_most most_noise n → record { held = a; shown = b; noise = z } ≡ tray_in s
 unfolding tray_in
-tray-in s x y z a b n e f g p q r = cc
+tray-in s a b n z e f g r = cc
 
 -- ---- three slices that have room, and one that has not
 
@@ -88,7 +78,3 @@ module _ (a : Answer) (s : Said) (e : a.said ≡ s) where
   pub said-header : (lent now : List ℕ) → now ≡ laid (header_said s) lent → now ≡ laid (header_told a) lent
   unfolding header_told
   said-header lent now p = rw e p
-
--- a noise that was counted
-pub event-as : (event used noise k : ℕ) (lent now : List ℕ) → now ≡ laid (event_of event used k) lent → k ≡ noise → now ≡ laid (event_of event used noise) lent
-event-as event used noise k lent now p e = p ∙ ap (λ n. laid (event_of event used n) lent) e

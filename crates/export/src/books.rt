@@ -3,7 +3,7 @@ ghost use Rattle.std.specs.Prelude.{◌≡◌, ◌≤◌, ◌+◌, ◌-◌, leng
 ghost use Rattle.export.specs.Numbers.{room_for, laid, stored, answered, lent_after, at_most};
 ghost use Rattle.export.specs.Books.{book_room, book_in, book_of, take_of, take_leaves, told_taken, kept_of, kept_leaves, told_kept, read_of, read_leaves, told_read};
 
-use crate::numbers::{ROOM, ROOM_ANSWER, answer_of, at, count, put};
+use crate::numbers::{ROOM, ROOM_ANSWER, answer_of, at, put};
 use book::{Book, Taken};
 use kept::{ReadKept, Written};
 
@@ -14,36 +14,21 @@ pub const BOOK: usize = 3;
 fn aiou_in(x: u64) -> u8
     ensures { result ≡ at_most 16 x + 1 }
 {
-    if x < 16 {
-        return (x + 1) as u8;
-    }
-    17
+    (x.min(16) + 1) as u8
 }
 
 // SIOU + 1, up to 513, with which no book is sound.
 fn siou_in(x: u64) -> u16
     ensures { result ≡ at_most 513 x }
 {
-    if x < 513 {
-        return x as u16;
-    }
-    513
-}
-
-fn size(x: u64) -> usize
-    ensures { result ≡ x }
-{
-    x as usize
+    x.min(513) as u16
 }
 
 // The AIOU of a book that has one, 0 of one that has none.
 pub fn aiou_of(x: u8) -> u64
     ensures { result ≡ x - 1 }
 {
-    if x == 0 {
-        return 0;
-    }
-    (x - 1) as u64
+    x.saturating_sub(1) as u64
 }
 
 pub fn siou_of(x: u16) -> u64
@@ -60,7 +45,7 @@ pub fn book_in(book: &[u64]) -> Book
     if areas == 0 {
         return book::no_book();
     }
-    book::book_of(aiou_in(at(book, 0)), siou_in(at(book, 1)), size(areas))
+    book::book_of(aiou_in(at(book, 0)), siou_in(at(book, 1)), areas as usize)
 }
 
 // A book's numbers into the places from the start on.
@@ -68,8 +53,7 @@ pub fn put_book(held: Book, book: &mut [u64])
     ensures { book.new ≡ stored (book_of held) book.old }
 {
     let aiou = aiou_of(held.aiou_plus_one);
-    let siou_plus_one = siou_of(held.siou_plus_one);
-    let numbers = [aiou, siou_plus_one, count(held.count)];
+    let numbers = [aiou, held.siou_plus_one as u64, held.count as u64];
     put(&numbers, book);
 }
 
@@ -149,7 +133,7 @@ fn tell_kept(answer: Written, written: &mut [u64]) -> u8
 {
     match answer {
         Ok(n) => {
-            let numbers = [count(n)];
+            let numbers = [n as u64];
             put(&numbers, written);
             0
         }

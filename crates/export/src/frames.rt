@@ -5,7 +5,7 @@ ghost use Rattle.frame.specs.Write.{written, out_after};
 ghost use Rattle.export.specs.Numbers.{room_for, laid, stored, answered, lent_after};
 ghost use Rattle.export.specs.Frames.{header_room, is_sealed, sealing_of, header_of, told_checked, parts_of, told_written};
 
-use crate::numbers::{ROOM, count, put, wide};
+use crate::numbers::{ROOM, put};
 use frame::{Checked, Frame, Parts, Seal, Sealing, Written};
 
 // The numbers that a header takes.
@@ -42,21 +42,21 @@ pub fn put_header(frame: Frame, header: &mut [u64])
     let seal = frame.seal;
     let sealing = sealing_of(seal);
     let numbers = [
-        count(frame.length),
-        wide(frame.message_type),
-        count(frame.payload_length),
+        frame.length as u64,
+        frame.message_type as u64,
+        frame.payload_length as u64,
         is_sealed(seal),
-        wide(frame.check_type),
-        wide(frame.subtype),
-        wide(frame.tag_kind),
+        frame.check_type as u64,
+        frame.subtype as u64,
+        frame.tag_kind as u64,
         frame.tag,
-        wide(frame.solution),
-        wide(frame.processor),
-        wide(sealing.id),
-        wide(sealing.sequence),
-        wide(sealing.authentication),
-        wide(sealing.authentication_length),
-        count(frame.payload_at),
+        frame.solution as u64,
+        frame.processor as u64,
+        sealing.id as u64,
+        sealing.sequence as u64,
+        sealing.authentication as u64,
+        sealing.authentication_length as u64,
+        frame.payload_at as u64,
     ];
     put(&numbers, header);
 }
@@ -94,7 +94,7 @@ fn tell_written(answer: Written, size: &mut [u64]) -> u8
 {
     match answer {
         Ok(n) => {
-            let numbers = [count(n)];
+            let numbers = [n as u64];
             put(&numbers, size);
             0
         }

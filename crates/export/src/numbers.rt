@@ -1,6 +1,6 @@
 // Numbers in and out of lent slices.
-ghost use Rattle.std.specs.Prelude.{◌≡◌, get_or, ◌≤◌};
-ghost use Rattle.export.specs.Numbers.{stored, at_most, answer_of};
+ghost use Rattle.std.specs.Prelude.{◌≡◌, get_or};
+ghost use Rattle.export.specs.Numbers.{stored, answer_of};
 
 use answer::Fault;
 
@@ -27,24 +27,13 @@ pub fn count(n: usize) -> u64
     n as u64
 }
 
-fn at_most(most: u64, x: u64) -> u64
-    ensures { (result ≡ at_most most x) × (result ≤ most) }
-{
-    if x < most {
-        return x;
-    }
-    most
-}
-
 // A refusal and its place in one number: document 01's number, 2^8 times the field's number, 2^32 times the bit or the entry.
 pub fn answer_of(fault: Fault) -> u64
     ensures { result ≡ answer_of fault }
 {
-    let refusal = fault.refusal;
-    let place = fault.place;
-    let number = wide(answer::number(refusal));
-    let sf = at_most(MOST_SF, answer::sf_in(place));
-    let at = at_most(MOST_PLACE, count(answer::at_in(place)));
+    let number = answer::number(fault.refusal) as u64;
+    let sf = answer::sf_in(fault.place).min(MOST_SF);
+    let at = (answer::at_in(fault.place) as u64).min(MOST_PLACE);
     number + (256 * sf + 4294967296 * at)
 }
 
@@ -52,10 +41,7 @@ pub fn answer_of(fault: Fault) -> u64
 pub fn at(numbers: &[u64], place: usize) -> u64
     ensures { result ≡ get_or numbers.now place 0 }
 {
-    if place < numbers.len() {
-        return numbers[place];
-    }
-    0
+    numbers.get(place).copied().unwrap_or(0)
 }
 
 // Numbers take the places from the start on; what lies behind them stays. Where there are fewer places, nothing is stored.
@@ -65,9 +51,5 @@ pub fn put(numbers: &[u64], out: &mut [u64])
     if out.len() < numbers.len() {
         return;
     }
-    let mut i = 0;
-    while i < numbers.len() {
-        out[i] = numbers[i];
-        i += 1;
-    }
+    out[..numbers.len()].copy_from_slice(numbers);
 }

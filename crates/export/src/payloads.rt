@@ -5,9 +5,7 @@ ghost use Rattle.sheet.specs.Sheet.{judged, read_answer, sheet_after, judged_she
 ghost use Rattle.export.specs.Numbers.{room_for, laid, answered, lent_after};
 ghost use Rattle.export.specs.Payloads.{counts_room, told_read, told_written};
 
-use sheet::Written;
-use quick::Extent;
-use crate::numbers::{ROOM_ANSWER, answer_of, count, put};
+use crate::numbers::{ROOM_ANSWER, answer_of, put};
 use sheet::{ReadAnswer, WriteAnswer};
 
 // Two counts are told.
@@ -20,8 +18,8 @@ fn tell_read(answer: ReadAnswer, counts: &mut [u64]) -> u64
     ensures counts_after { counts.new ≡ laid (told_read answer).numbers counts.old }
 {
     match answer {
-        Ok(Extent { bits, entries }) => {
-            let numbers = [count(bits), count(entries)];
+        Ok(read) => {
+            let numbers = [read.bits as u64, read.entries as u64];
             put(&numbers, counts);
             0
         }
@@ -36,8 +34,8 @@ fn tell_written(answer: WriteAnswer, counts: &mut [u64]) -> u64
     ensures counts_after { counts.new ≡ laid (told_written answer).numbers counts.old }
 {
     match answer {
-        Ok(Written { bits, bytes }) => {
-            let numbers = [count(bits), count(bytes)];
+        Ok(written) => {
+            let numbers = [written.bits as u64, written.bytes as u64];
             put(&numbers, counts);
             0
         }

@@ -6,7 +6,7 @@ ghost use Rattle.export.specs.Frames.{header_room};
 ghost use Rattle.export.specs.Streams.{tray_room, told_room, rooms, tray_in, tray_of, event_of, call_of, call_leaves, finish_of, finish_leaves, told_answer, tray_told, header_told};
 
 use crate::frames::{HEADER, put_header};
-use crate::numbers::{ROOM, at, count, put};
+use crate::numbers::{ROOM, at, put};
 use stream::{Answer, Said, Tray};
 
 // The numbers of a tray, and of an event.
@@ -18,10 +18,7 @@ const TOLD: usize = 3;
 fn noise_in(x: u64) -> u32
     ensures { result ≡ at_most most_noise x }
 {
-    if x < noise_count(sizes::MOST_NOISE) {
-        return x as u32;
-    }
-    sizes::MOST_NOISE
+    x.min(sizes::MOST_NOISE as u64) as u32
 }
 
 pub fn noise_count(x: u32) -> u64
@@ -30,19 +27,13 @@ pub fn noise_count(x: u32) -> u64
     x as u64
 }
 
-fn size(x: u64) -> usize
-    ensures { result ≡ x }
-{
-    x as usize
-}
-
 // The tray that three numbers say.
 pub fn tray_in(tray: &[u64]) -> Tray
     ensures { result ≡ tray_in tray.now }
 {
     Tray {
-        held: size(at(tray, 0)),
-        shown: size(at(tray, 1)),
+        held: at(tray, 0) as usize,
+        shown: at(tray, 1) as usize,
         noise: noise_in(at(tray, 2)),
     }
 }
@@ -51,7 +42,7 @@ pub fn tray_in(tray: &[u64]) -> Tray
 pub fn put_tray(held: Tray, tray: &mut [u64])
     ensures { tray.new ≡ stored (tray_of held) tray.old }
 {
-    let numbers = [count(held.held), count(held.shown), noise_count(held.noise)];
+    let numbers = [held.held as u64, held.shown as u64, held.noise as u64];
     put(&numbers, tray);
 }
 
@@ -60,7 +51,7 @@ fn put_told(event: u64, used: usize, noise: u64, told: &mut [u64])
     requires { told_room ≤ length told.old }
     ensures { told.new ≡ laid (event_of event used noise) told.old }
 {
-    let numbers = [event, count(used), noise];
+    let numbers = [event, used as u64, noise];
     put(&numbers, told);
 }
 
@@ -86,7 +77,7 @@ fn tell(answer: Answer, tray: &mut [u64], told: &mut [u64], header: &mut [u64]) 
         }
         Said::Noise(noise) => {
             put_tray(answer.tray, tray);
-            put_told(2, answer.used, noise_count(noise), told);
+            put_told(2, answer.used, noise as u64, told);
             0
         }
         Said::Done => {

@@ -1,6 +1,7 @@
 -- Past the end a list gives 0.
-use lib.ListN.{get_or-eq_default}
+use Rattle.std.proofs.lemmas.Option.{unwrap_or-slice_get}
+use borrow.Author.Rules.{rules}
 use Rattle.export.proofs.numbers.at.Goals as goal
 
 pub returns : goal.returns
-returns c = let h = c.if-place-numbers.false in rw get_or-eq_default
+returns c = search (unwrap_or-slice_get, rules)

@@ -1,7 +1,7 @@
 -- A case for each thing that is said.
 use Rattle.export.specs.Streams.{told_said, tray_said, header_said}
 use Rattle.export.proofs.Laws.{laid_none}
-use Rattle.export.proofs.States.{said-number, said-tray, said-told, said-header, event-as}
+use Rattle.export.proofs.States.{said-number, said-tray, said-told, said-header}
 use Rattle.export.specs.Stored.{tray-there, header-there}
 use borrow.Author.Rules.{rules}
 use Rattle.export.proofs.streams.tell.Goals as goal
@@ -48,7 +48,7 @@ returns-in-Noise-clause-tray_after c = search (said-tray, tray-there, rules)
 
 pub returns-in-Noise-clause-told_after : goal.returns-in-Noise-clause-told_after
 unfolding told_said tray_said header_said
-returns-in-Noise-clause-told_after c = search (said-told, event-as, rules)
+returns-in-Noise-clause-told_after c = search (said-told, rules)
 
 pub returns-in-Noise-clause-header_after : goal.returns-in-Noise-clause-header_after
 unfolding told_said tray_said header_said
