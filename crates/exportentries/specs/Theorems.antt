@@ -63,9 +63,9 @@ aiou-whole (Some m) (Some n) e = ap Some (omega arith)
 -- T of 0 says that there is no size code
 troposphere-whole : (a b : Troposphere) → TroposphereIn a → TroposphereIn b → count_in a ≡ count_in b → size_in a ≡ size_in b → a ≡ b
 troposphere-whole None None p q e f = refl
-troposphere-whole None (Some r₀) p q e f = absurd (omega arith)
-troposphere-whole (Some r₀) None p q e f = absurd (omega arith)
-troposphere-whole (Some r₀) (Some z₀) p q e f = cc
+troposphere-whole None (Some h) p q e f = absurd (omega arith)
+troposphere-whole (Some g) None p q e f = absurd (omega arith)
+troposphere-whole (Some g) (Some h) p q e f = λ i. Some (record { count = e i; size = f i })
 
 opened-same : {m m' n n' : ℕ} {a a' : Aiou} → m ≡ m' → a ≡ a' → n ≡ n' → ◌≡◌ {A = Opened} (record { tag = m; aiou = a; count = n }) (record { tag = m'; aiou = a'; count = n' })
 opened-same p q r = cc

@@ -10,11 +10,10 @@ ghost use Rattle.exportviews.specs.Views.{number_told, view_after, floats_after}
 ghost use Rattle.exportentries.specs.Entries.{entry_room, satellite_room, aiou_plus_one, count_in, size_in, numbers_of_opened, numbers_of_placed, numbers_of_left_out, numbers_of_entry, told_entry, numbers_of_residual, floats_of_residual, told_residual, told_satellite};
 ghost use Rattle.exportentries.specs.Ranges.{AiouIn, EntryIn, AnswerIn};
 
-use entries::Grid;
 use entries::{
     Aiou, Entry, EntryRead, LeftOut, Opened, Placed, ResidualRead, SatelliteRead, Troposphere,
 };
-use export::numbers::{ROOM, count, put, wide};
+use export::numbers::{ROOM, put};
 use exportviews::floats::put_floats;
 use values::Residual;
 
@@ -43,7 +42,7 @@ fn count_in(troposphere: Troposphere) -> u64
 {
     match troposphere {
         None => 0,
-        Some(Grid { count, size: _ }) => count,
+        Some(grid) => grid.count,
     }
 }
 
@@ -52,7 +51,7 @@ fn size_in(troposphere: Troposphere) -> u64
 {
     match troposphere {
         None => 0,
-        Some(Grid { count: _, size }) => size,
+        Some(grid) => grid.size,
     }
 }
 
@@ -60,8 +59,13 @@ fn put_opened(run: Opened, used: usize, entry: &mut [u64])
     requires { AiouIn run.aiou × (entry_room ≤ length entry.old) }
     ensures { entry.new ≡ laid (numbers_of_opened run used) entry.old }
 {
-    let aiou = run.aiou;
-    let numbers = [1u64, count(used), run.tag, aiou_plus_one(aiou), run.count];
+    let numbers = [
+        1u64,
+        used as u64,
+        run.tag,
+        aiou_plus_one(run.aiou),
+        run.count,
+    ];
     put(&numbers, entry);
 }
 
@@ -69,15 +73,13 @@ fn put_placed(area: Placed, used: usize, entry: &mut [u64])
     requires { entry_room ≤ length entry.old }
     ensures { entry.new ≡ laid (numbers_of_placed area used) entry.old }
 {
-    let id = area.id;
-    let troposphere = area.troposphere;
     let numbers = [
         2u64,
-        count(used),
-        wide(id.0),
+        used as u64,
+        u64::from(area.id.0),
         area.bits,
-        count_in(troposphere),
-        size_in(troposphere),
+        count_in(area.troposphere),
+        size_in(area.troposphere),
         area.satellites,
         area::nodes(area.bits),
     ];
@@ -88,8 +90,7 @@ fn put_left_out(area: LeftOut, used: usize, entry: &mut [u64])
     requires { entry_room ≤ length entry.old }
     ensures { entry.new ≡ laid (numbers_of_left_out area used) entry.old }
 {
-    let id = area.id;
-    let numbers = [3u64, count(used), wide(id.0), area.reason];
+    let numbers = [3u64, used as u64, u64::from(area.id.0), area.reason];
     put(&numbers, entry);
 }
 
@@ -142,8 +143,7 @@ fn put_value(x: f64, value: &mut [f64])
     requires { value_room ≤ length value.old }
     ensures { value.new ≡ laid (x ∷ []) value.old }
 {
-    let floats = [x];
-    put_floats(&floats, value);
+    put_floats(&[x], value);
 }
 
 // Invalid, or a float in its unit.
@@ -176,7 +176,7 @@ fn tell_residual(answer: ResidualRead, what: &mut [u64], value: &mut [f64]) -> u
             put_residual(code, residual, what, value);
             0
         }
-        Err(refusal) => answer::number(refusal),
+        Err(why) => answer::number(why),
     }
 }
 
@@ -210,7 +210,7 @@ fn tell_satellite(answer: SatelliteRead, satellite: &mut [u64]) -> u8
             put_code(number, size, satellite);
             0
         }
-        Err(refusal) => answer::number(refusal),
+        Err(refused) => answer::number(refused),
     }
 }
 

@@ -10,7 +10,7 @@ ghost use Rattle.exportviews.specs.Areas.{gad_room, gad_floats, gad_numbers_of, 
 use crate::floats::put_floats;
 use area::AreaId;
 use bpac::BpacAreaId;
-use export::numbers::{ROOM_ANSWER, answer_of, count, put};
+use export::numbers::{ROOM_ANSWER, answer_of, put};
 use views::bpacarea::{BpacAnswer, BpacArea};
 use views::gadarea::{GadAnswer, GadArea};
 use views::hpacarea::{HpacAnswer, HpacArea};
@@ -91,7 +91,7 @@ fn put_hpac(area: HpacArea, view: &mut [u64])
 {
     let numbers = [
         1u64,
-        count(area.start),
+        area.start as u64,
         area.points,
         area.troposphere_blocks,
         area.ionosphere_blocks,
@@ -133,7 +133,7 @@ fn put_bpac(area: BpacArea, view: &mut [u64], floats: &mut [f64])
     ensures view_after { view.new ≡ laid (bpac_numbers_of area) view.old }
     ensures floats_after { floats.new ≡ laid (bpac_floats_of area) floats.old }
 {
-    let numbers = [1u64, count(area.start), area.rows, area.columns];
+    let numbers = [1u64, area.start as u64, area.rows, area.columns];
     let values = [
         area.latitude,
         area.longitude,

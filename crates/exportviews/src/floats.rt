@@ -9,9 +9,5 @@ pub fn put_floats(floats: &[f64], out: &mut [f64])
     if out.len() < floats.len() {
         return;
     }
-    let mut i = 0;
-    while i < floats.len() {
-        out[i] = floats[i];
-        i += 1;
-    }
+    out[..floats.len()].copy_from_slice(floats);
 }

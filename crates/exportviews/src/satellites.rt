@@ -6,7 +6,7 @@ ghost use Rattle.exportviews.specs.Views.{none, number_told, view_after, floats_
 ghost use Rattle.exportviews.specs.Satellites.{satellite_room, satellite_floats, has_orbit, iode_of, orbit_of, yaw_is, yaw_of, has_clock, clock_continuity, clock_of, clock_error, has_biases, biases_of, blocks_numbers, blocks_floats, use_numbers, use_floats, told_satellite};
 
 use crate::floats::put_floats;
-use export::numbers::{ROOM_ANSWER, answer_of, count, put};
+use export::numbers::{ROOM_ANSWER, answer_of, put};
 use values::{Orbit, Yaw};
 use views::satellites::{
     BiasBlock, Biases, Blocks, ClockBlock, OrbitBlock, Satellite, SatelliteAnswer,
@@ -27,10 +27,7 @@ fn none() -> f64
 fn has_orbit(orbit: OrbitBlock) -> u64
     ensures { result ≡ has_orbit orbit }
 {
-    match orbit {
-        None => 0,
-        Some((_, _)) => 1,
-    }
+    u64::from(orbit.is_some())
 }
 
 fn iode_of(orbit: OrbitBlock) -> u64
@@ -78,10 +75,7 @@ fn yaw_of(yaw: Yaw) -> f64
 fn has_clock(clock: ClockBlock) -> u64
     ensures { result ≡ has_clock clock }
 {
-    match clock {
-        None => 0,
-        Some((_, _, _)) => 1,
-    }
+    u64::from(clock.is_some())
 }
 
 fn clock_continuity(clock: ClockBlock) -> u64
@@ -114,10 +108,7 @@ fn clock_error(clock: ClockBlock) -> u64
 fn has_biases(bias: BiasBlock) -> u64
     ensures { result ≡ has_biases bias }
 {
-    match bias {
-        None => 0,
-        Some(_) => 1,
-    }
+    u64::from(bias.is_some())
 }
 
 fn biases_of(bias: BiasBlock) -> Biases
@@ -137,25 +128,21 @@ fn biases_of(bias: BiasBlock) -> Biases
 fn blocks_numbers(number: u64, blocks: Blocks) -> [u64; SATELLITE]
     ensures { result ≡ blocks_numbers number blocks }
 {
-    let orbit = blocks.orbit;
-    let clock = blocks.clock;
-    let bias = blocks.bias;
-    let yaw = blocks.yaw;
-    let biases = biases_of(bias);
+    let biases = biases_of(blocks.bias);
     [
         number,
         1,
         blocks.continuity,
-        has_orbit(orbit),
-        iode_of(orbit),
-        yaw_is(yaw),
-        has_clock(clock),
-        clock_continuity(clock),
-        clock_error(clock),
-        has_biases(bias),
-        count(biases.phases_at),
+        has_orbit(blocks.orbit),
+        iode_of(blocks.orbit),
+        yaw_is(blocks.yaw),
+        has_clock(blocks.clock),
+        clock_continuity(blocks.clock),
+        clock_error(blocks.clock),
+        has_biases(blocks.bias),
+        biases.phases_at as u64,
         biases.phases,
-        count(biases.codes_at),
+        biases.codes_at as u64,
         biases.codes,
     ]
 }
@@ -163,16 +150,13 @@ fn blocks_numbers(number: u64, blocks: Blocks) -> [u64; SATELLITE]
 fn blocks_floats(blocks: Blocks) -> [f64; SATELLITE_FLOATS]
     ensures { result ≡ blocks_floats blocks }
 {
-    let block = blocks.orbit;
-    let yaw = blocks.yaw;
-    let clock = blocks.clock;
-    let orbit = orbit_of(block);
+    let orbit = orbit_of(blocks.orbit);
     [
         orbit.radial,
         orbit.along_track,
         orbit.cross_track,
-        yaw_of(yaw),
-        clock_of(clock),
+        yaw_of(blocks.yaw),
+        clock_of(blocks.clock),
     ]
 }
 

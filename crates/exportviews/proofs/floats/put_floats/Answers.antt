@@ -1,18 +1,12 @@
-use mathlib.Core.Path.{refl}
-use Prim.Native.Nat.{zero-le}
+-- All floats, or none.
+use Rattle.export.specs.Numbers.{laid}
 use Rattle.export.specs.Stored.{stored-none, stored-all}
-use Rattle.export.proofs.Laws.{put-more, length-put, put_all}
 use borrow.Author.Rules.{rules}
 use Rattle.exportviews.proofs.floats.put_floats.Goals as goal
 
 pub returns-then-out-floats : goal.returns-then-out-floats
 returns-then-out-floats c = search (stored-none, rules)
 
-pub loop-i-init : goal.loop-i-init
-loop-i-init c = (zero-le, refl, refl, search rules)
-
-pub loop-i-preserved : goal.loop-i-preserved
-loop-i-preserved c = (search rules, search (put-more, rules), search (length-put, rules), search rules)
-
 pub returns : goal.returns
-returns c = search (stored-all, put_all, rules)
+unfolding laid
+returns c = stored-all _ _ _ (search rules) (rw c.copy_from_slice.ensures.after)
