@@ -1,7 +1,7 @@
 // Frames and noise in a stream of bytes that comes in portions: document 01, "The stream".
 #![tactic(auto)]
 
-ghost use Rattle.std.specs.Prelude.{◌≡◌, [], ◌++◌, ℕ, ◌+◌, ◌-◌, ◌≤◌, ◌<◌, min, length, take, drop, replicate};
+ghost use Rattle.std.specs.Prelude.{◌≡◌, [], ◌+◌, ◌≤◌, ◌<◌, length};
 ghost use Rattle.sizes.specs.Sizes.{longest_frame, most_noise};
 ghost use Rattle.stream.specs.Tray.{zeros, is_frame, sound, fresh_tray, number_of_said, refused, answer_of, call_answer, call_bytes, finish_answer, finish_bytes};
 ghost use Rattle.stream.specs.Bytes.{index_of, slice};
@@ -129,29 +129,6 @@ fn is_sound(bytes: &[u8], tray: Tray) -> bool
     is_frame(tray.shown, first)
 }
 
-fn clear(part: &mut [u8])
-    ensures { part.new ≡ replicate (length part.old) 0 }
-{
-    let mut i = 0;
-    while i < part.len() {
-        part[i] = 0;
-        i += 1;
-    }
-}
-
-// The bytes from start on move to the front.
-fn slide(part: &mut [u8], start: usize)
-    requires { start ≤ length part.old }
-    ensures { part.new ≡ drop start part.old ++ drop (length part.old - start) part.old }
-{
-    let left = part.len() - start;
-    let mut i = 0;
-    while i < left {
-        part[i] = part[i + start];
-        i += 1;
-    }
-}
-
 // The first bytes of those held go.
 fn shift(bytes: &mut [u8], held: usize, start: usize)
     requires { (start ≤ held) × (held ≤ length bytes.old) }
@@ -160,9 +137,8 @@ fn shift(bytes: &mut [u8], held: usize, start: usize)
     if start == 0 {
         return;
     }
-    slide(&mut bytes[..held], start);
-    let left = held - start;
-    clear(&mut bytes[left..held]);
+    bytes.copy_within(start..held, 0);
+    bytes[held - start..held].fill(0);
 }
 
 // The first live byte is noise.
@@ -176,15 +152,6 @@ fn noisy(place: Place) -> Place
         noise: place.noise + 1,
         used: place.used,
     }
-}
-
-fn least(a: usize, b: usize) -> usize
-    ensures { result ≡ min a b }
-{
-    if a < b {
-        return a;
-    }
-    b
 }
 
 // As many bytes of the input are taken into the tray as are wanted. Where they do not fit behind the live bytes, these move to the front
@@ -207,10 +174,10 @@ fn take_more(bytes: &mut [u8], place: Place, input: &[u8], wanted: usize) -> Pla
             used: used,
         };
     }
-    let count = least(wanted - (held - start), input.len() - used);
+    let count = (wanted - (held - start)).min(input.len() - used);
     let end = held + count;
     let upto = used + count;
-    copy(&input[used..upto], &mut bytes[held..end]);
+    bytes[held..end].copy_from_slice(&input[used..upto]);
     Place {
         start: start,
         held: end,
@@ -245,17 +212,6 @@ fn show(place: Place, frame: Frame) -> Answer
         return say(place, Said::Noise(before), 0, 0);
     }
     say(place, Said::Frame(frame), frame.length, 0)
-}
-
-// The bytes of one come to the start of the other, which has room for them: how many they are.
-fn copy(from: &[u8], to: &mut [u8]) -> usize
-    requires { length from.now ≤ length to.old }
-    ensures value { result ≡ length from.now }
-    ensures to_after { to.new ≡ take (length from.now) from.now ++ drop (length from.now) to.old }
-{
-    let count = from.len();
-    to[..count].copy_from_slice(from);
-    count
 }
 
 // Where a byte is for the first time, from one place on and up to another; the other where it is not there.
@@ -321,7 +277,7 @@ fn pass(place: Place, input: &[u8]) -> Place
     }
     let used = place.used;
     let limit = (sizes::MOST_NOISE - 1 - place.noise) as usize;
-    let end = used + least(limit, input.len() - used);
+    let end = used + limit.min(input.len() - used);
     let found = find_preamble(input, used, end);
     Place {
         start: found,
@@ -337,7 +293,7 @@ fn reach(place: Place, input: &[u8], wanted: usize) -> Place
     ensures { result ≡ reached place input.now wanted }
 {
     let start = place.start;
-    let end = start + least(wanted, input.len() - start);
+    let end = start + wanted.min(input.len() - start);
     if end < place.held {
         return place;
     }
@@ -426,12 +382,12 @@ fn feed_input(bytes: &mut [u8], place: Place, input: &[u8]) -> Answer
         let held = place.held;
         match frame::check(&input[start..held]) {
             Checked::Accepted(frame) => {
-                copy(&input[start..held], bytes);
+                bytes[..held - start].copy_from_slice(&input[start..held]);
                 return show(place, frame);
             }
             Checked::Short(wanted) => {
                 if held == input.len() {
-                    copy(&input[start..held], bytes);
+                    bytes[..held - start].copy_from_slice(&input[start..held]);
                     return say(place, Said::Hungry, 0, place.noise);
                 }
                 place = reach(place, input, wanted);
@@ -440,7 +396,7 @@ fn feed_input(bytes: &mut [u8], place: Place, input: &[u8]) -> Answer
                 place = noisy(place);
                 if place.noise == sizes::MOST_NOISE {
                     let start = place.start;
-                    copy(&input[start..held], bytes);
+                    bytes[..held - start].copy_from_slice(&input[start..held]);
                     return say(place, Said::Noise(sizes::MOST_NOISE), 0, 0);
                 }
                 place = skip(place, input);
