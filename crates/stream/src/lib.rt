@@ -1,12 +1,11 @@
 // Frames and noise in a stream of bytes that comes in portions: document 01, "The stream".
 #![tactic(auto)]
 
-ghost use Rattle.std.specs.Prelude.{◌≡◌, [], ◌+◌, ◌≤◌, ◌<◌, length};
+ghost use Rattle.std.specs.Prelude.{◌≡◌, [], ◌++◌, ℕ, ◌+◌, ◌-◌, ◌*◌, ◌≤◌, ◌<◌, ◌==◌, true, not, length, take, drop, position};
 ghost use Rattle.sizes.specs.Sizes.{longest_frame, most_noise};
 ghost use Rattle.stream.specs.Tray.{zeros, is_frame, sound, fresh_tray, number_of_said, refused, answer_of, call_answer, call_bytes, finish_answer, finish_bytes};
-ghost use Rattle.stream.specs.Bytes.{index_of, slice};
+ghost use Rattle.std.specs.List.{list_all, position_or_len};
 ghost use Rattle.stream.specs.Driver.{Ready};
-ghost use Rattle.stream.specs.Marks.{marked, marks};
 ghost use Rattle.stream.specs.Walk.{shifted, Standing, fed_from, closed_from, Answered, CloseTurn, Wanting, Ends, Onward, Seen, Along, Told, reached, Empty, noised, settled, shown_answer, dropped_place};
 
 use answer::Refusal;
@@ -72,13 +71,7 @@ pub fn fresh() -> Tray
 fn are_zero(bytes: &[u8]) -> bool
     ensures { result ≡ zeros bytes.now }
 {
-    let mut joined: u8 = 0;
-    let mut i = 0;
-    while i < bytes.len() {
-        joined = joined | bytes[i];
-        i += 1;
-    }
-    joined == 0
+    bytes.iter().fold(0, |joined: u8, byte| joined | *byte) == 0
 }
 
 // Whole blocks, and then the last block's bytes, some of them once more: a part of a block left over would be looked at a byte at a time.
@@ -214,57 +207,41 @@ fn show(place: Place, frame: Frame) -> Answer
     say(place, Said::Frame(frame), frame.length, 0)
 }
 
-// Where a byte is for the first time, from one place on and up to another; the other where it is not there.
-fn find(bytes: &[u8], from: usize, to: usize, byte: u8) -> usize
-    requires { (from ≤ to) × (to ≤ length bytes.now) }
-    ensures value { result ≡ from + index_of byte (slice from to bytes.now) }
-    ensures upper_bound { result ≤ to }
-{
-    let mut at = from;
-    while at < to {
-        if bytes[at] == byte {
-            return at;
-        }
-        at += 1;
-    }
-    to
-}
-
-// 1 for a preamble, 0 for any other byte.
-fn mark(byte: u8) -> u8
-    ensures { result ≡ marked byte }
-{
-    if byte == PREAMBLE { 1 } else { 0 }
-}
-
 // Whether none is a preamble. All bytes are looked at, with no way out on the way, so that many are looked at together.
 fn is_clear(bytes: &[u8]) -> bool
-    ensures { result ≡ zeros (marks bytes.now) }
+    ensures { result ≡ list_all (λ byte. not (byte == 0x73)) bytes.now }
 {
-    let mut joined: u8 = 0;
-    let mut i = 0;
-    while i < bytes.len() {
-        joined = joined | mark(bytes[i]);
-        i += 1;
-    }
-    joined == 0
+    !bytes
+        .iter()
+        .fold(false, |met, byte| met | (*byte == PREAMBLE))
 }
 
-// Where the first preamble is, from one byte on and up to another; the other where there is none. Windows without one are passed over as a whole.
-fn find_preamble(input: &[u8], from: usize, to: usize) -> usize
-    requires { (from ≤ to) × (to ≤ length input.now) }
-    ensures value { result ≡ from + index_of 0x73 (slice from to input.now) }
-    ensures upper_bound { result ≤ to }
+// Where the first preamble is.
+fn find(bytes: &[u8]) -> Option<usize>
+    ensures { result ≡ position (λ byte. byte == 0x73) bytes.now }
 {
-    let mut at = from;
-    while WINDOW <= to - at {
-        let next = at + WINDOW;
-        if !is_clear(&input[at..next]) {
-            return find(input, at, to, PREAMBLE);
-        }
-        at = next;
-    }
-    find(input, at, to, PREAMBLE)
+    bytes.iter().position(|byte| *byte == PREAMBLE)
+}
+
+// How many windows come before the first with a preamble.
+fn clear_windows(bytes: &[u8]) -> usize
+    ensures are_clear { (k : ℕ) → k < result → list_all (λ byte. not (byte == 0x73)) (take 64 (drop (k * 64) bytes.now)) ≡ true }
+    ensures upper_bound { result * 64 ≤ length bytes.now }
+{
+    bytes
+        .chunks_exact(WINDOW)
+        .take_while(|window| is_clear(window))
+        .count()
+}
+
+// How many bytes come before the first preamble; all, where there is none. Windows without one are passed over as a whole.
+fn find_preamble(bytes: &[u8]) -> usize
+    ensures value { result ≡ position_or_len (λ byte. byte == 0x73) bytes.now }
+    ensures upper_bound { result ≤ length bytes.now }
+{
+    let passed = clear_windows(bytes) * WINDOW;
+    let rest = &bytes[passed..];
+    passed + find(rest).unwrap_or(rest.len())
 }
 
 // Where no byte is live, bytes that are no preamble are noise without a check, up to a count below 65,535.
@@ -278,11 +255,12 @@ fn pass(place: Place, input: &[u8]) -> Place
     let used = place.used;
     let limit = (sizes::MOST_NOISE - 1 - place.noise) as usize;
     let end = used + limit.min(input.len() - used);
-    let found = find_preamble(input, used, end);
+    let passed = find_preamble(&input[used..end]);
+    let found = used + passed;
     Place {
         start: found,
         held: found,
-        noise: place.noise + (found - used) as u32,
+        noise: place.noise + passed as u32,
         used: found,
     }
 }

@@ -1,5 +1,5 @@
 -- The whole blocks and the last block's bytes are all of them.
-use Rattle.stream.proofs.Moves.{blocks-in, blocks-not, blocks_last}
+use Rattle.stream.proofs.Zeros.{blocks-in, blocks-not, blocks_last}
 use borrow.Author.Rules.{rules}
 use Rattle.stream.proofs.all_zero.Goals as goal
 

@@ -1,15 +1,15 @@
--- The turns of the loops over bytes that are all zero, in plain values.
+-- Bytes that are all zero, in plain values.
 use mathlib.Core.Path.{◌≡◌, refl, sym, ap, ap₂, ◌∙◌}
 use mathlib.Core.List.{List, [], ◌∷◌, ◌++◌}
 use mathlib.Core.Bool.{Bool, true, false, not, ◌&&◌, and_assoc, and-true}
-use Prim.Native.Nat.{ℕ, zero, suc, ◌+◌, ◌-◌, ◌%◌, ◌≤◌, ◌<◌}
-use native.Mathlib.Numerals.{add-one}
+use Prim.Native.Nat.{ℕ, zero, suc, ◌+◌, ◌-◌, ◌%◌, ◌≤◌}
 use native.Mathlib.Omega.{arith}
-use lib.ListN.{length, get_or, take, drop, length-drop, drop_of_length-le, take-append-drop}
-use lib.Seq.{length-take-le, drop-cons, take_all, drop-drop}
+use lib.ListN.{length, take, drop, length-drop, take-append-drop}
+use lib.Seq.{length-take-le, take_all, drop-drop}
 use lib.Bits.{bit_or, or_zero_l, or_add_and, and_le_r}
 use lib.Dec.{eqb, eqb-suc-zero}
 use borrow.Author.Tests.{ne_eqb, not-true, not-false}
+use Rattle.std.specs.Prelude.{fold}
 use Rattle.stream.specs.Tray.{zeros}
 use Rattle.stream.proofs.Parts.{part-is}
 
@@ -19,28 +19,12 @@ or-eqb : (a x : ℕ) → eqb (bit_or a x) 0 ≡ (eqb a 0 && eqb x 0)
 or-eqb zero x = rw or_zero_l
 or-eqb (suc a) x = rw (eqb-suc-zero a) (ne_eqb (bit_or (suc a) x) 0 (λ e. omega (arith, or_add_and (suc a) x, and_le_r (suc a) x)))
 
-pub record Joining (bytes : List ℕ) (joined i : ℕ) : Type 0 where
-  pub i-in : i ≤ length bytes
-  pub on : (eqb joined 0 && zeros (drop i bytes)) ≡ zeros bytes
-
-pub join_first : (bytes : List ℕ) → Joining bytes 0 0
-join_first bytes = record { i-in = omega arith; on = refl }
-
-pub join_more : (bytes : List ℕ) (joined i : ℕ) → Joining bytes joined i → i < length bytes → Joining bytes (bit_or joined (get_or bytes i 0)) (i + 1)
+-- what is joined so far and the bytes left say what all the bytes say
+pub joined-zeros : (joined : ℕ) (bytes : List ℕ) → eqb (fold bit_or joined bytes) 0 ≡ (eqb joined 0 && zeros bytes)
 unfolding zeros
-join_more bytes joined i v h =
-    let d : drop i bytes ≡ get_or bytes i 0 ∷ drop (i + 1) bytes = rw add-one (drop-cons bytes i 0 h) in
-    record {
-      i-in = omega arith;
-      on =
-          ap (λ b. b && zeros (drop (i + 1) bytes)) (or-eqb joined (get_or bytes i 0)) ∙ and_assoc (eqb joined 0) (eqb (get_or bytes i 0) 0) (zeros (drop (i + 1) bytes))
-          ∙ ap (λ l. eqb joined 0 && zeros l) (sym d) ∙ v.on;
-    }
-
-pub join-done : (bytes : List ℕ) (joined i : ℕ) → Joining bytes joined i → length bytes ≤ i → eqb joined 0 ≡ zeros bytes
-unfolding zeros
-join-done bytes joined i v h =
-    sym (ap (λ l. eqb joined 0 && zeros l) (drop_of_length-le bytes {i = i} h) ∙ and-true (eqb joined 0)) ∙ v.on
+joined-zeros joined [] = sym (and-true (eqb joined 0))
+joined-zeros joined (x ∷ bytes) =
+    joined-zeros (bit_or joined x) bytes ∙ ap (λ b. b && zeros bytes) (or-eqb joined x) ∙ and_assoc (eqb joined 0) (eqb x 0) (zeros bytes)
 
 zeros-append : (xs ys : List ℕ) → zeros (xs ++ ys) ≡ (zeros xs && zeros ys)
 unfolding zeros
