@@ -141,9 +141,8 @@ fn noisy(place: Place) -> Place
 {
     Place {
         start: place.start + 1,
-        held: place.held,
         noise: place.noise + 1,
-        used: place.used,
+        ..place
     }
 }
 
@@ -163,8 +162,7 @@ fn take_more(bytes: &mut [u8], place: Place, input: &[u8], wanted: usize) -> Pla
         return Place {
             start: 0,
             held: held - start,
-            noise: place.noise,
-            used: used,
+            ..place
         };
     }
     let count = (wanted - (held - start)).min(input.len() - used);
@@ -172,10 +170,9 @@ fn take_more(bytes: &mut [u8], place: Place, input: &[u8], wanted: usize) -> Pla
     let upto = used + count;
     bytes[held..end].copy_from_slice(&input[used..upto]);
     Place {
-        start: start,
         held: end,
-        noise: place.noise,
         used: upto,
+        ..place
     }
 }
 
@@ -276,10 +273,9 @@ fn reach(place: Place, input: &[u8], wanted: usize) -> Place
         return place;
     }
     Place {
-        start: start,
         held: end,
-        noise: place.noise,
         used: end,
+        ..place
     }
 }
 
@@ -422,8 +418,7 @@ fn feed(bytes: &mut [u8], place: Place, input: &[u8]) -> Answer
     let outside = Place {
         start: used - live,
         held: used,
-        noise: place.noise,
-        used: used,
+        ..place
     };
     feed_input(bytes, outside, input)
 }
