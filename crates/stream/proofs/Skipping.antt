@@ -21,7 +21,7 @@ use Rattle.frame.specs.declared.Checked.TheVariants.{Refused}
 use Rattle.frame.specs.Check.{checked}
 use Rattle.stream.specs.declared.Place.{Place}
 use Rattle.stream.specs.Check.{no-preamble, bad-start}
-use Rattle.stream.specs.Walk.{fed_from, live_at, to_go, Seen, Along, Told, nothing, plain, wrong, reached, noised}
+use Rattle.stream.specs.Walk.{fed_from, live_at, to_go, Seen, Along, Told, plain, wrong, reached, noised}
 use Rattle.stream.proofs.Parts.{part-is}
 use Rattle.stream.proofs.Places.{noised-nearer}
 use Rattle.stream.proofs.Along.{length_seen, along-two, widen-one, widen-four}
@@ -88,9 +88,8 @@ record Quiet (place : Place) (input : List ℕ) (q : Place) : Type 0 where
   refused : checked (live_at q input) ≡ Refused why
 
 module _ (place : Place) (input : List ℕ) (s : Seen place input) (bytes : (i : ℕ) → Fits w8 (get_or input i 0)) where
-  quiet : (n : ℕ) → Told place input n → (n ≡ 0 → ⊥) → (q : Place) → q ≡ reached place input n → Quiet place input q
-  quiet n nothing h q e = absurd (h refl)
-  quiet n (plain l m w) h q e =
+  quiet : (n : ℕ) → Told place input n → (q : Place) → q ≡ reached place input n → Quiet place input q
+  quiet n (plain l m w) q e =
       let a = widen-one place input s (λ z. omega arith) q e in
       let b : q.start ≡ place.start = ap (λ z. z.start) e ∙ reached-start place input 1 in
       let c : q.noise ≡ place.noise = ap (λ z. z.noise) e ∙ reached-noise place input 1 in
@@ -102,7 +101,7 @@ module _ (place : Place) (input : List ℕ) (s : Seen place input) (bytes : (i :
         why = Preamble;
         refused = first_live input q a.seen (omega arith) (λ z. w (ap (λ i. get_or input i 0) (sym b) ∙ z));
       }
-  quiet n (wrong l m p w) h q e =
+  quiet n (wrong l m p w) q e =
       let a = widen-four place input s (λ z. omega arith) q p e in
       let b : q.start ≡ place.start = ap (λ z. z.start) e ∙ reached-start place input 4 in
       let c : q.noise ≡ place.noise = ap (λ z. z.noise) e ∙ reached-noise place input 4 in
@@ -119,10 +118,10 @@ module _ (place : Place) (input : List ℕ) (s : Seen place input) (bytes : (i :
 
 -- ---- the loop
 
-module _ (place₀ : Place) (input : List ℕ) (place : Place) (a : Along place₀ input place) (bytes : (i : ℕ) → Fits w8 (get_or input i 0)) (n : ℕ) (t : Told place input n) (h : n ≡ 0 → ⊥)
+module _ (place₀ : Place) (input : List ℕ) (place : Place) (a : Along place₀ input place) (bytes : (i : ℕ) → Fits w8 (get_or input i 0)) (n : ℕ) (t : Told place input n)
     (q : Place) (e : q ≡ reached place input n) where
   so : Quiet place input q
-  so = quiet place input a.seen bytes n t h q e
+  so = quiet place input a.seen bytes n t q e
 
   pub skip-live : q.start < q.held
   skip-live = so.live

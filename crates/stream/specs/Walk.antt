@@ -105,7 +105,6 @@ pub record Along (place : Place) (input : List ℕ) (place' : Place) : Type 0 wh
 
 -- so many bytes from the first live one on tell that it is noise, which may be counted without being told
 pub data Told (place : Place) (input : List ℕ) : ℕ → Type 0 where
-  nothing : Told place input 0
   plain : place.start < length input → place.noise + 1 < most_noise → (get_or input place.start 0 ≡ preamble → ⊥) → Told place input 1
   wrong : place.start + 4 ≤ length input → place.noise + 1 < most_noise → get_or input place.start 0 ≡ preamble
       → (frame_crc (get_or input (place.start + 1) 0) (get_or input (place.start + 2) 0) (get_or input (place.start + 3) 0) ≡ get_or input (place.start + 3) 0 % 16 → ⊥)

@@ -1,7 +1,7 @@
 // Frames and noise in a stream of bytes that comes in portions: document 01, "The stream".
 #![tactic(auto)]
 
-ghost use Rattle.std.specs.Prelude.{◌≡◌, [], ◌++◌, ℕ, ◌+◌, ◌-◌, ◌*◌, ◌≤◌, ◌<◌, ◌==◌, true, not, length, take, drop, position};
+ghost use Rattle.std.specs.Prelude.{◌≡◌, [], ◌++◌, ℕ, ◌+◌, ◌-◌, ◌*◌, ◌≤◌, ◌<◌, ◌==◌, true, not, length, take, drop, position, IfSome};
 ghost use Rattle.sizes.specs.Sizes.{longest_frame, most_noise};
 ghost use Rattle.stream.specs.Tray.{zeros, is_frame, sound, fresh_tray, number_of_said, refused, answer_of, call_answer, call_bytes, finish_answer, finish_bytes};
 ghost use Rattle.std.specs.List.{list_all, position_or_len};
@@ -302,30 +302,30 @@ fn ahead(place: Place, input: &[u8]) -> Place
     widen(pass(place, input), input)
 }
 
-// How many bytes from the first live one on tell, without a whole check, that it is noise: one that is no preamble, four with a wrong TF006. 0
+// How many bytes from the first live one on tell, without a whole check, that it is noise: one that is no preamble, four with a wrong TF006. None
 // where they do not, and where none is live, so that `pass` looks for a preamble.
-fn told_by(place: Place, input: &[u8]) -> usize
+fn told_by(place: Place, input: &[u8]) -> Option<usize>
     requires { Seen place input.now }
-    ensures { Told place input.now result }
+    ensures { IfSome result (Told place input.now) }
 {
     let start = place.start;
     if input.len() - start < 4 {
-        return 0;
+        return None;
     }
     if place.noise == sizes::MOST_NOISE - 1 {
-        return 0;
+        return None;
     }
     if input[start] != PREAMBLE {
         if start == place.held {
-            return 0;
+            return None;
         }
-        return 1;
+        return Some(1);
     }
     let last = input[start + 3];
     if checks::frame_crc(input[start + 1], input[start + 2], last) == last % 16 {
-        return 0;
+        return None;
     }
-    4
+    Some(4)
 }
 
 // Behind noise, bytes that are told to be noise so are passed over, up to a count below 65,535.
@@ -334,13 +334,10 @@ fn skip(place: Place, input: &[u8]) -> Place
     ensures { Along place input.now result }
 {
     let mut place = place;
-    loop {
-        let wanted = told_by(place, input);
-        if wanted == 0 {
-            return place;
-        }
+    while let Some(wanted) = told_by(place, input) {
         place = noisy(reach(place, input, wanted));
     }
+    place
 }
 
 // The call from a place on where no byte is live in the tray: the live bytes lie in the input, and go into the tray with the answer.
