@@ -5,8 +5,8 @@ use mathlib.Core.Bool.{Bool, true, false, cond}
 use Prim.Native.Nat.{ℕ, suc, ◌+◌, ◌-◌, ◌%◌, ◌≤◌, ◌<◌, min}
 use native.Mathlib.Nat.{le-min, lt_of_lt_of_le}
 use native.Mathlib.Omega.{arith}
-use lib.ListN.{length, get_or, take, drop}
-use lib.Seq.{drop-cons, get_or-take, get_or-drop}
+use lib.ListN.{length, get_or, take, drop, length-take, length-drop}
+use lib.Seq.{drop-cons, get_or-take, get_or-drop, take_all}
 use lib.Dec.{ltb}
 use borrow.Author.Tests.{ltb-true}
 use mir.Syntax.{w8}
@@ -148,12 +148,24 @@ module _ (place₀ : Place) (input : List ℕ) (place : Place) (a : Along place�
           no-further = omega (arith, noised-nearer q p r input l);
         }))
 
--- ---- the tests
+-- ---- the tests, of the bytes from the first live one on
 
-module _ (place : Place) (input : List ℕ) (s : Seen place input) (l : 4 ≤ length input - place.start) (m : place.noise ≡ most_noise - 1 → ⊥) where
-  pub tells-plain : (get_or input place.start 0 ≡ preamble → ⊥) → Told place input 1
-  tells-plain w = plain (omega arith) (omega (arith, s.noise-less)) w
+abbrev rest : Place → List ℕ → List ℕ
+rest place input = take (length input - place.start) (drop place.start input)
 
-  pub tells-wrong : get_or input place.start 0 ≡ preamble → (v : ℕ) → v ≡ frame_crc (get_or input (place.start + 1) 0) (get_or input (place.start + 2) 0) (get_or input (place.start + 3) 0)
-      → (v ≡ get_or input (place.start + 3) 0 % 16 → ⊥) → Told place input 4
-  tells-wrong p v e w = wrong (omega arith) (omega (arith, s.noise-less)) p (λ z. w (e ∙ z))
+module _ (place : Place) (input : List ℕ) (s : Seen place input) (l : 4 ≤ length (rest place input)) (m : place.noise ≡ most_noise - 1 → ⊥) where
+  left : 4 ≤ length input - place.start
+  left = omega (arith, length-take (length input - place.start) (drop place.start input))
+
+  byte : (i : ℕ) → get_or (rest place input) i 0 ≡ get_or input (place.start + i) 0
+  byte i = ap (λ bytes. get_or bytes i 0) (take_all _ _ (omega (arith, length-drop place.start input))) ∙ get_or-drop place.start input i 0
+
+  first : get_or (rest place input) 0 0 ≡ get_or input place.start 0
+  first = let z : place.start + 0 ≡ place.start = omega arith in byte 0 ∙ ap (λ i. get_or input i 0) z
+
+  pub tells-plain : (get_or (rest place input) 0 0 ≡ preamble → ⊥) → Told place input 1
+  tells-plain w = plain (omega (arith, left)) (omega (arith, s.noise-less)) (λ e. w (first ∙ e))
+
+  pub tells-wrong : get_or (rest place input) 0 0 ≡ preamble → (v : ℕ) → v ≡ frame_crc (get_or (rest place input) 1 0) (get_or (rest place input) 2 0) (get_or (rest place input) 3 0)
+      → (v ≡ get_or (rest place input) 3 0 % 16 → ⊥) → Told place input 4
+  tells-wrong p v e w = wrong (omega (arith, left)) (omega (arith, s.noise-less)) (sym first ∙ p) (λ z. w (e ∙ rw (byte 1, byte 2, byte 3) z))

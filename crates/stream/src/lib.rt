@@ -308,21 +308,19 @@ fn told_by(place: Place, input: &[u8]) -> Option<usize>
     requires { Seen place input.now }
     ensures { IfSome result (Told place input.now) }
 {
-    let start = place.start;
-    if input.len() - start < 4 {
+    let [first, second, third, last, ..] = &input[place.start..] else {
         return None;
-    }
+    };
     if place.noise == sizes::MOST_NOISE - 1 {
         return None;
     }
-    if input[start] != PREAMBLE {
-        if start == place.held {
+    if *first != PREAMBLE {
+        if place.start == place.held {
             return None;
         }
         return Some(1);
     }
-    let last = input[start + 3];
-    if checks::frame_crc(input[start + 1], input[start + 2], last) == last % 16 {
+    if checks::frame_crc(*second, *third, *last) == *last % 16 {
         return None;
     }
     Some(4)
