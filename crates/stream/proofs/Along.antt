@@ -119,7 +119,7 @@ module _ (place : Place) (input : List ℕ) (s : Seen place input) where
       let n : place.held - place.start + i ≡ place.held + i - place.start = omega arith in
       sym (live_more i) ∙ sym (part-is input place.start (place.held + i)) ∙ ap (λ k. take k (drop place.start input)) (sym n)
 
-  module _ (h : place.start ≡ length input → ⊥) (r : Place) where
+  module _ (h : place.start < length input) (r : Place) where
     pub widen-one : r ≡ reached place input 1 → Along place input r
     widen-one q =
         along-reached 1 (omega arith)

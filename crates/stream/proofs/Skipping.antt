@@ -90,7 +90,7 @@ record Quiet (place : Place) (input : List ℕ) (q : Place) : Type 0 where
 module _ (place : Place) (input : List ℕ) (s : Seen place input) (bytes : (i : ℕ) → Fits w8 (get_or input i 0)) where
   quiet : (n : ℕ) → Told place input n → (q : Place) → q ≡ reached place input n → Quiet place input q
   quiet n (plain l m w) q e =
-      let a = widen-one place input s (λ z. omega arith) q e in
+      let a = widen-one place input s (omega arith) q e in
       let b : q.start ≡ place.start = ap (λ z. z.start) e ∙ reached-start place input 1 in
       let c : q.noise ≡ place.noise = ap (λ z. z.noise) e ∙ reached-noise place input 1 in
       let d : place.start + 1 ≤ q.held = subst (λ z. place.start + 1 ≤ z.held) (sym e) (reached-held place input 1 (omega arith)) in
@@ -102,7 +102,7 @@ module _ (place : Place) (input : List ℕ) (s : Seen place input) (bytes : (i :
         refused = first_live input q a.seen (omega arith) (λ z. w (ap (λ i. get_or input i 0) (sym b) ∙ z));
       }
   quiet n (wrong l m p w) q e =
-      let a = widen-four place input s (λ z. omega arith) q p e in
+      let a = widen-four place input s (omega arith) q p e in
       let b : q.start ≡ place.start = ap (λ z. z.start) e ∙ reached-start place input 4 in
       let c : q.noise ≡ place.noise = ap (λ z. z.noise) e ∙ reached-noise place input 4 in
       let d : place.start + 4 ≤ q.held = subst (λ z. place.start + 4 ≤ z.held) (sym e) (reached-held place input 4 (omega arith)) in

@@ -284,14 +284,11 @@ fn widen(place: Place, input: &[u8]) -> Place
     requires { Seen place input.now }
     ensures { Along place input.now result }
 {
-    let start = place.start;
-    if start == input.len() {
-        return place;
+    match input.get(place.start) {
+        None => place,
+        Some(&PREAMBLE) => reach(place, input, 4),
+        Some(_) => reach(place, input, 1),
     }
-    if input[start] == PREAMBLE {
-        return reach(place, input, 4);
-    }
-    reach(place, input, 1)
 }
 
 // What can be done without a check.
