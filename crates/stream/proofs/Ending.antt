@@ -18,7 +18,7 @@ use Rattle.stream.specs.declared.Turn.TheVariants as turn
 use Rattle.stream.specs.Scan.{noise, one_more_of}
 use Rattle.stream.specs.Tray.{accept, next, Outcome, told, done, feed_end, close, close_end, laid}
 use Rattle.stream.specs.Check.{none-short}
-use Rattle.stream.specs.Walk.{shifted, Standing, plus, closed_from, to_go, Onward, Answered, CloseTurn, live_at, noised, settled, shown_answer}
+use Rattle.stream.specs.Walk.{shifted, Standing, plus, closed_from, Onward, Answered, CloseTurn, live_at, noised, settled, shown_answer}
 use Rattle.stream.proofs.Parts.{part-is}
 use Rattle.stream.proofs.Feeding.{more-some, more-full}
 use Rattle.stream.proofs.Places.{noised-old, noised-nearer}
@@ -135,13 +135,6 @@ module _ (bytes : List ℕ) (place : Place) (st : Standing place bytes []) where
 
 -- ---- the loop
 
-module _ (bytes : List ℕ) (place : Place) (n : Turn) (now : List ℕ) (c : CloseTurn bytes place n now) where
-  pub turned_on : (place' : Place) → n ≡ turn.On place' → Onward closed_from place bytes [] place' now
-  turned_on place' e = subst (λ x. CloseTurn bytes place x now) e c
-
-  pub turned-nearer : (place' : Place) → n ≡ turn.On place' → to_go place' [] < to_go place []
-  turned-nearer place' e = (turned_on place' e).nearer
-
-  pub turned-last : (bytes₀ : List ℕ) (place₀ : Place) → Far closed_from bytes₀ place₀ [] bytes place → (r : Answer) → n ≡ turn.Ended r
-      → Answered (closed_from bytes₀ place₀) bytes₀ r now
-  turned-last bytes₀ place₀ t r e = far-answered closed_from bytes₀ place₀ [] bytes place t r now (subst (λ x. CloseTurn bytes place x now) e c)
+pub turned-last : (bytes : List ℕ) (place : Place) (n : Turn) (now : List ℕ) → CloseTurn bytes place n now → (bytes₀ : List ℕ) (place₀ : Place) → Far closed_from bytes₀ place₀ [] bytes place
+    → (r : Answer) → n ≡ turn.Ended r → Answered (closed_from bytes₀ place₀) bytes₀ r now
+turned-last bytes place n now c bytes₀ place₀ t r e = far-answered closed_from bytes₀ place₀ [] bytes place t r now (subst (λ x. CloseTurn bytes place x now) e c)

@@ -3,7 +3,7 @@ use mathlib.Core.Path.{◌≡◌, refl, sym, ap, ap₂, ◌∙◌, subst}
 use mathlib.Core.List.{List}
 use mathlib.Core.Bool.{Bool, true, false, cond}
 use Prim.Native.Nat.{ℕ, suc, ◌+◌, ◌-◌, ◌%◌, ◌≤◌, ◌<◌, min}
-use native.Mathlib.Nat.{le-min, lt_of_lt_of_le}
+use native.Mathlib.Nat.{le-min}
 use native.Mathlib.Omega.{arith}
 use lib.ListN.{length, get_or, take, drop, length-take, length-drop}
 use lib.Seq.{drop-cons, get_or-take, get_or-drop, take_all}
@@ -21,7 +21,7 @@ use Rattle.frame.specs.declared.Checked.TheVariants.{Refused}
 use Rattle.frame.specs.Check.{checked}
 use Rattle.stream.specs.declared.Place.{Place}
 use Rattle.stream.specs.Check.{no-preamble, bad-start}
-use Rattle.stream.specs.Walk.{fed_from, live_at, to_go, Seen, Along, Told, plain, wrong, reached, noised}
+use Rattle.stream.specs.Walk.{fed_from, live_at, Seen, Along, Told, plain, wrong, reached, noised}
 use Rattle.stream.proofs.Parts.{part-is}
 use Rattle.stream.proofs.Places.{noised-nearer}
 use Rattle.stream.proofs.Along.{length_seen, along-two, widen-one, widen-four}
@@ -123,16 +123,7 @@ module _ (place₀ : Place) (input : List ℕ) (place : Place) (a : Along place�
   so : Quiet place input q
   so = quiet place input a.seen bytes n t q e
 
-  pub skip-live : q.start < q.held
-  skip-live = so.live
-
-  pub skip-few : q.noise < most_noise
-  skip-few = omega (arith, so.few)
-
   module _ (p : Place) (r : p ≡ noised q) where
-    pub skip-less : to_go p input < to_go place input
-    skip-less = lt_of_lt_of_le (noised-nearer q p r input skip-live) so.along.no-further
-
     pub skip-on : Along place₀ input p
     skip-on =
         let w = so.along.seen in

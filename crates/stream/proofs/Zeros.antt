@@ -5,7 +5,7 @@ use mathlib.Core.Bool.{Bool, true, false, not, ◌&&◌, and_assoc, and-true}
 use Prim.Native.Nat.{ℕ, zero, suc, ◌+◌, ◌-◌, ◌%◌, ◌≤◌}
 use native.Mathlib.Omega.{arith}
 use lib.ListN.{length, take, drop, length-drop, take-append-drop}
-use lib.Seq.{length-take-le, take_all, drop-drop}
+use lib.Seq.{take_all, drop-drop}
 use lib.Bits.{bit_or, or_zero_l, or_add_and, and_le_r}
 use lib.Dec.{eqb, eqb-suc-zero}
 use borrow.Author.Tests.{ne_eqb, not-true, not-false}
@@ -39,9 +39,6 @@ zeros-last true c e = e
 zeros-last false c e = let z : ◌≡◌ {A = ℕ} 0 1 = cc in absurd (omega arith)
 
 -- ---- whole blocks, and the last block's bytes
-
-pub blocks-in : (bytes : List ℕ) → length (take (length bytes - length bytes % 32) bytes) ≡ length bytes - length bytes % 32
-blocks-in bytes = length-take-le (length bytes - length bytes % 32) bytes (omega arith)
 
 module _ (bytes : List ℕ) (b : Bool) (e : b ≡ zeros (take (length bytes - length bytes % 32) bytes)) where
   pub blocks-not : not b ≡ true → false ≡ zeros bytes

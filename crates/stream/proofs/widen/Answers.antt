@@ -1,5 +1,5 @@
 -- It is SHORT with no byte, and with a preamble and fewer than four (Along.antt).
-use Rattle.std.proofs.Common.{rules, ◌≡◌, ℕ, ◌<◌, length, get_or}
+use Rattle.std.proofs.Common.{rules, ◌≡◌, get_or}
 use Rattle.stream.proofs.Along.{widen-one, widen-four}
 use Rattle.stream.proofs.widen.Goals as goal
 
