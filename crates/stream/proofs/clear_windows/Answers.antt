@@ -1,3 +1,4 @@
+-- Each item that take_while passed on is a window that is clear.
 use Rattle.std.proofs.Common.{rules, ◌≡◌, ◌∙◌, refl, ap, sym, ℕ, ◌==◌, ◌*◌, ◌<◌, not, true, take, drop, arith}
 use Rattle.std.specs.Prelude.{Option, Some, None, IfSome}
 use Rattle.std.specs.Option.{option_map}

@@ -1,3 +1,4 @@
+-- The fold runs over the bytes themselves, and comes to what `none_met` says.
 use Rattle.std.proofs.Common.{rules, ◌≡◌, ◌∙◌, refl, ℕ, ◌==◌, not, Bool, true, false, List, [], ◌∷◌}
 use Rattle.std.specs.Prelude.{fold, map, ◌&&◌, ◌||◌}
 use Rattle.std.specs.List.{list_all}
