@@ -10,8 +10,6 @@ use Rattle.stream.specs.declared.Tray.{Tray}
 use Rattle.stream.specs.declared.Said.{Said}
 use Rattle.stream.specs.declared.Answer.{Answer}
 use Rattle.stream.specs.declared.Place.{Place}
-use Rattle.stream.specs.declared.Turn.{Turn}
-use Rattle.stream.specs.declared.Turn.TheVariants as turn
 use Rattle.stream.specs.Tray.{Outcome, refused, told, hungry, done, feed, close, close_end, fresh_tray, answer_of, laid}
 
 -- the first `start` of the bytes held go, the rest moves to the front, and zeros fill the end
@@ -72,10 +70,6 @@ held_by (done c) = c.held
 pub record Answered (o : Outcome) (bytes : List ℕ) (answer : Answer) (bytes' : List ℕ) : Type 0 where
   pub says : answer ≡ answer_of fresh_tray o
   pub leaves : bytes' ≡ laid bytes (held_by o)
-
-abbrev pub CloseTurn : List ℕ → Place → Turn → List ℕ → Type 0
-CloseTurn bytes place (turn.On place') bytes' = Onward closed_from place bytes [] place' bytes'
-CloseTurn bytes place (turn.Ended answer) bytes' = Answered (closed_from bytes place) bytes answer bytes'
 
 -- the last bytes held are those of the input that were used
 pub record Ends (place : Place) (bytes input : List ℕ) : Type 0 where

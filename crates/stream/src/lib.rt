@@ -4,12 +4,14 @@
 ghost use Rattle.std.specs.Prelude.{◌≡◌, [], ◌++◌, ℕ, ◌+◌, ◌-◌, ◌*◌, ◌≤◌, ◌<◌, ◌==◌, true, not, length, take, drop, position, IfSome};
 ghost use Rattle.sizes.specs.Sizes.{longest_frame, most_noise};
 ghost use Rattle.stream.specs.Tray.{zeros, is_frame, sound, fresh_tray, number_of_said, refused, answer_of, call_answer, call_bytes, finish_answer, finish_bytes};
+ghost use Rattle.std.specs.ControlFlow.{MatchControlFlow};
 ghost use Rattle.std.specs.List.{list_all, position_or_len};
 ghost use Rattle.stream.specs.Driver.{Ready};
-ghost use Rattle.stream.specs.Walk.{shifted, Standing, fed_from, closed_from, Answered, CloseTurn, Wanting, Ends, Onward, Seen, Along, Told, reached, Empty, noised, settled, shown_answer, dropped_place};
+ghost use Rattle.stream.specs.Walk.{shifted, Standing, fed_from, closed_from, Answered, Wanting, Ends, Onward, Seen, Along, Told, reached, Empty, noised, settled, shown_answer, dropped_place};
 
 use answer::Refusal;
 use frame::{Checked, Frame};
+use std::ops::ControlFlow;
 
 // The first byte of a frame.
 const PREAMBLE: u8 = 0x73;
@@ -415,32 +417,25 @@ fn feed(bytes: &mut [u8], place: Place, input: &[u8]) -> Answer
     feed_input(bytes, outside, input)
 }
 
-// Where a turn of finish comes to: on from a place, or to an answer.
-#[derive(Clone, Copy)]
-enum Turn {
-    On(Place),
-    Ended(Answer),
-}
-
-// One turn of finish: the first live byte is tried as the first of a frame.
-fn close_turn(bytes: &mut [u8], place: Place) -> Turn
+// One turn of finish: the first live byte is tried as the first of a frame. It goes on from a place, or breaks off with an answer.
+fn close_turn(bytes: &mut [u8], place: Place) -> ControlFlow<Answer, Place>
     requires standing { Standing place bytes.old [] }
     requires start_lt_held { place.start < place.held }
-    ensures { CloseTurn bytes.old place result bytes.new }
+    ensures { MatchControlFlow result (λ next. Onward closed_from place bytes.old [] next bytes.new) (λ answer. Answered (closed_from bytes.old place) bytes.old answer bytes.new) }
 {
     let start = place.start;
     let held = place.held;
     if let Checked::Accepted(frame) = frame::check(&bytes[start..held]) {
         shift(bytes, held, start);
-        return Turn::Ended(show(place, frame));
+        return ControlFlow::Break(show(place, frame));
     }
     let next = noisy(place);
     if next.noise == sizes::MOST_NOISE {
         let start = next.start;
         shift(bytes, held, start);
-        return Turn::Ended(say(next, Said::Noise(sizes::MOST_NOISE), 0, 0));
+        return ControlFlow::Break(say(next, Said::Noise(sizes::MOST_NOISE), 0, 0));
     }
-    Turn::On(next)
+    ControlFlow::Continue(next)
 }
 
 // The end of finish, where no byte is live: what is left to be told.
@@ -467,12 +462,8 @@ fn close(bytes: &mut [u8], place: Place) -> Answer
     let mut place = place;
     while place.start < place.held {
         match close_turn(bytes, place) {
-            Turn::Ended(answer) => {
-                return answer;
-            }
-            Turn::On(next) => {
-                place = next;
-            }
+            ControlFlow::Break(answer) => return answer,
+            ControlFlow::Continue(next) => place = next,
         }
     }
     close_end(bytes, place)
