@@ -184,12 +184,12 @@ fn say(place: Place, said: Said, shown: usize, noise: u32) -> Answer
     ensures { result ≡ settled place said shown noise }
 {
     Answer {
-        said: said,
+        said,
         used: place.used,
         tray: Tray {
             held: place.held - place.start,
-            shown: shown,
-            noise: noise,
+            shown,
+            noise,
         },
     }
 }
@@ -476,7 +476,7 @@ fn refused(tray: Tray, refusal: Refusal) -> Answer
     Answer {
         said: Said::Refused(refusal),
         used: 0,
-        tray: tray,
+        tray,
     }
 }
 
