@@ -1,7 +1,7 @@
 // Frames and noise in a stream of bytes that comes in portions: document 01, "The stream".
 #![tactic(auto)]
 
-ghost use Rattle.std.specs.Prelude.{◌≡◌, [], ◌++◌, ℕ, ◌+◌, ◌-◌, ◌*◌, ◌≤◌, ◌<◌, ◌==◌, true, not, length, take, drop, position, IfSome};
+ghost use Rattle.std.specs.Prelude.{◌≡◌, [], ℕ, ◌*◌, ◌≤◌, ◌<◌, ◌==◌, true, not, length, take, drop, position, IfSome};
 ghost use Rattle.sizes.specs.Sizes.{longest_frame, most_noise};
 ghost use Rattle.stream.specs.Tray.{zeros, is_frame, sound, fresh_tray, number_of_said, refused, answer_of, call_answer, call_bytes, finish_answer, finish_bytes};
 ghost use Rattle.std.specs.ControlFlow.{MatchControlFlow};
