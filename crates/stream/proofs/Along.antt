@@ -1,17 +1,18 @@
 -- The steps of a call whose live bytes lie in the input, in plain values: what the call comes to stays the same.
-use mathlib.Core.Path.{◌≡◌, refl, sym, ap, ap₂, ◌∙◌, subst}
+use mathlib.Core.Path.{◌≡◌, refl, sym, ap, ◌∙◌, subst}
 use mathlib.Core.List.{List, [], ◌∷◌, ◌++◌}
 use mathlib.Core.Bool.{Bool, true, false, cond}
 use Prim.Native.Nat.{ℕ, zero, suc, ◌+◌, ◌-◌, ◌*◌, ◌≤◌, ◌<◌, min}
-use native.Mathlib.Nat.{min-le_left, min-le_right, le-min, le_refl, le_trans, sub_self}
+use native.Mathlib.Nat.{min-le_right, le-min, le_refl, le_trans, sub_self}
 use native.Mathlib.Omega.{arith}
 use lib.ListN.{length, get_or, take, drop, length-drop, take-append-drop, drop_of_length-le}
 use lib.Seq.{take-add, drop-append-le, drop-drop, drop-cons, length-take-le, slice_empty, length-slice}
 use lib.Dec.{ltb}
 use borrow.Author.Tests.{ltb-false, le-ltb}
 use Rattle.sizes.specs.Sizes.{longest_frame, most_noise}
-use Rattle.stream.specs.Bytes as Bytes
-use Rattle.stream.specs.Bytes.{index_of}
+use Rattle.std.specs.Prelude.{◌==◌, not}
+use Rattle.std.specs.List.{position_or_len}
+use Rattle.std.proofs.lemmas.List.Sums.{prefix_len-le-length}
 use Rattle.frame.specs.declared.Checked.TheVariants.{Short}
 use Rattle.frame.specs.Check.{checked}
 use Rattle.frame.specs.Laws.{short-wants}
@@ -23,17 +24,8 @@ use Rattle.stream.proofs.Feeding.{plus-plus, IsShort, feed-all, short_on, feed-q
 use Rattle.stream.proofs.Parts.{part-is}
 use Rattle.stream.proofs.Turns.{fed-at}
 
-over : (a b c : ℕ) → a ≡ b + c → a - b ≡ c
-over a b c e = omega arith
-
-passed-noise : (f u l k : ℕ) → f ≤ u + l → l ≤ (most_noise - 1) - k → k < most_noise → k + (f - u) < most_noise
-passed-noise f u l k a b c = omega arith
-
 fits-noise : (k l : ℕ) → l ≤ (most_noise - 1) - k → k < most_noise → k + l < most_noise
 fits-noise k l a b = omega arith
-
-passed-in : (f u l n : ℕ) → f ≤ u + l → l ≤ n - u → u ≤ n → f ≤ n
-passed-in f u l n a b c = omega arith
 
 passed_on : (f u i n w h : ℕ) → f ≡ u + i → f ≤ n → h ≡ u → 3 * (n - f) + (f - f) + f ≤ 3 * (n - u) + w + h
 passed_on f u i n w h e a b = omega arith
@@ -81,10 +73,7 @@ module _ (place : Place) (input : List ℕ) (s : Seen place input) where
 
     end-in : (end ≤ place.start + wanted) × (end ≤ length input)
     unfolding end
-    end-in =
-        let a = min-le_left wanted (length input - place.start) in
-        let b = min-le_right wanted (length input - place.start) in
-        (omega arith, omega arith)
+    end-in = (omega arith, omega arith)
 
     pub along-reached : (r : Place) → r ≡ reached place input wanted → Along place input r
     unfolding end
@@ -130,7 +119,7 @@ module _ (place : Place) (input : List ℕ) (s : Seen place input) where
       let n : place.held - place.start + i ≡ place.held + i - place.start = omega arith in
       sym (live_more i) ∙ sym (part-is input place.start (place.held + i)) ∙ ap (λ k. take k (drop place.start input)) (sym n)
 
-  module _ (h : place.start ≡ length input → ⊥) (r : Place) where
+  module _ (h : place.start < length input) (r : Place) where
     pub widen-one : r ≡ reached place input 1 → Along place input r
     widen-one q =
         along-reached 1 (omega arith)
@@ -155,47 +144,34 @@ module _ (place : Place) (input : List ℕ) (s : Seen place input) where
     none-live : live_at place input ≡ []
     none-live = drop_of_length-le (take place.held input) {i = place.start} (omega (arith, length-take-le place.held input (omega arith)))
 
-    module _ (found : ℕ) (limit : ℕ) (l : limit ≡ min ((most_noise - 1) - place.noise) (length input - place.used))
-        (q : found ≡ place.used + index_of 0x73 (Bytes.slice place.used (place.used + limit) input)) (b : found ≤ place.used + limit) where
+    module _ (passed limit : ℕ) (l : limit ≡ min ((most_noise - 1) - place.noise) (length input - place.used))
+        (q : passed ≡ position_or_len (λ byte. byte == 0x73) (take (place.used + limit - place.used) (drop place.used input))) where
       limit-in : (limit ≤ (most_noise - 1) - place.noise) × (limit ≤ length input - place.used)
-      limit-in =
-          let x = min-le_left ((most_noise - 1) - place.noise) (length input - place.used) in
-          let y = min-le_right ((most_noise - 1) - place.noise) (length input - place.used) in
-          (omega arith, omega arith)
+      limit-in = (omega arith, omega arith)
 
-      split : drop place.used (take (place.used + limit) input) ++ drop (place.used + limit) input ≡ drop place.used input
-      split =
-          let n : length (take (place.used + limit) input) ≡ place.used + limit = length-take-le (place.used + limit) input (omega (arith, limit-in.1)) in
-          sym (drop-append-le place.used (take (place.used + limit) input) (drop (place.used + limit) input) (omega arith))
-          ∙ ap (drop place.used) (take-append-drop (place.used + limit) input)
-
-      pub pass-along : Along place input (record { start = found; held = found; noise = place.noise + (found - place.used); used = found })
-      unfolding Bytes.slice
+      pub pass-along : Along place input (record { start = place.used + passed; held = place.used + passed; noise = place.noise + passed; used = place.used + passed })
       pass-along =
-          let seg = drop place.used (take (place.used + limit) input) in
+          let p = drop place.used input in
+          let seg = take limit p in
           let i = limit-in in
-          let n : length seg ≡ limit = length-slice place.used (place.used + limit) input (passed-in (place.used + limit) place.used limit (length input) (omega arith) i.1 s.used-in) ∙ over (place.used + limit) place.used limit refl in
-          let k : found - place.used ≡ index_of 0x73 seg = over found place.used (index_of 0x73 seg) q in
-          let d : drop found input ≡ drop (index_of 0x73 seg) (drop place.used input) = ap (λ x. drop x input) q ∙ sym (drop-drop (index_of 0x73 seg) place.used input) in
-          let f = feed-quiet seg (drop (place.used + limit) input) place.noise (rw n (fits-noise place.noise limit i.0 s.noise-less)) in
-          let f' : feed (drop place.used input) [] place.noise
-          ≡ plus (index_of 0x73 seg) (feed (drop (index_of 0x73 seg) (drop place.used input)) [] (place.noise + index_of 0x73 seg)) = rw split at f in
+          let w : place.used + limit - place.used ≡ limit = omega arith in
+          let n : length seg ≡ limit = length-take-le limit p (omega (arith, length-drop place.used input, i.1)) in
+          let k : passed ≡ position_or_len (λ byte. byte == 0x73) seg = q ∙ ap (λ m. position_or_len (λ byte. byte == 0x73) (take m p)) w in
+          let b : passed ≤ limit = omega (arith, k, n, prefix_len-le-length (λ byte. not (byte == 0x73)) seg) in
+          let f = feed-quiet seg (drop limit p) place.noise (rw n (fits-noise place.noise limit i.0 s.noise-less)) in
+          let f' : feed p [] place.noise ≡ plus passed (feed (drop passed p) [] (place.noise + passed)) = rw (take-append-drop limit p, ← k) at f in
           record {
             seen =
                 record {
-                  start-in = le_refl found;
+                  start-in = le_refl (place.used + passed);
                   held-used = refl;
                   held-most = rw sub_self (omega arith);
-                  noise-less = passed-noise found place.used limit place.noise b i.0 s.noise-less;
-                  used-in = passed-in found place.used limit (length input) b i.1 s.used-in;
+                  noise-less = fits-noise place.noise passed (le_trans b i.0) s.noise-less;
+                  used-in = omega (arith, b, i.1, s.used-in);
                 };
             on =
-                fed-at input [] input _ (slice_empty found input)
-                ∙ ap₂ (λ x y. plus found (feed x [] (place.noise + y))) d k
-                ∙ ap (λ x. plus x (feed (drop (index_of 0x73 seg) (drop place.used input)) [] (place.noise + index_of 0x73 seg))) q
-                ∙ sym (plus-plus place.used (index_of 0x73 seg) (feed (drop (index_of 0x73 seg) (drop place.used input)) [] (place.noise + index_of 0x73 seg)))
-                ∙ ap (plus place.used) (sym f') ∙ sym (fed-at input [] input place none-live);
-            no-further =
-                passed_on found place.used (index_of 0x73 seg) (length input) (place.held - place.start) place.held q
-                (passed-in found place.used limit (length input) b i.1 s.used-in) s.held-used;
+                fed-at input [] input _ (slice_empty (place.used + passed) input)
+                ∙ ap (λ x. plus (place.used + passed) (feed x [] (place.noise + passed))) (sym (drop-drop passed place.used input))
+                ∙ sym (plus-plus place.used passed (feed (drop passed p) [] (place.noise + passed))) ∙ ap (plus place.used) (sym f') ∙ sym (fed-at input [] input place none-live);
+            no-further = passed_on (place.used + passed) place.used passed (length input) (place.held - place.start) place.held refl (omega (arith, b, i.1, s.used-in)) s.held-used;
           }

@@ -1,5 +1,5 @@
 -- Finish, in plain values: the laws of `close`, a turn of its loop, and its end. The turn and the invariant are those of every loop (Returns.antt, Loop.antt).
-use mathlib.Core.Path.{◌≡◌, refl, sym, ap, ◌∙◌, subst}
+use mathlib.Core.Path.{◌≡◌, refl, sym, ap, ◌∙◌}
 use mathlib.Core.List.{List, [], ◌∷◌}
 use Prim.Native.Nat.{ℕ, zero, suc, ◌+◌, ◌-◌, ◌≤◌, ◌<◌}
 use native.Mathlib.Omega.{arith}
@@ -13,18 +13,15 @@ use Rattle.frame.specs.Check.{checked}
 use Rattle.stream.specs.declared.Said.{Said}
 use Rattle.stream.specs.declared.Answer.{Answer}
 use Rattle.stream.specs.declared.Place.{Place}
-use Rattle.stream.specs.declared.Turn.{Turn}
-use Rattle.stream.specs.declared.Turn.TheVariants as turn
 use Rattle.stream.specs.Scan.{noise, one_more_of}
 use Rattle.stream.specs.Tray.{accept, next, Outcome, told, done, feed_end, close, close_end, laid}
 use Rattle.stream.specs.Check.{none-short}
-use Rattle.stream.specs.Walk.{shifted, Standing, plus, closed_from, to_go, Onward, Answered, CloseTurn, live_at, noised, settled, shown_answer}
+use Rattle.stream.specs.Walk.{shifted, Standing, plus, closed_from, Onward, Answered, live_at, noised, settled, shown_answer}
 use Rattle.stream.proofs.Parts.{part-is}
 use Rattle.stream.proofs.Feeding.{more-some, more-full}
 use Rattle.stream.proofs.Places.{noised-old, noised-nearer}
 use Rattle.stream.proofs.Turns.{length-live, back, behind-noise}
 use Rattle.stream.proofs.Returns.{tells, shows, goes_on, fills}
-use Rattle.stream.proofs.Loop.{Far, far-answered}
 
 -- what comes of the live bytes and the noise before them
 abbrev finishing : List ℕ → ℕ → Outcome
@@ -132,16 +129,3 @@ module _ (bytes : List ℕ) (place : Place) (st : Standing place bytes []) where
           fills finishing (live_at place bytes) place live-length (closed_from bytes place) comes place' p (drop place'.start (take place.held bytes))
           (behind-noise bytes place place' p) (close-full (live_at place bytes) v place.noise verdict o some-live) n bytes now r a
           (front place'.start (noised-old place place' p h) now s)
-
--- ---- the loop
-
-module _ (bytes : List ℕ) (place : Place) (n : Turn) (now : List ℕ) (c : CloseTurn bytes place n now) where
-  pub turned_on : (place' : Place) → n ≡ turn.On place' → Onward closed_from place bytes [] place' now
-  turned_on place' e = subst (λ x. CloseTurn bytes place x now) e c
-
-  pub turned-nearer : (place' : Place) → n ≡ turn.On place' → to_go place' [] < to_go place []
-  turned-nearer place' e = (turned_on place' e).nearer
-
-  pub turned-last : (bytes₀ : List ℕ) (place₀ : Place) → Far closed_from bytes₀ place₀ [] bytes place → (r : Answer) → n ≡ turn.Ended r
-      → Answered (closed_from bytes₀ place₀) bytes₀ r now
-  turned-last bytes₀ place₀ t r e = far-answered closed_from bytes₀ place₀ [] bytes place t r now (subst (λ x. CloseTurn bytes place x now) e c)

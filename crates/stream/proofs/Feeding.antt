@@ -8,10 +8,10 @@ use native.Mathlib.Numerals.{add-one}
 use native.Mathlib.Omega.{arith}
 use lib.ListN.{length, take, drop, length-append, drop_of_length-le}
 use lib.Seq.{length-take-le}
-use lib.Dec.{eqb}
 use borrow.Author.Tests.{lt-ltb, le-ltb, eqb-false}
 use Rattle.sizes.specs.Sizes.{most_noise}
-use Rattle.stream.specs.Bytes.{index_of, index_after}
+use Rattle.std.specs.Prelude.{◌==◌, cond, not}
+use Rattle.std.specs.List.{position_or_len}
 use Rattle.answer.specs.declared.Refusal.{Refusal}
 use Rattle.answer.specs.declared.Refusal.TheVariants.{Preamble}
 use Rattle.frame.specs.declared.Frame.{Frame}
@@ -145,19 +145,23 @@ feed-quiet-one x p k h l =
     feed-take x p [] 1 k none-short
     ∙ ap taken (feed-same p (x ∷ []) [] k (k + 1) (decide-noise (x ∷ []) Preamble k (no-preamble x [] h) l))
 
+abbrev met : ℕ → Bool
+met byte = byte == preamble
+
 pub feed-quiet : (s p : List ℕ) (k : ℕ) → k + length s < most_noise
-    → feed (s ++ p) [] k ≡ plus (index_of preamble s) (feed (drop (index_of preamble s) (s ++ p)) [] (k + index_of preamble s))
-unfolding index_of index_after
+    → feed (s ++ p) [] k ≡ plus (position_or_len met s) (feed (drop (position_or_len met s) (s ++ p)) [] (k + position_or_len met s))
 feed-quiet [] p k h = rw (add-zero k) (sym (plus-zero (feed p [] k)))
-feed-quiet (x ∷ s) p k h = go (eqb x preamble) refl (feed-quiet s p (k + 1) (omega arith))
+feed-quiet (x ∷ s) p k h = go (met x) refl (feed-quiet s p (k + 1) (omega arith))
   where
-    go : (b : Bool) → eqb x preamble ≡ b
-        → feed (s ++ p) [] (k + 1) ≡ plus (index_of preamble s) (feed (drop (index_of preamble s) (s ++ p)) [] (k + 1 + index_of preamble s))
+    go : (b : Bool) → met x ≡ b
+        → feed (s ++ p) [] (k + 1) ≡ plus (position_or_len met s) (feed (drop (position_or_len met s) (s ++ p)) [] (k + 1 + position_or_len met s))
         → feed (x ∷ (s ++ p)) [] k
-        ≡ plus (index_after b (index_of preamble s)) (feed (drop (index_after b (index_of preamble s)) (x ∷ (s ++ p))) [] (k + index_after b (index_of preamble s)))
+        ≡ plus (cond (not b) (1 + position_or_len met s) 0) (feed (drop (cond (not b) (1 + position_or_len met s) 0) (x ∷ (s ++ p))) [] (k + cond (not b) (1 + position_or_len met s) 0))
     go true e g = rw (add-zero k) (sym (plus-zero (feed (x ∷ (s ++ p)) [] k)))
     go false e g =
-        let q : k + 1 + index_of preamble s ≡ k + suc (index_of preamble s) = omega arith in
-        feed-quiet-one x (s ++ p) k (eqb-false x preamble e) (omega arith) ∙ ap taken g
-        ∙ plus-taken (index_of preamble s) (feed (drop (index_of preamble s) (s ++ p)) [] (k + 1 + index_of preamble s))
-        ∙ ap (λ j. plus (suc (index_of preamble s)) (feed (drop (index_of preamble s) (s ++ p)) [] j)) q
+        let m : 1 + position_or_len met s ≡ suc (position_or_len met s) = omega arith in
+        let q : k + 1 + position_or_len met s ≡ k + suc (position_or_len met s) = omega arith in
+        rw m
+        (feed-quiet-one x (s ++ p) k (eqb-false x preamble e) (omega arith) ∙ ap taken g
+        ∙ plus-taken (position_or_len met s) (feed (drop (position_or_len met s) (s ++ p)) [] (k + 1 + position_or_len met s))
+        ∙ ap (λ j. plus (suc (position_or_len met s)) (feed (drop (position_or_len met s) (s ++ p)) [] j)) q)

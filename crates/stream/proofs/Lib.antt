@@ -1,11 +1,10 @@
-pub mod Moves
+pub mod Zeros
 pub mod Parts
 pub mod Judging
 pub mod Places
 pub mod Feeding
 pub mod Turns
 pub mod Seeking
-pub mod Finding
 pub mod Along
 pub mod Returns
 pub mod Skipping

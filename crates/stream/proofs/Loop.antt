@@ -4,8 +4,8 @@ use mathlib.Core.List.{List, []}
 use Prim.Native.Nat.{ℕ, ◌+◌, ◌-◌, ◌≤◌, ◌<◌}
 use native.Mathlib.Nat.{le_refl}
 use native.Mathlib.Omega.{arith}
-use lib.ListN.{length, take, drop, drop_of_length-le}
-use lib.Seq.{length-take-le, slice_empty, drop-drop}
+use lib.ListN.{length, take, drop}
+use lib.Seq.{slice_empty, drop-drop}
 use Rattle.sizes.specs.Sizes.{longest_frame, most_noise}
 use Rattle.answer.specs.declared.Refusal.{Refusal}
 use Rattle.frame.specs.declared.Frame.{Frame}
@@ -17,7 +17,7 @@ use Rattle.stream.specs.declared.Answer.{Answer}
 use Rattle.stream.specs.declared.Place.{Place}
 use Rattle.stream.specs.Tray.{Outcome, feed, fresh_tray, answer_of, laid}
 use Rattle.stream.specs.Sound.{laid_same, laid-again, length-laid, drop-laid}
-use Rattle.stream.specs.Walk.{shifted, Standing, plus, fed_from, Onward, held_by, Answered, live_at, Wanting, Ends, Seen, Empty, noised, settled, shown_answer}
+use Rattle.stream.specs.Walk.{shifted, Standing, plus, fed_from, held_by, Answered, live_at, Wanting, Ends, Seen, Empty, noised, settled, shown_answer}
 use Rattle.stream.proofs.Parts.{part-is}
 use Rattle.stream.proofs.Feeding.{feed-accept, feed-starved, feed-noise, feed-full}
 use Rattle.stream.proofs.Turns.{length-live, fed-at, back, behind-noise}
@@ -69,20 +69,13 @@ pub record Far (G : List ℕ → Place → Outcome) (bytes₀ : List ℕ) (place
   pub beyond : drop longest_frame bytes ≡ drop longest_frame bytes₀
   pub on : G bytes place ≡ G bytes₀ place₀
 
-module _ (G : List ℕ → Place → Outcome) where
-  pub far-first : (bytes : List ℕ) (place : Place) (input : List ℕ) → Standing place bytes input → Far G bytes place input bytes place
-  far-first bytes place input st = record { standing = st; same = refl; beyond = refl; on = refl }
-
-  module _ (bytes₀ : List ℕ) (place₀ : Place) (input bytes : List ℕ) (place : Place) (t : Far G bytes₀ place₀ input bytes place) where
-    pub far-onward : (place' : Place) (bytes' : List ℕ) → Onward G place bytes input place' bytes' → length bytes' ≡ length bytes → Far G bytes₀ place₀ input bytes' place'
-    far-onward place' bytes' o l = record { standing = o.standing; same = l ∙ t.same; beyond = o.beyond ∙ t.beyond; on = o.on ∙ t.on }
-
-    pub far-answered : (r : Answer) (now : List ℕ) → Answered (G bytes place) bytes r now → Answered (G bytes₀ place₀) bytes₀ r now
-    far-answered r now c =
-        record {
-          says = c.says ∙ ap (answer_of fresh_tray) t.on;
-          leaves = c.leaves ∙ laid_same bytes bytes₀ (held_by (G bytes place)) t.beyond ∙ ap (λ o. laid bytes₀ (held_by o)) t.on;
-        }
+pub far-answered : (G : List ℕ → Place → Outcome) (bytes₀ : List ℕ) (place₀ : Place) (input bytes : List ℕ) (place : Place) → Far G bytes₀ place₀ input bytes place
+    → (r : Answer) (now : List ℕ) → Answered (G bytes place) bytes r now → Answered (G bytes₀ place₀) bytes₀ r now
+far-answered G bytes₀ place₀ input bytes place t r now c =
+    record {
+      says = c.says ∙ ap (answer_of fresh_tray) t.on;
+      leaves = c.leaves ∙ laid_same bytes bytes₀ (held_by (G bytes place)) t.beyond ∙ ap (λ o. laid bytes₀ (held_by o)) t.on;
+    }
 
 -- ---- `feed`
 
@@ -165,16 +158,6 @@ module _ (bytes₀ : List ℕ) (place₀ : Place) (input bytes : List ℕ) (plac
 
 -- ---- the last bytes held are those of the input that were used
 
-pub held-there : (place : Place) (bytes input : List ℕ) → Standing place bytes input → place.held ≤ length bytes
-held-there place bytes input st = omega (arith, st.within)
-
-pub ends-first : (place : Place) (bytes input : List ℕ) → place.used ≡ 0 → place.held ≤ length bytes → Ends place bytes input
-ends-first place bytes input e h =
-    record {
-      used-held = omega arith;
-      ends = ap (λ n. drop (place.held - n) (take place.held bytes)) e ∙ drop_of_length-le (take place.held bytes) {i = place.held - 0} (omega (arith, length-take-le place.held bytes h)) ∙ ap (λ n. take n input) (sym e);
-    }
-
 pub ends-noised : (place : Place) (bytes input : List ℕ) → Ends place bytes input → (place' : Place) → place' ≡ noised place → Ends place' bytes input
 ends-noised place bytes input g place' p = rw p (record { used-held = g.used-held; ends = g.ends })
 
@@ -198,16 +181,8 @@ pub record Fed (bytes₀ : List ℕ) (place₀ : Place) (input bytes : List ℕ)
   pub far : Far (fed_from input) bytes₀ place₀ input bytes place
   pub ending : Ends place bytes input
 
-pub fed-first : (bytes : List ℕ) (place : Place) (input : List ℕ) → Standing place bytes input → place.used ≡ 0 → Fed bytes place input bytes place
-fed-first bytes place input st e = record { far = far-first (fed_from input) bytes place input st; ending = ends-first place bytes input e (held-there place bytes input st) }
-
-module _ (bytes₀ : List ℕ) (place₀ : Place) (input bytes : List ℕ) (place : Place) (t : Fed bytes₀ place₀ input bytes place) where
-  pub fed-onward : (place' : Place) (bytes' : List ℕ) → Onward (fed_from input) place bytes input place' bytes' → Ends place' bytes' input → length bytes' ≡ length bytes
-      → Fed bytes₀ place₀ input bytes' place'
-  fed-onward place' bytes' o e l = record { far = far-onward (fed_from input) bytes₀ place₀ input bytes place t.far place' bytes' o l; ending = e }
-
-  module _ (v : Checked) (q : v ≡ checked (take (place.held - place.start) (drop place.start bytes))) where
-    pub fed-noised : (x : Refusal) → v ≡ Refused x → place.used < place.held - place.start → (place' : Place) → place' ≡ noised place → (place'.noise ≡ most_noise → ⊥)
-        → Fed bytes₀ place₀ input bytes place'
-    fed-noised x e h place' p n =
-        record { far = far-noised bytes₀ place₀ input bytes place t.far v q x e (omega arith) place' p n; ending = ends-noised place bytes input t.ending place' p }
+pub fed-noised : (bytes₀ : List ℕ) (place₀ : Place) (input bytes : List ℕ) (place : Place) → Fed bytes₀ place₀ input bytes place
+    → (v : Checked) → v ≡ checked (take (place.held - place.start) (drop place.start bytes)) → (x : Refusal) → v ≡ Refused x → place.used < place.held - place.start
+    → (place' : Place) → place' ≡ noised place → (place'.noise ≡ most_noise → ⊥) → Fed bytes₀ place₀ input bytes place'
+fed-noised bytes₀ place₀ input bytes place t v q x e h place' p n =
+    record { far = far-noised bytes₀ place₀ input bytes place t.far v q x e (omega arith) place' p n; ending = ends-noised place bytes input t.ending place' p }

@@ -3,10 +3,10 @@ use mathlib.Core.Path.{◌≡◌, refl, sym, ap, ap₂, ◌∙◌, subst}
 use mathlib.Core.List.{List}
 use mathlib.Core.Bool.{Bool, true, false, cond}
 use Prim.Native.Nat.{ℕ, suc, ◌+◌, ◌-◌, ◌%◌, ◌≤◌, ◌<◌, min}
-use native.Mathlib.Nat.{le-min, lt_of_lt_of_le}
+use native.Mathlib.Nat.{le-min}
 use native.Mathlib.Omega.{arith}
-use lib.ListN.{length, get_or, take, drop}
-use lib.Seq.{drop-cons, get_or-take, get_or-drop}
+use lib.ListN.{length, get_or, take, drop, length-take, length-drop}
+use lib.Seq.{drop-cons, get_or-take, get_or-drop, take_all}
 use lib.Dec.{ltb}
 use borrow.Author.Tests.{ltb-true}
 use mir.Syntax.{w8}
@@ -21,7 +21,7 @@ use Rattle.frame.specs.declared.Checked.TheVariants.{Refused}
 use Rattle.frame.specs.Check.{checked}
 use Rattle.stream.specs.declared.Place.{Place}
 use Rattle.stream.specs.Check.{no-preamble, bad-start}
-use Rattle.stream.specs.Walk.{fed_from, live_at, to_go, Seen, Along, Told, nothing, plain, wrong, reached, noised}
+use Rattle.stream.specs.Walk.{fed_from, live_at, Seen, Along, Told, plain, wrong, reached, noised}
 use Rattle.stream.proofs.Parts.{part-is}
 use Rattle.stream.proofs.Places.{noised-nearer}
 use Rattle.stream.proofs.Along.{length_seen, along-two, widen-one, widen-four}
@@ -88,10 +88,9 @@ record Quiet (place : Place) (input : List ℕ) (q : Place) : Type 0 where
   refused : checked (live_at q input) ≡ Refused why
 
 module _ (place : Place) (input : List ℕ) (s : Seen place input) (bytes : (i : ℕ) → Fits w8 (get_or input i 0)) where
-  quiet : (n : ℕ) → Told place input n → (n ≡ 0 → ⊥) → (q : Place) → q ≡ reached place input n → Quiet place input q
-  quiet n nothing h q e = absurd (h refl)
-  quiet n (plain l m w) h q e =
-      let a = widen-one place input s (λ z. omega arith) q e in
+  quiet : (n : ℕ) → Told place input n → (q : Place) → q ≡ reached place input n → Quiet place input q
+  quiet n (plain l m w) q e =
+      let a = widen-one place input s (omega arith) q e in
       let b : q.start ≡ place.start = ap (λ z. z.start) e ∙ reached-start place input 1 in
       let c : q.noise ≡ place.noise = ap (λ z. z.noise) e ∙ reached-noise place input 1 in
       let d : place.start + 1 ≤ q.held = subst (λ z. place.start + 1 ≤ z.held) (sym e) (reached-held place input 1 (omega arith)) in
@@ -102,8 +101,8 @@ module _ (place : Place) (input : List ℕ) (s : Seen place input) (bytes : (i :
         why = Preamble;
         refused = first_live input q a.seen (omega arith) (λ z. w (ap (λ i. get_or input i 0) (sym b) ∙ z));
       }
-  quiet n (wrong l m p w) h q e =
-      let a = widen-four place input s (λ z. omega arith) q p e in
+  quiet n (wrong l m p w) q e =
+      let a = widen-four place input s (omega arith) q p e in
       let b : q.start ≡ place.start = ap (λ z. z.start) e ∙ reached-start place input 4 in
       let c : q.noise ≡ place.noise = ap (λ z. z.noise) e ∙ reached-noise place input 4 in
       let d : place.start + 4 ≤ q.held = subst (λ z. place.start + 4 ≤ z.held) (sym e) (reached-held place input 4 (omega arith)) in
@@ -119,21 +118,12 @@ module _ (place : Place) (input : List ℕ) (s : Seen place input) (bytes : (i :
 
 -- ---- the loop
 
-module _ (place₀ : Place) (input : List ℕ) (place : Place) (a : Along place₀ input place) (bytes : (i : ℕ) → Fits w8 (get_or input i 0)) (n : ℕ) (t : Told place input n) (h : n ≡ 0 → ⊥)
+module _ (place₀ : Place) (input : List ℕ) (place : Place) (a : Along place₀ input place) (bytes : (i : ℕ) → Fits w8 (get_or input i 0)) (n : ℕ) (t : Told place input n)
     (q : Place) (e : q ≡ reached place input n) where
   so : Quiet place input q
-  so = quiet place input a.seen bytes n t h q e
-
-  pub skip-live : q.start < q.held
-  skip-live = so.live
-
-  pub skip-few : q.noise < most_noise
-  skip-few = omega (arith, so.few)
+  so = quiet place input a.seen bytes n t q e
 
   module _ (p : Place) (r : p ≡ noised q) where
-    pub skip-less : to_go p input < to_go place input
-    skip-less = lt_of_lt_of_le (noised-nearer q p r input skip-live) so.along.no-further
-
     pub skip-on : Along place₀ input p
     skip-on =
         let w = so.along.seen in
@@ -149,12 +139,24 @@ module _ (place₀ : Place) (input : List ℕ) (place : Place) (a : Along place�
           no-further = omega (arith, noised-nearer q p r input l);
         }))
 
--- ---- the tests
+-- ---- the tests, of the bytes from the first live one on
 
-module _ (place : Place) (input : List ℕ) (s : Seen place input) (l : 4 ≤ length input - place.start) (m : place.noise ≡ most_noise - 1 → ⊥) where
-  pub tells-plain : (get_or input place.start 0 ≡ preamble → ⊥) → Told place input 1
-  tells-plain w = plain (omega arith) (omega (arith, s.noise-less)) w
+abbrev rest : Place → List ℕ → List ℕ
+rest place input = take (length input - place.start) (drop place.start input)
 
-  pub tells-wrong : get_or input place.start 0 ≡ preamble → (v : ℕ) → v ≡ frame_crc (get_or input (place.start + 1) 0) (get_or input (place.start + 2) 0) (get_or input (place.start + 3) 0)
-      → (v ≡ get_or input (place.start + 3) 0 % 16 → ⊥) → Told place input 4
-  tells-wrong p v e w = wrong (omega arith) (omega (arith, s.noise-less)) p (λ z. w (e ∙ z))
+module _ (place : Place) (input : List ℕ) (s : Seen place input) (l : 4 ≤ length (rest place input)) (m : place.noise ≡ most_noise - 1 → ⊥) where
+  left : 4 ≤ length input - place.start
+  left = omega (arith, length-take (length input - place.start) (drop place.start input))
+
+  byte : (i : ℕ) → get_or (rest place input) i 0 ≡ get_or input (place.start + i) 0
+  byte i = ap (λ bytes. get_or bytes i 0) (take_all _ _ (omega (arith, length-drop place.start input))) ∙ get_or-drop place.start input i 0
+
+  first : get_or (rest place input) 0 0 ≡ get_or input place.start 0
+  first = let z : place.start + 0 ≡ place.start = omega arith in byte 0 ∙ ap (λ i. get_or input i 0) z
+
+  pub tells-plain : (get_or (rest place input) 0 0 ≡ preamble → ⊥) → Told place input 1
+  tells-plain w = plain (omega (arith, left)) (omega (arith, s.noise-less)) (λ e. w (first ∙ e))
+
+  pub tells-wrong : get_or (rest place input) 0 0 ≡ preamble → (v : ℕ) → v ≡ frame_crc (get_or (rest place input) 1 0) (get_or (rest place input) 2 0) (get_or (rest place input) 3 0)
+      → (v ≡ get_or (rest place input) 3 0 % 16 → ⊥) → Told place input 4
+  tells-wrong p v e w = wrong (omega (arith, left)) (omega (arith, s.noise-less)) (sym first ∙ p) (λ z. w (e ∙ rw (byte 1, byte 2, byte 3) z))

@@ -1,11 +1,11 @@
 -- The loop of `feed_input`, in plain values: the live bytes lie in the input, and its turns are those of Loop.antt.
-use mathlib.Core.Path.{◌≡◌, refl, ap, sym, ◌∙◌}
+use mathlib.Core.Path.{◌≡◌, ap, sym, ◌∙◌}
 use mathlib.Core.List.{List, [], ◌∷◌, ◌++◌}
-use Prim.Native.Nat.{ℕ, ◌-◌, ◌≤◌, ◌<◌}
-use native.Mathlib.Nat.{zero-add, lt_of_lt_of_le, lt_of_le_of_lt}
+use Prim.Native.Nat.{ℕ, ◌+◌, ◌-◌, ◌≤◌, ◌<◌}
+use native.Mathlib.Nat.{lt_of_lt_of_le, lt_of_le_of_lt}
 use native.Mathlib.Omega.{arith}
 use lib.ListN.{length, take, drop}
-use lib.Seq.{take-length, length-slice}
+use lib.Seq.{length-slice}
 use Rattle.sizes.specs.Sizes.{longest_frame, most_noise}
 use Rattle.answer.specs.declared.Refusal.{Refusal}
 use Rattle.frame.specs.declared.Frame.{Frame}
@@ -29,22 +29,15 @@ use Rattle.stream.proofs.Loop.{verdict, fed-shows, fed-starves, fed-goes-on, fed
 abbrev part : List ℕ → ℕ → ℕ → List ℕ
 part input start held = take (held - start) (drop start input)
 
--- as the copy leaves it
-abbrev copied : List ℕ → List ℕ → List ℕ
-copied bytes from = take (length from) from ++ drop (length from) bytes
-
 module _ (bytes input : List ℕ) (start held : ℕ) (empty : Empty bytes) (inside : held ≤ length input) (fits : held - start ≤ longest_frame) where
   part_length : length (part input start held) ≡ held - start
   part_length = ap length (part-is input start held) ∙ length-slice start held input inside
 
-  copy-fits : length (part input start held) ≤ length bytes
-  copy-fits = omega (arith, part_length, empty.room)
-
-  landed : (now : List ℕ) → now ≡ copied bytes (part input start held) → now ≡ laid bytes (drop start (take held input))
-  landed now e =
-      let c = copied-laid bytes 0 (omega arith) empty.room empty.padded (part input start held) (omega (arith, part_length)) in
-      e ∙ ap (λ l. l ++ drop (length (part input start held)) bytes) (take-length (part input start held))
-      ∙ ap (λ n. part input start held ++ drop n bytes) (sym (zero-add (length (part input start held)))) ∙ c ∙ ap (laid bytes) (part-is input start held)
+  landed : (copied : List ℕ) → copied ≡ part input start held → copied ++ drop (held - start) bytes ≡ laid bytes (drop start (take held input))
+  landed copied e =
+      let n : held - start ≡ 0 + length (part input start held) = omega (arith, part_length) in
+      ap (λ l. l ++ drop (held - start) bytes) e ∙ ap (λ m. part input start held ++ drop m bytes) n
+      ∙ copied-laid bytes 0 (omega arith) empty.room empty.padded (part input start held) (omega (arith, part_length)) ∙ ap (laid bytes) (part-is input start held)
 
 -- ---- the invariant: the tray is empty still, and what the call comes to from here is what it came to where the loop began
 
@@ -54,9 +47,6 @@ pub record Track (bytes₀ : List ℕ) (place₀ : Place) (input bytes : List �
   pub same : bytes ≡ bytes₀
   pub same_length : length bytes ≡ length bytes₀
   pub on : fed_from input input place ≡ fed_from input input place₀
-
-pub track-first : (bytes : List ℕ) (place : Place) (input : List ℕ) → Seen place input → Empty bytes → Track bytes place input bytes place
-track-first bytes place input s e = record { seen = s; empty = e; same = refl; same_length = refl; on = refl }
 
 -- a step along the input
 pub track-along : (bytes₀ : List ℕ) (place₀ : Place) (input bytes : List ℕ) (place : Place) → Track bytes₀ place₀ input bytes place → (p : Place) → Along place input p → Track bytes₀ place₀ input bytes p
@@ -76,21 +66,18 @@ module _ (bytes₀ : List ℕ) (place₀ : Place) (input bytes : List ℕ) (plac
   is : checked (live_at p input) ≡ v
   is = verdict input input p live-length (fed_from input input place₀) on v q
 
-  front : (start : ℕ) → p.held - start ≤ longest_frame → (now : List ℕ) → now ≡ copied bytes (part input start p.held) → now ≡ laid bytes₀ (drop start (take p.held input))
-  front start f now e = landed bytes input start p.held t.empty inside f now e ∙ ap (λ b. laid b (drop start (take p.held input))) t.same
+  front : (start : ℕ) → p.held - start ≤ longest_frame → (copied : List ℕ) → copied ≡ part input start p.held → copied ++ drop (p.held - start) bytes ≡ laid bytes₀ (drop start (take p.held input))
+  front start f copied e = landed bytes input start p.held t.empty inside f copied e ∙ ap (λ b. laid b (drop start (take p.held input))) t.same
 
-  pub copy-here : length (part input p.start p.held) ≤ length bytes
-  copy-here = copy-fits bytes input p.start p.held t.empty inside a.seen.held-most
+  module _ (r : Answer) (copied : List ℕ) (s : copied ≡ part input p.start p.held) where
+    here : copied ++ drop (p.held - p.start) bytes ≡ laid bytes₀ (live_at p input)
+    here = front p.start a.seen.held-most copied s
 
-  module _ (r : Answer) (now : List ℕ) (s : now ≡ copied bytes (part input p.start p.held)) where
-    here : now ≡ laid bytes₀ (live_at p input)
-    here = front p.start a.seen.held-most now s
+    pub seen-said : (f : Frame) → v ≡ Accepted f → r ≡ shown_answer p f → Answered (fed_from input input place₀) bytes₀ r (copied ++ drop (p.held - p.start) bytes)
+    seen-said f e w = fed-shows input input p live-length (fed_from input input place₀) on v q bytes₀ _ r f e w here
 
-    pub seen-said : (f : Frame) → v ≡ Accepted f → r ≡ shown_answer p f → Answered (fed_from input input place₀) bytes₀ r now
-    seen-said f e w = fed-shows input input p live-length (fed_from input input place₀) on v q bytes₀ now r f e w here
-
-    pub spent-said : (wanted : ℕ) → v ≡ Short wanted → p.held ≡ length input → r ≡ settled p Said.Hungry 0 p.noise → Answered (fed_from input input place₀) bytes₀ r now
-    spent-said wanted e n w = fed-starves input input p live-length (fed_from input input place₀) on v q bytes₀ now r wanted e (sym a.seen.held-used ∙ n) w here
+    pub spent-said : (wanted : ℕ) → v ≡ Short wanted → p.held ≡ length input → r ≡ settled p Said.Hungry 0 p.noise → Answered (fed_from input input place₀) bytes₀ r (copied ++ drop (p.held - p.start) bytes)
+    spent-said wanted e n w = fed-starves input input p live-length (fed_from input input place₀) on v q bytes₀ _ r wanted e (sym a.seen.held-used ∙ n) w here
 
   -- ---- SHORT, and there is more
 
@@ -117,9 +104,6 @@ module _ (bytes₀ : List ℕ) (place₀ : Place) (input bytes : List ℕ) (plac
       next-most : p.held - p'.start ≤ longest_frame
       next-most = rw s (omega (arith, a.seen.held-most))
 
-      pub copy-next : length (part input p'.start p.held) ≤ length bytes
-      copy-next = copy-fits bytes input p'.start p.held t.empty inside next-most
-
       pub less-next : to_go p' input < to_go place input
       less-next = lt_of_lt_of_le (noised-nearer p p' s input some-live) a.no-further
 
@@ -145,7 +129,7 @@ module _ (bytes₀ : List ℕ) (place₀ : Place) (input bytes : List ℕ) (plac
       pub less-skip : (r : Place) → Along p' input r → to_go r input < to_go place input
       less-skip r b = lt_of_le_of_lt b.no-further less-next
 
-      pub most-said : p'.noise ≡ most_noise → (r : Answer) (now : List ℕ) → r ≡ settled p' (Said.Noise most_noise) 0 0 → now ≡ copied bytes (part input p'.start p.held)
-          → Answered (fed_from input input place₀) bytes₀ r now
-      most-said n r now w c =
-          fed-fills input input p live-length (fed_from input input place₀) on v q x e p' s n bytes₀ now r w (front p'.start next-most now c)
+      pub most-said : p'.noise ≡ most_noise → (r : Answer) (copied : List ℕ) → r ≡ settled p' (Said.Noise most_noise) 0 0 → copied ≡ part input p'.start p.held
+          → Answered (fed_from input input place₀) bytes₀ r (copied ++ drop (p.held - p'.start) bytes)
+      most-said n r copied w c =
+          fed-fills input input p live-length (fed_from input input place₀) on v q x e p' s n bytes₀ _ r w (front p'.start next-most copied c)

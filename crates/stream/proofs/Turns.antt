@@ -1,11 +1,11 @@
 -- The steps of a call, in plain values: from each place on, what the call comes to is what it came to at the start.
 use mathlib.Core.Path.{◌≡◌, refl, sym, ap, ap₂, ◌∙◌}
-use mathlib.Core.List.{List, ◌++◌, append_assoc, append-nil}
+use mathlib.Core.List.{List, ◌++◌, append_assoc}
 use Prim.Native.Nat.{ℕ, zero, suc, ◌+◌, ◌-◌, ◌*◌, ◌≤◌, ◌<◌, min}
-use native.Mathlib.Nat.{min-le_left, min-le_right, sub-zero, zero-sub, suc-sub-suc, suc-min-suc}
+use native.Mathlib.Nat.{sub-zero, zero-sub, suc-sub-suc}
 use native.Mathlib.Omega.{arith}
-use lib.ListN.{length, take, drop, replicate, length-append, length-take, length-drop, length-replicate, replicate-append-replicate, drop_of_length-le}
-use lib.Seq.{take_at, drop_at, take-add, take_all, drop-append-le, drop-drop, length-take-le}
+use lib.ListN.{length, take, drop, replicate, length-append, length-drop, length-replicate, replicate-append-replicate}
+use lib.Seq.{take_at, drop_at, take-add, drop-append-le, drop-drop, length-take-le}
 use mir.Val.{Fits}
 use mir.Syntax.{w64}
 use Rattle.sizes.specs.Sizes.{longest_frame, most_noise}
@@ -90,17 +90,6 @@ both-more h u c e = omega arith
 same_gap : (h u c : ℕ) → h + c - (u + c) ≡ h - u
 same_gap h u c = omega arith
 
-take-le : (n : ℕ) (l : List ℕ) → length (take n l) ≤ n
-take-le n l = rw length-take (min-le_left n (length l))
-
-ap-le : {a b c : ℕ} → a ≡ b → b ≤ c → a ≤ c
-ap-le e h = omega arith
-
-min-some : (a b : ℕ) → 1 ≤ a → 1 ≤ b → 1 ≤ min a b
-min-some zero b ha hb = absurd (omega arith)
-min-some (suc a) zero ha hb = absurd (omega arith)
-min-some (suc a) (suc b) ha hb = rw suc-min-suc (omega arith)
-
 taken-nearer : (i u c s h : ℕ) → 1 ≤ c → c ≤ i - u → s ≤ h → 3 * (i - (u + c)) + (h + c - s) + (h + c) < 3 * (i - u) + (h - s) + h
 taken-nearer i u c s h a b d = omega arith
 
@@ -152,17 +141,13 @@ module _ (place : Place) (bytes input : List ℕ) (st : Standing place bytes inp
 
     module _ (count : ℕ) (h : place.start + wanted ≤ longest_frame) (q : count ≡ min (wanted - (place.held - place.start)) (length input - place.used)) where
       count_fits : (1 ≤ count) × (count ≤ wanted - (place.held - place.start)) × (count ≤ length input - place.used)
-      count_fits =
-          let a = min-some (wanted - (place.held - place.start)) (length input - place.used) (omega (arith, wants)) (omega (arith, w.some_left)) in
-          let b = min-le_left (wanted - (place.held - place.start)) (length input - place.used) in
-          let c = min-le_right (wanted - (place.held - place.start)) (length input - place.used) in
-          (omega arith, omega arith, omega arith)
+      count_fits = (omega (arith, wants, w.some_left), omega arith, omega arith)
 
       -- bytes are taken
-      pub onward-copy : (part : List ℕ) → part ≡ take (place.used + count - place.used) (drop place.used input)
+      pub onward-taken : (part : List ℕ) → part ≡ take (place.used + count - place.used) (drop place.used input)
           → Onward (fed_from input) place bytes input (record { start = place.start; held = place.held + count; noise = place.noise; used = place.used + count })
           (take place.held bytes ++ (part ++ drop (place.held + count - place.held) (drop place.held bytes)))
-      onward-copy part e =
+      onward-taken part e =
           let L = live_at place bytes in
           let X = take place.held bytes in
           let f = count_fits in
@@ -195,35 +180,7 @@ module _ (place : Place) (bytes input : List ℕ) (st : Standing place bytes inp
             nearer = taken-nearer (length input) place.used count place.start place.held f.0 f.2 st.within.start-in;
           }
 
-      -- as the copy leaves it, which fills the whole part
-      source : (part : List ℕ)
-          → part
-          ≡ take (length (take (place.used + count - place.used) (drop place.used input))) (take (place.used + count - place.used) (drop place.used input))
-          ++ drop (length (take (place.used + count - place.used) (drop place.used input))) (take (place.held + count - place.held) (drop place.held bytes))
-          → part ≡ take (place.used + count - place.used) (drop place.used input)
-      source part e =
-          let f = count_fits in
-          let src = take (place.used + count - place.used) (drop place.used input) in
-          let dst = take (place.held + count - place.held) (drop place.held bytes) in
-          let a : place.used + count - place.used ≡ count = omega arith in
-          let b : place.held + count - place.held ≡ count = omega arith in
-          let r : length (drop place.used input) ≡ length input - place.used = length-drop place.used input in
-          let ls : length src ≡ count = ap (λ k. length (take k (drop place.used input))) a ∙ length-take-le count (drop place.used input) (omega (arith, f.2)) in
-          let ld : length dst ≤ count = ap-le (ap (λ k. length (take k (drop place.held bytes))) b) (take-le count (drop place.held bytes)) in
-          e ∙ ap (λ k. take k src ++ drop k dst) ls ∙ ap₂ (λ x y. x ++ y) (take_all count src (omega arith)) (drop_of_length-le dst {i = count} ld) ∙ append-nil src
-
-      pub onward-taken : (part : List ℕ)
-          → part
-          ≡ take (length (take (place.used + count - place.used) (drop place.used input))) (take (place.used + count - place.used) (drop place.used input))
-          ++ drop (length (take (place.used + count - place.used) (drop place.used input))) (take (place.held + count - place.held) (drop place.held bytes))
-          → Onward (fed_from input) place bytes input (record { start = place.start; held = place.held + count; noise = place.noise; used = place.used + count })
-          (take place.held bytes ++ (part ++ drop (place.held + count - place.held) (drop place.held bytes)))
-      onward-taken part e = onward-copy part (source part e)
-
-      pub ends-taken : (part : List ℕ)
-          → part
-          ≡ take (length (take (place.used + count - place.used) (drop place.used input))) (take (place.used + count - place.used) (drop place.used input))
-          ++ drop (length (take (place.used + count - place.used) (drop place.used input))) (take (place.held + count - place.held) (drop place.held bytes))
+      pub ends-taken : (part : List ℕ) → part ≡ take (place.used + count - place.used) (drop place.used input)
           → Ends (record { start = place.start; held = place.held + count; noise = place.noise; used = place.used + count })
           (take place.held bytes ++ (part ++ drop (place.held + count - place.held) (drop place.held bytes))) input
       ends-taken part e =
@@ -232,7 +189,7 @@ module _ (place : Place) (bytes input : List ℕ) (st : Standing place bytes inp
           let f = count_fits in
           let r : length (drop place.used input) ≡ length input - place.used = length-drop place.used input in
           let a : place.used + count - place.used ≡ count = omega arith in
-          let p : part ≡ take count (drop place.used input) = source part e ∙ ap (λ k. take k (drop place.used input)) a in
+          let p : part ≡ take count (drop place.used input) = e ∙ ap (λ k. take k (drop place.used input)) a in
           let lp : length part ≡ count = ap length p ∙ length-take-le count (drop place.used input) (omega (arith, f.2)) in
           let lx : length X ≡ place.held = length-take-le place.held bytes (omega (arith, st.within)) in
           let lxp : length (X ++ part) ≡ place.held + count = length-append X part ∙ omega arith in

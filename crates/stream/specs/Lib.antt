@@ -13,5 +13,3 @@ pub mod Sound
 pub mod Steps
 pub mod Driving
 pub mod Walk
-pub mod Marks
-pub mod Bytes

@@ -10,8 +10,6 @@ use Rattle.stream.specs.declared.Tray.{Tray}
 use Rattle.stream.specs.declared.Said.{Said}
 use Rattle.stream.specs.declared.Answer.{Answer}
 use Rattle.stream.specs.declared.Place.{Place}
-use Rattle.stream.specs.declared.Turn.{Turn}
-use Rattle.stream.specs.declared.Turn.TheVariants as turn
 use Rattle.stream.specs.Tray.{Outcome, refused, told, hungry, done, feed, close, close_end, fresh_tray, answer_of, laid}
 
 -- the first `start` of the bytes held go, the rest moves to the front, and zeros fill the end
@@ -73,10 +71,6 @@ pub record Answered (o : Outcome) (bytes : List ℕ) (answer : Answer) (bytes' :
   pub says : answer ≡ answer_of fresh_tray o
   pub leaves : bytes' ≡ laid bytes (held_by o)
 
-abbrev pub CloseTurn : List ℕ → Place → Turn → List ℕ → Type 0
-CloseTurn bytes place (turn.On place') bytes' = Onward closed_from place bytes [] place' bytes'
-CloseTurn bytes place (turn.Ended answer) bytes' = Answered (closed_from bytes place) bytes answer bytes'
-
 -- the last bytes held are those of the input that were used
 pub record Ends (place : Place) (bytes input : List ℕ) : Type 0 where
   pub used-held : place.used ≤ place.held
@@ -105,7 +99,6 @@ pub record Along (place : Place) (input : List ℕ) (place' : Place) : Type 0 wh
 
 -- so many bytes from the first live one on tell that it is noise, which may be counted without being told
 pub data Told (place : Place) (input : List ℕ) : ℕ → Type 0 where
-  nothing : Told place input 0
   plain : place.start < length input → place.noise + 1 < most_noise → (get_or input place.start 0 ≡ preamble → ⊥) → Told place input 1
   wrong : place.start + 4 ≤ length input → place.noise + 1 < most_noise → get_or input place.start 0 ≡ preamble
       → (frame_crc (get_or input (place.start + 1) 0) (get_or input (place.start + 2) 0) (get_or input (place.start + 3) 0) ≡ get_or input (place.start + 3) 0 % 16 → ⊥)

@@ -1,16 +1,17 @@
 // Frames and noise in a stream of bytes that comes in portions: document 01, "The stream".
 #![tactic(auto)]
 
-ghost use Rattle.std.specs.Prelude.{◌≡◌, [], ◌++◌, ℕ, ◌+◌, ◌-◌, ◌≤◌, ◌<◌, min, length, take, drop, replicate};
+ghost use Rattle.std.specs.Prelude.{◌≡◌, [], ℕ, ◌*◌, ◌≤◌, ◌<◌, ◌==◌, true, not, length, take, drop, position, IfSome};
 ghost use Rattle.sizes.specs.Sizes.{longest_frame, most_noise};
 ghost use Rattle.stream.specs.Tray.{zeros, is_frame, sound, fresh_tray, number_of_said, refused, answer_of, call_answer, call_bytes, finish_answer, finish_bytes};
-ghost use Rattle.stream.specs.Bytes.{index_of, slice};
+ghost use Rattle.std.specs.ControlFlow.{MatchControlFlow};
+ghost use Rattle.std.specs.List.{list_all, position_or_len};
 ghost use Rattle.stream.specs.Driver.{Ready};
-ghost use Rattle.stream.specs.Marks.{marked, marks};
-ghost use Rattle.stream.specs.Walk.{shifted, Standing, fed_from, closed_from, Answered, CloseTurn, Wanting, Ends, Onward, Seen, Along, Told, reached, Empty, noised, settled, shown_answer, dropped_place};
+ghost use Rattle.stream.specs.Walk.{shifted, Standing, fed_from, closed_from, Answered, Wanting, Ends, Onward, Seen, Along, Told, reached, Empty, noised, settled, shown_answer, dropped_place};
 
 use answer::Refusal;
 use frame::{Checked, Frame};
+use std::ops::ControlFlow;
 
 // The first byte of a frame.
 const PREAMBLE: u8 = 0x73;
@@ -72,13 +73,7 @@ pub fn fresh() -> Tray
 fn are_zero(bytes: &[u8]) -> bool
     ensures { result ≡ zeros bytes.now }
 {
-    let mut joined: u8 = 0;
-    let mut i = 0;
-    while i < bytes.len() {
-        joined = joined | bytes[i];
-        i += 1;
-    }
-    joined == 0
+    bytes.iter().fold(0, |joined: u8, byte| joined | *byte) == 0
 }
 
 // Whole blocks, and then the last block's bytes, some of them once more: a part of a block left over would be looked at a byte at a time.
@@ -129,29 +124,6 @@ fn is_sound(bytes: &[u8], tray: Tray) -> bool
     is_frame(tray.shown, first)
 }
 
-fn clear(part: &mut [u8])
-    ensures { part.new ≡ replicate (length part.old) 0 }
-{
-    let mut i = 0;
-    while i < part.len() {
-        part[i] = 0;
-        i += 1;
-    }
-}
-
-// The bytes from start on move to the front.
-fn slide(part: &mut [u8], start: usize)
-    requires { start ≤ length part.old }
-    ensures { part.new ≡ drop start part.old ++ drop (length part.old - start) part.old }
-{
-    let left = part.len() - start;
-    let mut i = 0;
-    while i < left {
-        part[i] = part[i + start];
-        i += 1;
-    }
-}
-
 // The first bytes of those held go.
 fn shift(bytes: &mut [u8], held: usize, start: usize)
     requires { (start ≤ held) × (held ≤ length bytes.old) }
@@ -160,9 +132,8 @@ fn shift(bytes: &mut [u8], held: usize, start: usize)
     if start == 0 {
         return;
     }
-    slide(&mut bytes[..held], start);
-    let left = held - start;
-    clear(&mut bytes[left..held]);
+    bytes.copy_within(start..held, 0);
+    bytes[held - start..held].fill(0);
 }
 
 // The first live byte is noise.
@@ -172,19 +143,9 @@ fn noisy(place: Place) -> Place
 {
     Place {
         start: place.start + 1,
-        held: place.held,
         noise: place.noise + 1,
-        used: place.used,
+        ..place
     }
-}
-
-fn least(a: usize, b: usize) -> usize
-    ensures { result ≡ min a b }
-{
-    if a < b {
-        return a;
-    }
-    b
 }
 
 // As many bytes of the input are taken into the tray as are wanted. Where they do not fit behind the live bytes, these move to the front
@@ -203,19 +164,17 @@ fn take_more(bytes: &mut [u8], place: Place, input: &[u8], wanted: usize) -> Pla
         return Place {
             start: 0,
             held: held - start,
-            noise: place.noise,
-            used: used,
+            ..place
         };
     }
-    let count = least(wanted - (held - start), input.len() - used);
+    let count = (wanted - (held - start)).min(input.len() - used);
     let end = held + count;
     let upto = used + count;
-    copy(&input[used..upto], &mut bytes[held..end]);
+    bytes[held..end].copy_from_slice(&input[used..upto]);
     Place {
-        start: start,
         held: end,
-        noise: place.noise,
         used: upto,
+        ..place
     }
 }
 
@@ -225,12 +184,12 @@ fn say(place: Place, said: Said, shown: usize, noise: u32) -> Answer
     ensures { result ≡ settled place said shown noise }
 {
     Answer {
-        said: said,
+        said,
         used: place.used,
         tray: Tray {
             held: place.held - place.start,
-            shown: shown,
-            noise: noise,
+            shown,
+            noise,
         },
     }
 }
@@ -247,68 +206,41 @@ fn show(place: Place, frame: Frame) -> Answer
     say(place, Said::Frame(frame), frame.length, 0)
 }
 
-// The bytes of one come to the start of the other, which has room for them: how many they are.
-fn copy(from: &[u8], to: &mut [u8]) -> usize
-    requires { length from.now ≤ length to.old }
-    ensures value { result ≡ length from.now }
-    ensures to_after { to.new ≡ take (length from.now) from.now ++ drop (length from.now) to.old }
-{
-    let count = from.len();
-    to[..count].copy_from_slice(from);
-    count
-}
-
-// Where a byte is for the first time, from one place on and up to another; the other where it is not there.
-fn find(bytes: &[u8], from: usize, to: usize, byte: u8) -> usize
-    requires { (from ≤ to) × (to ≤ length bytes.now) }
-    ensures value { result ≡ from + index_of byte (slice from to bytes.now) }
-    ensures upper_bound { result ≤ to }
-{
-    let mut at = from;
-    while at < to {
-        if bytes[at] == byte {
-            return at;
-        }
-        at += 1;
-    }
-    to
-}
-
-// 1 for a preamble, 0 for any other byte.
-fn mark(byte: u8) -> u8
-    ensures { result ≡ marked byte }
-{
-    if byte == PREAMBLE { 1 } else { 0 }
-}
-
 // Whether none is a preamble. All bytes are looked at, with no way out on the way, so that many are looked at together.
 fn is_clear(bytes: &[u8]) -> bool
-    ensures { result ≡ zeros (marks bytes.now) }
+    ensures { result ≡ list_all (λ byte. not (byte == 0x73)) bytes.now }
 {
-    let mut joined: u8 = 0;
-    let mut i = 0;
-    while i < bytes.len() {
-        joined = joined | mark(bytes[i]);
-        i += 1;
-    }
-    joined == 0
+    !bytes
+        .iter()
+        .fold(false, |met, byte| met | (*byte == PREAMBLE))
 }
 
-// Where the first preamble is, from one byte on and up to another; the other where there is none. Windows without one are passed over as a whole.
-fn find_preamble(input: &[u8], from: usize, to: usize) -> usize
-    requires { (from ≤ to) × (to ≤ length input.now) }
-    ensures value { result ≡ from + index_of 0x73 (slice from to input.now) }
-    ensures upper_bound { result ≤ to }
+// Where the first preamble is.
+fn find(bytes: &[u8]) -> Option<usize>
+    ensures { result ≡ position (λ byte. byte == 0x73) bytes.now }
 {
-    let mut at = from;
-    while WINDOW <= to - at {
-        let next = at + WINDOW;
-        if !is_clear(&input[at..next]) {
-            return find(input, at, to, PREAMBLE);
-        }
-        at = next;
-    }
-    find(input, at, to, PREAMBLE)
+    bytes.iter().position(|byte| *byte == PREAMBLE)
+}
+
+// How many windows come before the first with a preamble.
+fn clear_windows(bytes: &[u8]) -> usize
+    ensures are_clear { (k : ℕ) → k < result → list_all (λ byte. not (byte == 0x73)) (take 64 (drop (k * 64) bytes.now)) ≡ true }
+    ensures upper_bound { result * 64 ≤ length bytes.now }
+{
+    bytes
+        .chunks_exact(WINDOW)
+        .take_while(|window| is_clear(window))
+        .count()
+}
+
+// How many bytes come before the first preamble; all, where there is none. Windows without one are passed over as a whole.
+fn find_preamble(bytes: &[u8]) -> usize
+    ensures value { result ≡ position_or_len (λ byte. byte == 0x73) bytes.now }
+    ensures upper_bound { result ≤ length bytes.now }
+{
+    let passed = clear_windows(bytes) * WINDOW;
+    let rest = &bytes[passed..];
+    passed + find(rest).unwrap_or(rest.len())
 }
 
 // Where no byte is live, bytes that are no preamble are noise without a check, up to a count below 65,535.
@@ -321,12 +253,13 @@ fn pass(place: Place, input: &[u8]) -> Place
     }
     let used = place.used;
     let limit = (sizes::MOST_NOISE - 1 - place.noise) as usize;
-    let end = used + least(limit, input.len() - used);
-    let found = find_preamble(input, used, end);
+    let end = used + limit.min(input.len() - used);
+    let passed = find_preamble(&input[used..end]);
+    let found = used + passed;
     Place {
         start: found,
         held: found,
-        noise: place.noise + (found - used) as u32,
+        noise: place.noise + passed as u32,
         used: found,
     }
 }
@@ -337,15 +270,14 @@ fn reach(place: Place, input: &[u8], wanted: usize) -> Place
     ensures { result ≡ reached place input.now wanted }
 {
     let start = place.start;
-    let end = start + least(wanted, input.len() - start);
+    let end = start + wanted.min(input.len() - start);
     if end < place.held {
         return place;
     }
     Place {
-        start: start,
         held: end,
-        noise: place.noise,
         used: end,
+        ..place
     }
 }
 
@@ -354,14 +286,11 @@ fn widen(place: Place, input: &[u8]) -> Place
     requires { Seen place input.now }
     ensures { Along place input.now result }
 {
-    let start = place.start;
-    if start == input.len() {
-        return place;
+    match input.get(place.start) {
+        None => place,
+        Some(&PREAMBLE) => reach(place, input, 4),
+        Some(_) => reach(place, input, 1),
     }
-    if input[start] == PREAMBLE {
-        return reach(place, input, 4);
-    }
-    reach(place, input, 1)
 }
 
 // What can be done without a check.
@@ -372,30 +301,28 @@ fn ahead(place: Place, input: &[u8]) -> Place
     widen(pass(place, input), input)
 }
 
-// How many bytes from the first live one on tell, without a whole check, that it is noise: one that is no preamble, four with a wrong TF006. 0
+// How many bytes from the first live one on tell, without a whole check, that it is noise: one that is no preamble, four with a wrong TF006. None
 // where they do not, and where none is live, so that `pass` looks for a preamble.
-fn told_by(place: Place, input: &[u8]) -> usize
+fn told_by(place: Place, input: &[u8]) -> Option<usize>
     requires { Seen place input.now }
-    ensures { Told place input.now result }
+    ensures { IfSome result (Told place input.now) }
 {
-    let start = place.start;
-    if input.len() - start < 4 {
-        return 0;
-    }
+    let [first, second, third, last, ..] = &input[place.start..] else {
+        return None;
+    };
     if place.noise == sizes::MOST_NOISE - 1 {
-        return 0;
+        return None;
     }
-    if input[start] != PREAMBLE {
-        if start == place.held {
-            return 0;
+    if *first != PREAMBLE {
+        if place.start == place.held {
+            return None;
         }
-        return 1;
+        return Some(1);
     }
-    let last = input[start + 3];
-    if checks::frame_crc(input[start + 1], input[start + 2], last) == last % 16 {
-        return 0;
+    if checks::frame_crc(*second, *third, *last) == *last % 16 {
+        return None;
     }
-    4
+    Some(4)
 }
 
 // Behind noise, bytes that are told to be noise so are passed over, up to a count below 65,535.
@@ -404,13 +331,10 @@ fn skip(place: Place, input: &[u8]) -> Place
     ensures { Along place input.now result }
 {
     let mut place = place;
-    loop {
-        let wanted = told_by(place, input);
-        if wanted == 0 {
-            return place;
-        }
+    while let Some(wanted) = told_by(place, input) {
         place = noisy(reach(place, input, wanted));
     }
+    place
 }
 
 // The call from a place on where no byte is live in the tray: the live bytes lie in the input, and go into the tray with the answer.
@@ -426,12 +350,12 @@ fn feed_input(bytes: &mut [u8], place: Place, input: &[u8]) -> Answer
         let held = place.held;
         match frame::check(&input[start..held]) {
             Checked::Accepted(frame) => {
-                copy(&input[start..held], bytes);
+                bytes[..held - start].copy_from_slice(&input[start..held]);
                 return show(place, frame);
             }
             Checked::Short(wanted) => {
                 if held == input.len() {
-                    copy(&input[start..held], bytes);
+                    bytes[..held - start].copy_from_slice(&input[start..held]);
                     return say(place, Said::Hungry, 0, place.noise);
                 }
                 place = reach(place, input, wanted);
@@ -440,7 +364,7 @@ fn feed_input(bytes: &mut [u8], place: Place, input: &[u8]) -> Answer
                 place = noisy(place);
                 if place.noise == sizes::MOST_NOISE {
                     let start = place.start;
-                    copy(&input[start..held], bytes);
+                    bytes[..held - start].copy_from_slice(&input[start..held]);
                     return say(place, Said::Noise(sizes::MOST_NOISE), 0, 0);
                 }
                 place = skip(place, input);
@@ -488,38 +412,30 @@ fn feed(bytes: &mut [u8], place: Place, input: &[u8]) -> Answer
     let outside = Place {
         start: used - live,
         held: used,
-        noise: place.noise,
-        used: used,
+        ..place
     };
     feed_input(bytes, outside, input)
 }
 
-// Where a turn of finish comes to: on from a place, or to an answer.
-#[derive(Clone, Copy)]
-enum Turn {
-    On(Place),
-    Ended(Answer),
-}
-
-// One turn of finish: the first live byte is tried as the first of a frame.
-fn close_turn(bytes: &mut [u8], place: Place) -> Turn
+// One turn of finish: the first live byte is tried as the first of a frame. It goes on from a place, or breaks off with an answer.
+fn close_turn(bytes: &mut [u8], place: Place) -> ControlFlow<Answer, Place>
     requires standing { Standing place bytes.old [] }
     requires start_lt_held { place.start < place.held }
-    ensures { CloseTurn bytes.old place result bytes.new }
+    ensures { MatchControlFlow result (λ next. Onward closed_from place bytes.old [] next bytes.new) (λ answer. Answered (closed_from bytes.old place) bytes.old answer bytes.new) }
 {
     let start = place.start;
     let held = place.held;
     if let Checked::Accepted(frame) = frame::check(&bytes[start..held]) {
         shift(bytes, held, start);
-        return Turn::Ended(show(place, frame));
+        return ControlFlow::Break(show(place, frame));
     }
     let next = noisy(place);
     if next.noise == sizes::MOST_NOISE {
         let start = next.start;
         shift(bytes, held, start);
-        return Turn::Ended(say(next, Said::Noise(sizes::MOST_NOISE), 0, 0));
+        return ControlFlow::Break(say(next, Said::Noise(sizes::MOST_NOISE), 0, 0));
     }
-    Turn::On(next)
+    ControlFlow::Continue(next)
 }
 
 // The end of finish, where no byte is live: what is left to be told.
@@ -546,12 +462,8 @@ fn close(bytes: &mut [u8], place: Place) -> Answer
     let mut place = place;
     while place.start < place.held {
         match close_turn(bytes, place) {
-            Turn::Ended(answer) => {
-                return answer;
-            }
-            Turn::On(next) => {
-                place = next;
-            }
+            ControlFlow::Break(answer) => return answer,
+            ControlFlow::Continue(next) => place = next,
         }
     }
     close_end(bytes, place)
@@ -564,7 +476,7 @@ fn refused(tray: Tray, refusal: Refusal) -> Answer
     Answer {
         said: Said::Refused(refusal),
         used: 0,
-        tray: tray,
+        tray,
     }
 }
 

@@ -1,12 +1,10 @@
-use borrow.Author.Rules.{rules}
-use Rattle.stream.proofs.Moves.{join_first, join_more, join-done}
+-- The bytes joined by or are zero exactly where each is.
+use Rattle.std.proofs.Common.{rules, ◌≡◌, bit_or}
+use Rattle.std.specs.Prelude.{fold}
+use Rattle.stream.proofs.Zeros.{joined-zeros}
 use Rattle.stream.proofs.are_zero.Goals as goal
 
-pub loop-i-init : goal.loop-i-init
-loop-i-init c = search (join_first, rules)
-
-pub loop-i-preserved : goal.loop-i-preserved
-loop-i-preserved c = search (join_more, rules)
-
 pub returns : goal.returns
-returns c = search (join-done, rules)
+returns c =
+    let f : c.fold.result ≡ fold bit_or 0 c.args.bytes.now = search rules in
+    rw f (joined-zeros 0 c.args.bytes.now)

@@ -9,9 +9,6 @@ returns-then-bytes-lt-LONGEST_FRAME c = search (room-call, room-call-bytes, rule
 pub returns-then-not-is_sound : goal.returns-then-not-is_sound
 returns-then-not-is_sound c = search (state-call, state-call-bytes, rules)
 
-pub drop_shown-place-requires : goal.drop_shown-place-requires
-drop_shown-place-requires c = search (ready-now, rules)
-
 pub feed-requires : goal.feed-requires
 feed-requires c = search (stands, ready-now, rules)
 

@@ -1,10 +1,6 @@
 use borrow.Author.Rules.{rules}
-use Rattle.stream.proofs.Places.{noised-start, noised-old, noised-nearer}
-use Rattle.stream.proofs.Loop.{fed-first, fed-onward, shown-said, is-wanting, hungry-said, fed-noised, full-said, sees, is-empty, rest-said, some-live}
+use Rattle.stream.proofs.Loop.{shown-said, is-wanting, hungry-said, fed-noised, full-said, sees, is-empty, rest-said, some-live}
 use Rattle.stream.proofs.feed.Goals as goal
-
-pub loop-place-init : goal.loop-place-init
-loop-place-init c = search (fed-first, rules)
 
 pub returns-in-Accepted : goal.returns-in-Accepted
 returns-in-Accepted c = search (shown-said, rules)
@@ -15,20 +11,8 @@ returns-then-place-input c = search (hungry-said, rules)
 pub take_more-place-requires-clause-wanting : goal.take_more-place-requires-clause-wanting
 take_more-place-requires-clause-wanting c = search (is-wanting, rules)
 
-pub loop-place-preserved-in-Short : goal.loop-place-preserved-in-Short
-loop-place-preserved-in-Short c = search (fed-onward, rules)
-
-pub shift-requires-then-place-eq-MOST_NOISE : goal.shift-requires-then-place-eq-MOST_NOISE
-shift-requires-then-place-eq-MOST_NOISE c = search (noised-old, some-live, rules)
-
-pub say-requires-then-place-eq-MOST_NOISE : goal.say-requires-then-place-eq-MOST_NOISE
-say-requires-then-place-eq-MOST_NOISE c = search (noised-start, some-live, rules)
-
 pub returns-then-place-eq-MOST_NOISE : goal.returns-then-place-eq-MOST_NOISE
 returns-then-place-eq-MOST_NOISE c = search (full-said, some-live, rules)
-
-pub loop-place-smaller : goal.loop-place-smaller
-loop-place-smaller c = search (noised-nearer, some-live, rules)
 
 pub loop-place-preserved : goal.loop-place-preserved
 loop-place-preserved c = search (fed-noised, rules)

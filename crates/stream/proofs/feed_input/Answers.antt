@@ -1,22 +1,19 @@
 use borrow.Author.Rules.{rules}
 use Rattle.stream.proofs.Places.{noised-start, noised-old}
-use Rattle.stream.proofs.Tracking.{track-first, copy-here, seen-said, spent-said, track-short, less-short, some-live, copy-next, seen_next, less-skip, track-skip, most-said}
+use Rattle.stream.proofs.Tracking.{seen-said, spent-said, track-short, less-short, some-live, seen_next, less-skip, track-skip, most-said}
 use Rattle.stream.proofs.feed_input.Goals as goal
 
-pub slice_bounds-copy-start-then-place-eq-MOST_NOISE : goal.slice_bounds-copy-start-then-place-eq-MOST_NOISE
-slice_bounds-copy-start-then-place-eq-MOST_NOISE c = search (noised-old, some-live, rules)
+pub slice_bounds-copy_from_slice-count-then-place-eq-MOST_NOISE : goal.slice_bounds-copy_from_slice-count-then-place-eq-MOST_NOISE
+slice_bounds-copy_from_slice-count-then-place-eq-MOST_NOISE c = search (noised-old, some-live, rules)
 
-pub loop-frame-init : goal.loop-frame-init
-loop-frame-init c = search (track-first, rules)
+pub slice_bounds-copy_from_slice-count-then-place-eq-MOST_NOISE-2 : goal.slice_bounds-copy_from_slice-count-then-place-eq-MOST_NOISE-2
+slice_bounds-copy_from_slice-count-then-place-eq-MOST_NOISE-2 c = search (noised-old, some-live, rules)
 
-pub copy-requires : goal.copy-requires
-copy-requires c = search (copy-here, rules)
+pub slice_bounds-copy_from_slice-start-then-place-eq-MOST_NOISE : goal.slice_bounds-copy_from_slice-start-then-place-eq-MOST_NOISE
+slice_bounds-copy_from_slice-start-then-place-eq-MOST_NOISE c = search (noised-old, some-live, rules)
 
 pub returns-in-Accepted : goal.returns-in-Accepted
 returns-in-Accepted c = search (seen-said, rules)
-
-pub copy-requires-then-held-input : goal.copy-requires-then-held-input
-copy-requires-then-held-input c = search (copy-here, rules)
 
 pub returns-then-held-input : goal.returns-then-held-input
 returns-then-held-input c = search (spent-said, rules)
@@ -29,12 +26,6 @@ loop-frame-preserved-in-Short c = search (track-short, rules)
 
 pub noisy-place-requires : goal.noisy-place-requires
 noisy-place-requires c = search (some-live, rules)
-
-pub slice_bounds-copy-count-then-place-eq-MOST_NOISE : goal.slice_bounds-copy-count-then-place-eq-MOST_NOISE
-slice_bounds-copy-count-then-place-eq-MOST_NOISE c = search (noised-old, some-live, rules)
-
-pub copy-requires-then-place-eq-MOST_NOISE : goal.copy-requires-then-place-eq-MOST_NOISE
-copy-requires-then-place-eq-MOST_NOISE c = search (copy-next, rules)
 
 pub say-requires-then-place-eq-MOST_NOISE : goal.say-requires-then-place-eq-MOST_NOISE
 say-requires-then-place-eq-MOST_NOISE c = search (noised-start, some-live, rules)

@@ -9,9 +9,6 @@ returns-then-bytes-lt-LONGEST_FRAME c = search (room-finish, room-finish-bytes, 
 pub returns-then-not-is_sound : goal.returns-then-not-is_sound
 returns-then-not-is_sound c = search (state-finish, state-finish-bytes, rules)
 
-pub drop_shown-place-requires : goal.drop_shown-place-requires
-drop_shown-place-requires c = search (ready-now, rules)
-
 pub close-requires : goal.close-requires
 close-requires c = search (stands, ready-now, rules)
 

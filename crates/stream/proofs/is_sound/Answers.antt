@@ -1,8 +1,5 @@
 -- Each test is one part of the definition; the shown frame is checked again.
 use borrow.Author.Rules.{rules}
-use mathlib.Core.Path.{sym}
-use native.Mathlib.Omega.{arith}
-use lib.Seq.{length-take-le}
 use Rattle.stream.proofs.Judging.{unsound-held, unsound-noise, unsound-zeros, sound_none, sound-shown}
 use Rattle.stream.proofs.is_sound.Goals as goal
 
@@ -17,9 +14,6 @@ returns-then-not-all_zero c = search (unsound-zeros, rules)
 
 pub returns-then-tray-eq0 : goal.returns-then-tray-eq0
 returns-then-tray-eq0 c = search (sound_none, rules)
-
-pub slice_bounds-check-end : goal.slice_bounds-check-end
-slice_bounds-check-end c = sym (length-take-le _ _ (omega arith))
 
 pub returns : goal.returns
 returns c = search (sound-shown, rules)

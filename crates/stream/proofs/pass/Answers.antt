@@ -1,10 +1,7 @@
 -- Bytes that are no preamble are noise, one by one, where no byte is live (Along.antt).
 use borrow.Author.Rules.{rules}
-use Rattle.stream.proofs.Along.{along-same, pass-along}
+use Rattle.stream.proofs.Along.{pass-along}
 use Rattle.stream.proofs.pass.Goals as goal
-
-pub returns-then-place : goal.returns-then-place
-returns-then-place c = search (along-same, rules)
 
 pub returns : goal.returns
 returns c = search (pass-along, rules)

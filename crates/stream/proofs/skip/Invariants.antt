@@ -2,8 +2,8 @@
 use Rattle.stream.specs.Walk.{Along, to_go}
 use Rattle.stream.proofs.skip.Given as goal
 
-abbrev pub invariant-loop-place : goal.invariant-loop-place
-invariant-loop-place l = Along l.initial.place l.input l.place
+abbrev pub invariant-loop-wanted : goal.invariant-loop-wanted
+invariant-loop-wanted l = Along l.initial.place l.input l.place
 
-abbrev pub decreases-loop-place : goal.decreases-loop-place
-decreases-loop-place l = to_go l.place l.input
+abbrev pub decreases-loop-wanted : goal.decreases-loop-wanted
+decreases-loop-wanted l = to_go l.place l.input
