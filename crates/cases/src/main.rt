@@ -1,8 +1,7 @@
 // Runs document 01's measured cases over the real calls and prints for each whether it holds. proofs/Measured.antt proves them of the definitions.
 #![tactic(auto)]
 
-use desk::OpenRun;
-use desk::{Desk, NewDesk, Run, Said, Taken};
+use desk::{Desk, NewDesk, OpenRun, Run, Said, Taken};
 use frame::Parts;
 use groups::Written;
 use sheet::WriteAnswer;
@@ -82,9 +81,7 @@ fn into_book(latitude: u16) -> book::Taken {
 // The area is taken.
 fn fits(latitude: u16) -> bool {
     match into_book(latitude) {
-        Ok(book) => book.aiou_plus_one == 1
-            && book.siou_plus_one == 1
-            && book.count == 1,
+        Ok(book) => book.aiou_plus_one == 1 && book.siou_plus_one == 1 && book.count == 1,
         Err(_) => false,
     }
 }

@@ -3,10 +3,9 @@ ghost use Rattle.std.specs.Prelude.{◌≡◌, get_or};
 ghost use Rattle.export.specs.Numbers.{stored, at_most};
 ghost use Rattle.exportdesk.specs.States.{constellation_in, solution_in, run_in, last_in, desk_in, is_open, tag_of, run_book, is_dated, second_of, desk_of};
 
-use desk::OpenRun;
 use book::Book;
 use codes::Constellation;
-use desk::{Desk, Last, Run};
+use desk::{Desk, Last, OpenRun, Run};
 use export::books::{aiou_of, book_in, siou_of};
 use export::numbers::{at, count, put, wide};
 use message::Subtype;

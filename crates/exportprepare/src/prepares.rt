@@ -35,7 +35,14 @@ fn lacks_room(tray: &[u64], desk: &[u64], told: &[u64], header: &[u64]) -> bool
 }
 
 // What was said, the bytes used, the noise told, the desk's number for a frame, the bytes of log, the place of a refusal.
-fn put_told(answer: Answer, event: u64, noise: u64, number: u8, place: Option<Place>, told: &mut [u64])
+fn put_told(
+    answer: Answer,
+    event: u64,
+    noise: u64,
+    number: u8,
+    place: Option<Place>,
+    told: &mut [u64],
+)
     requires { told_room ≤ length told.old }
     ensures { told.new ≡ laid (event_of event answer.used noise number answer.log (sf_in place) (at_in place)) told.old }
 {
@@ -110,16 +117,7 @@ fn tell(
             0
         }
         Said::Noise(noise) => {
-            put_event(
-                answer,
-                2,
-                noise_count(noise),
-                0,
-                None,
-                tray,
-                desk,
-                told,
-            );
+            put_event(answer, 2, noise_count(noise), 0, None, tray, desk, told);
             0
         }
         Said::Done => {

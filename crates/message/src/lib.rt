@@ -96,9 +96,7 @@ fn hpac_start(subtype: u8) -> Start
     ensures { result ≡ hpac_start (constellation_for subtype) }
 {
     match constellation_of(subtype) {
-        Some(constellation) => Some(State::Hpac(hpac::State::Siou(
-            constellation,
-        ))),
+        Some(constellation) => Some(State::Hpac(hpac::State::Siou(constellation))),
         None => None,
     }
 }

@@ -3,8 +3,7 @@ ghost use Rattle.std.specs.Prelude.{◌≡◌};
 ghost use Rattle.quick.specs.Behind as mirror;
 ghost use Rattle.quick.specs.Behind.{reads_to};
 
-use crate::Extent;
-use crate::Quick;
+use crate::{Extent, Quick};
 
 // Behind a part that passes: its end, and how many entries there are to it; an end of 0 says that it does not pass.
 #[derive(Clone, Copy)]

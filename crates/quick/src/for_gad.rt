@@ -3,8 +3,7 @@ ghost use Rattle.std.specs.Prelude.{◌≡◌, ◌+◌, ◌≤◌};
 ghost use Rattle.bits.specs.Bits.{got};
 ghost use Rattle.quick.specs.Gad.{block_fits, blocks_fit, gad_of};
 
-use crate::Extent;
-use crate::Quick;
+use crate::{Extent, Quick};
 
 // SF032 and SF033 of a block are in their ranges.
 fn block_fits(block: u64) -> bool

@@ -3,8 +3,7 @@ ghost use Rattle.std.specs.Prelude.{◌≡◌, ◌+◌, ◌*◌, ◌^◌, ◌≤
 ghost use Rattle.quick.specs.Hpac as mirror;
 ghost use Rattle.quick.specs.Hpac.{Within, Spans, one_end, three_end, linear_end, product_end, t_polynomial_end, i_polynomial_end, coefficient_count, grid_entries, slant_end, slants_end, satellites_behind, ionosphere_behind, t_grid_behind, troposphere_behind, ionosphere_after, area_behind, areas_behind, reads_by, hpac_quick};
 
-use crate::Extent;
-use crate::Quick;
+use crate::{Extent, Quick};
 use codes::Constellation;
 use codes::satellites::set_bits;
 use codes::tables::mask_size;

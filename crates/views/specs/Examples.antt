@@ -26,13 +26,16 @@ glonass =
 
 -- its phase bias is the three entries from 21 on, 1, 6 and 8000; its code bias is entry 26, 1023
 first-satellite : satellite_answer_of 1 glonass 0
-    ≡ Ok (1, InUse (record {
-      continuity = 2;
-      orbit = Some (99, record { radial = in_unit 20 8191; along_track = in_unit 20 0; cross_track = in_unit 20 16382 });
-      yaw = yaw.Invalid;
-      clock = Some (1, in_unit 20 8200, 4);
-      bias = Some (record { phases_at = 21; phases = 1; codes_at = 26; codes = 1 });
-    }))
+    ≡ Ok (
+      1,
+      InUse (record {
+        continuity = 2;
+        orbit = Some (99, record { radial = in_unit 20 8191; along_track = in_unit 20 0; cross_track = in_unit 20 16382 });
+        yaw = yaw.Invalid;
+        clock = Some (1, in_unit 20 8200, 4);
+        bias = Some (record { phases_at = 21; phases = 1; codes_at = 26; codes = 1 });
+      }),
+    )
 unfolding satellite_answer_of nth_from judged_sheet judging_sheet write_l judge bits_of numbered mask_size mask_sizes bias_size bias_mask_sizes ones ones_in record_from yaw_in yaw_of value_of sf line_of find table
 first-satellite = refl
 

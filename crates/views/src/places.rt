@@ -4,11 +4,10 @@ ghost use Rattle.message.specs.Machine.{field_of};
 ghost use Rattle.views.specs.Units.{in_unit, count_in};
 ghost use Rattle.views.specs.Places.{sought, found, opened, code_at};
 
-use sheet::Written;
 use crate::units::{count_in, entry, in_unit};
 use answer::{Fault, Refusal};
 use message::{Start, State, start_of};
-use sheet::{WriteAnswer, judge_sheet};
+use sheet::{WriteAnswer, Written, judge_sheet};
 
 // An entry of a sheet, and where the machine stands there.
 #[derive(Clone, Copy)]

@@ -4,13 +4,12 @@ ghost use Rattle.layout.specs.Reaches.{many_end};
 ghost use Rattle.views.specs.Satellites.{orbit_view, yaw_view, clock_view, bias_places, bias_view, satellite_view, nth, satellite_answer_of};
 ghost use Rattle.views.specs.SatellitePlaces.{orbit_of, clock_start, clock_of, bias_start, bias_at, bias_of, state_at, satellite_end, Seats, Listed};
 
-use sheet::Written;
 use crate::units::{entry, in_unit, yaw_in};
 use answer::{Fault, Place, Refusal};
 use codes::Constellation;
 use codes::satellites::{satellite_count, satellite_number, set_bits};
 use message::{Subtype, constellation_of};
-use sheet::{WriteAnswer, judge_sheet};
+use sheet::{WriteAnswer, Written, judge_sheet};
 use values::{Orbit, Yaw};
 
 // The orbit block: the issue of data of the ephemeris, and the corrections in metres.
