@@ -1,6 +1,6 @@
 -- One lemma for each turn and each answer of the functions that read a book, in plain variables, premises worded as the code makes them. Assumes nothing.
 use mathlib.Core.Path.{◌≡◌, refl, ap, ap₂, sym, ◌∙◌, subst}
-use mathlib.Core.Bool.{Bool, true, false, cond, not, ◌&&◌, beq, false≢true}
+use mathlib.Core.Bool.{Bool, true, false, cond, not, ◌&&◌, false≢true}
 use mathlib.Core.List.{List, []}
 use Prim.Native.Nat.{ℕ, zero, suc, ◌+◌, ◌-◌, ◌*◌, ◌/◌, ◌%◌, ◌^◌, ◌≤◌, ◌<◌}
 use native.Mathlib.Omega.{arith}
@@ -14,7 +14,7 @@ use mir.Val.{Fits}
 use Rattle.area.specs.Area.{sf031, sf032, sf033, area_off, is_area, number_in, number_at}
 use Rattle.area.specs.Laws.{not-off}
 use Rattle.area.specs.declared.AreaId.{AreaId}
-use Rattle.book.specs.Book.{area_in, siou_sound, head_sound, areas_sound, sound, place_of, is_held, found, found_at}
+use Rattle.book.specs.Book.{area_in, head_sound, areas_sound, sound, place_of, is_held, found, found_at}
 use Rattle.book.specs.Laws.{Sound, head-parts, sound-head, sound-room, sound-lists}
 use Rattle.book.specs.Judge.{sound_area, Image}
 use Rattle.bits.specs.Bits.{Bytes}
@@ -22,62 +22,6 @@ use Rattle.bits.specs.Laws.{bytes_drop}
 use Rattle.book.specs.declared.Book.{Book}
 
 -- ---- the head
-
--- a SIOU + 1, with an AIOU + 1
-module _ (aiou siou : ℕ) where
-  pub siou-over : 512 < siou → false ≡ siou_sound aiou siou
-  unfolding siou_sound
-  siou-over h = rw (lt-leb siou 512 h)
-
-  module _ (h : siou ≤ 512) where
-    pub siou-without : aiou ≡ 0 → eqb siou 0 ≡ siou_sound aiou siou
-    unfolding siou_sound
-    siou-without e = rw (le-leb siou 512 h, e)
-
-    pub siou-with : (aiou ≡ 0 → ⊥) → true ≡ siou_sound aiou siou
-    unfolding siou_sound
-    siou-with n = rw (le-leb siou 512 h, ne_eqb aiou 0 n)
-
--- a head whose SIOU is not sound, and one whose SIOU is
-module _ (book : Book) (b : Bool) (x : ℕ) (ex : x ≡ book.siou_plus_one) (e : b ≡ siou_sound book.aiou_plus_one x) where
-  siou-is : b ≡ siou_sound book.aiou_plus_one book.siou_plus_one
-  siou-is = e ∙ ap (siou_sound book.aiou_plus_one) ex
-
-  pub head-siou : not b ≡ true → false ≡ head_sound book
-  unfolding head_sound
-  head-siou k =
-      let z : siou_sound book.aiou_plus_one book.siou_plus_one ≡ false = sym siou-is ∙ not-true b k in
-      rw z (go (beq (eqb book.aiou_plus_one 0) (eqb book.count 0)))
-    where
-      go : (t : Bool) → false ≡ (t && false)
-      go true = refl
-      go false = refl
-
-  head-by : not b ≡ false → siou_sound book.aiou_plus_one book.siou_plus_one ≡ true
-  head-by k = sym siou-is ∙ not-false b k
-
-module _ (book : Book) (b : Bool) (x : ℕ) (ex : x ≡ book.siou_plus_one) (e : b ≡ siou_sound book.aiou_plus_one x) (known : not b ≡ false) where
-  pub head-none : book.aiou_plus_one ≡ 0 → eqb book.count 0 ≡ head_sound book
-  unfolding head_sound
-  head-none a = rw (head-by book b x ex e known, a) (go (eqb book.count 0) refl)
-    where
-      go : (b : Bool) → eqb book.count 0 ≡ b → b ≡ (beq true b && (true && leb book.count most_areas))
-      go false z = refl
-      go true z = sym (le-leb book.count most_areas (omega (arith, borrow.Author.Tests.eqb-true book.count 0 z)))
-
-  module _ (some : book.aiou_plus_one ≡ 0 → ⊥) where
-    pub head-bare : book.count ≡ 0 → false ≡ head_sound book
-    unfolding head_sound
-    head-bare z = rw (ne_eqb _ _ some, z)
-
-    module _ (h : book.count ≡ 0 → ⊥) where
-      pub head-over : 16 < book.aiou_plus_one → false ≡ head_sound book
-      unfolding head_sound
-      head-over k = rw (head-by book b x ex e known, ne_eqb _ _ some, ne_eqb _ _ h, lt-leb _ _ k)
-
-      pub head-rest : book.aiou_plus_one ≤ 16 → leb book.count most_areas ≡ head_sound book
-      unfolding head_sound
-      head-rest k = rw (head-by book b x ex e known, ne_eqb _ _ some, ne_eqb _ _ h, le-leb _ _ k)
 
 -- with a sound head, the areas lie inside the bytes, and there are no more than IDs
 module _ (book : Book) (b : Bool) (e : b ≡ head_sound book) (k : not b ≡ false) where
