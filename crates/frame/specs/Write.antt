@@ -2,7 +2,6 @@
 -- "The plain-frame writer (TF004 zero) gives back the bytes of any accepted plain frame from its parts."
 use Rattle.std.specs.Prelude.{List, [], ◌∷◌, ◌++◌, Bool, true, false, not, ◌&&◌, ◌||◌, ℕ, zero, suc, ◌+◌, ◌*◌, ◌^◌, ltb, eqb, length, get_or, take, drop, Ok, Err, None}
 use Rattle.sizes.specs.Sizes.{longest_frame, longest_payload}
-use Rattle.answer.specs.Number.{number_of}
 use Rattle.answer.specs.declared.Refusal.TheVariants.{Room, Field, Length}
 use Rattle.bits.specs.Bits.{bits_of, number}
 use Rattle.checks.specs.Crc.{frame_crc, message_crc}

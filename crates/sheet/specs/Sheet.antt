@@ -2,7 +2,6 @@
 use Rattle.std.specs.Prelude.{Bool, ◌||◌, List, ◌++◌, ℕ, ◌+◌, ◌-◌, ◌*◌, ◌/◌, eqb, ltb, length, drop, Ok, Err}
 use Rattle.sizes.specs.Sizes.{longest_payload, sheet_room}
 use Rattle.answer.specs.Stop.{stop}
-use Rattle.answer.specs.Number.{number_of}
 use Rattle.answer.specs.Place.{nowhere}
 use Rattle.answer.specs.declared.Refusal.TheVariants.{Length, UnknownType, Room}
 use Rattle.bits.specs.Bits.{to_bits, bits_of}
