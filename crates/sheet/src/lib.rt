@@ -19,7 +19,8 @@ use crate::row::Reached;
 use answer::{Fault, Place, Refusal};
 use layout::{Field, Verdict};
 use message::{Start, State, Subtype};
-use quick::{Extent, Quick};
+pub use quick::Extent;
+use quick::Quick;
 use row::{Ran, write_row};
 
 // What `read` answers: the count of bits read and of entries written, or the refusal; SHORT, FIELD and MASK_EMPTY with the field's number and the bit where its
