@@ -1,15 +1,14 @@
 -- Two results of a public call of this crate cannot differ: for equal inputs, answers and lent buffers that meet the contract are equal. Proved.
 -- Written by tests/determined from the contracts in src/.
-use Rattle.std.specs.Prelude.{ℕ, Bool, List, ◌≡◌}
 use Rattle.area.specs.declared.AreaId.{AreaId}
 use Rattle.bits.specs.Part.{PartOf, part-determined}
 use Rattle.book.specs.Book.{book_of, found, found_at, head_sound, no_book, siou_sound, sound}
-use Rattle.book.specs.Take.{bytes_after, looked, number_of_taken, taken_of}
+use Rattle.book.specs.Results.{Found, Taken}
+use Rattle.book.specs.Take.{bytes_after, looked, taken_of}
 use Rattle.book.specs.declared.Book.{Book}
-use Rattle.book.specs.Results.{Found}
-use Rattle.book.specs.Results.{Taken}
+use Rattle.std.proofs.Common.{sym, ◌∙◌}
 use Rattle.std.specs.Borrow.{Bor}
-use Rattle.std.proofs.Common.{◌∙◌, sym}
+use Rattle.std.specs.Prelude.{Bool, List, ℕ, ◌≡◌}
 
 pub book-of-determined : (aiou_plus_one siou_plus_one count : ℕ) (r₁ r₂ : Book)
     → r₁ ≡ book_of aiou_plus_one siou_plus_one count
@@ -62,9 +61,3 @@ pub take-determined : (book : Book) (bytes payload : List ℕ) (r₁ r₂ : Take
     → bytes₂ ≡ bytes_after book bytes payload
     → (r₁ ≡ r₂) × (bytes₁ ≡ bytes₂)
 take-determined book bytes payload r₁ r₂ bytes₁ bytes₂ e0₁ e0₂ e1₁ e1₂ = (e0₁ ∙ sym e0₂, e1₁ ∙ sym e1₂)
-
-pub number-taken-determined : (answer : Taken) (r₁ r₂ : ℕ)
-    → r₁ ≡ number_of_taken answer
-    → r₂ ≡ number_of_taken answer
-    → r₁ ≡ r₂
-number-taken-determined answer r₁ r₂ e0₁ e0₂ = e0₁ ∙ sym e0₂

@@ -98,8 +98,3 @@ taken_of book s payload = answer_of (outcome book s payload) (reading (judging 2
 
 abbrev pub bytes_after : Book → List ℕ → List ℕ → List ℕ
 bytes_after book s payload = left_by (outcome book s payload) s
-
--- the answer's number in document 01
-abbrev pub number_of_taken : Taken → ℕ
-number_of_taken (Ok book) = 0
-number_of_taken (Err fault) = number_of fault.refusal

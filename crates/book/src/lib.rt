@@ -6,7 +6,7 @@ ghost use Rattle.sizes.specs.Sizes.{most_areas, book_bytes};
 ghost use Rattle.bits.specs.Part.{PartOf};
 ghost use Rattle.area.specs.Area.{sf031, number_in};
 ghost use Rattle.book.specs.Book.{book_of, no_book, areas_in, bytes_of_all, siou_sound, head_sound, areas_sound, sound, place_of, found, found_at};
-ghost use Rattle.book.specs.Take.{lookup, looked, insert, taken, take_all, is_under, answer_of, left_by, taken_of, bytes_after, number_of_taken};
+ghost use Rattle.book.specs.Take.{lookup, looked, insert, taken, take_all, is_under, answer_of, left_by, taken_of, bytes_after};
 ghost use Rattle.book.specs.Payload.{most_blocks, siou_of, aiou_of, block_count, block_start, block_at, blocks_from, blocks_of, take_bits};
 ghost use Rattle.book.specs.Laws.{Ascending};
 ghost use Rattle.book.specs.TakeLaws.{or_else};
@@ -430,14 +430,4 @@ pub fn take(book: Book, bytes: &mut [u8], payload: &[u8]) -> Taken
     }
     sheet::judge(2, 0, payload)?;
     take_blocks(book, bytes, payload)
-}
-
-// The answer's number in document 01.
-pub fn number_taken(answer: Taken) -> u8
-    ensures { result ≡ number_of_taken answer }
-{
-    match answer {
-        Ok(_) => 0,
-        Err(fault) => answer::number(fault.refusal),
-    }
 }

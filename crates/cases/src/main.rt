@@ -87,7 +87,7 @@ fn fits(latitude: u16) -> bool {
 }
 
 fn is_off(latitude: u16) -> bool {
-    book::number_taken(into_book(latitude)) == AREA_OFF
+    answer::number_of(&into_book(latitude)) == AREA_OFF
 }
 
 // A number takes three bytes, and they are these.

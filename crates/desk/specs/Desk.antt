@@ -1,7 +1,6 @@
 -- Definitions to believe: document 01, "Book and run": a desk, a new one, and when a desk is sound.
 use Rattle.std.specs.Prelude.{Bool, true, cond, ◌&&◌, List, ℕ, ltb, Ok, Err, Some, None}
 use Rattle.sizes.specs.Sizes.{tags}
-use Rattle.answer.specs.Number.{number_of}
 use Rattle.answer.specs.declared.Refusal.TheVariants.{Field}
 use Rattle.message.specs.Messages.{constellation_for}
 use Rattle.message.specs.Results.{Subtype}
@@ -29,10 +28,6 @@ made_for solution processor None = Err Field
 unfoldable pub new_desk : (solution processor constellation : ℕ) → NewDesk
 new_desk solution processor constellation =
     cond (source_in_range solution processor) (made_for solution processor (constellation_for constellation)) (Err Field)
-
-abbrev pub number_of_new : NewDesk → ℕ
-number_of_new (Ok desk) = 0
-number_of_new (Err refusal) = number_of refusal
 
 -- "With no run open the run's book does not count." An open run has its tag and its book.
 abbrev pub run_sound : Run → List ℕ → Bool

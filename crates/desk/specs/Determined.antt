@@ -1,32 +1,25 @@
 -- Two results of a public call of this crate cannot differ: for equal inputs, answers and lent buffers that meet the contract are equal. Proved.
 -- Written by tests/determined from the contracts in src/.
-use Rattle.std.specs.Prelude.{ℕ, Bool, List, ◌≡◌}
 use Rattle.area.specs.declared.AreaId.{AreaId}
 use Rattle.book.specs.declared.Book.{Book}
 use Rattle.codes.specs.Tables.{row_of}
 use Rattle.codes.specs.declared.Constellation.{Constellation}
-use Rattle.desk.specs.Desk.{desk_sound, new_desk, number_of_new}
+use Rattle.desk.specs.Desk.{desk_sound, new_desk}
 use Rattle.desk.specs.Lookup.{Lies, bytes_at, spot-determined, spot_of}
-use Rattle.desk.specs.Take.{book_taken, by_header, frame_taken, handling, hands, hands_book, number_of_said, results, results_book, settled_by}
-use Rattle.desk.specs.declared.Desk.{Desk}
 use Rattle.desk.specs.Results.{NewDesk}
-use Rattle.desk.specs.Results.{Said}
+use Rattle.desk.specs.Take.{book_taken, by_header, frame_taken, handling, hands, hands_book, results, results_book, settled_by}
+use Rattle.desk.specs.declared.Desk.{Desk}
 use Rattle.desk.specs.declared.Taken.{Taken}
 use Rattle.frame.specs.declared.Frame.{Frame}
+use Rattle.std.proofs.Common.{ap, sym, ◌∙◌}
 use Rattle.std.specs.Borrow.{Bor}
-use Rattle.std.proofs.Common.{◌∙◌, ap, sym}
+use Rattle.std.specs.Prelude.{Bool, List, ℕ, ◌≡◌}
 
 pub new-desk-determined : (solution processor constellation : ℕ) (r₁ r₂ : NewDesk)
     → r₁ ≡ new_desk solution processor constellation
     → r₂ ≡ new_desk solution processor constellation
     → r₁ ≡ r₂
 new-desk-determined solution processor constellation r₁ r₂ e0₁ e0₂ = e0₁ ∙ sym e0₂
-
-pub number-new-desk-determined : (answer : NewDesk) (r₁ r₂ : ℕ)
-    → r₁ ≡ number_of_new answer
-    → r₂ ≡ number_of_new answer
-    → r₁ ≡ r₂
-number-new-desk-determined answer r₁ r₂ e0₁ e0₂ = e0₁ ∙ sym e0₂
 
 pub is-sound-determined : (desk : Desk) (live run : List ℕ) (r₁ r₂ : Bool)
     → r₁ ≡ desk_sound desk live run
@@ -41,12 +34,6 @@ pub find-determined : {X : Type 0} {live-part part₁ part₂ run-part : Bor X} 
     → Lies part₂ live-part run-part (spot_of desk live run id)
     → (r₁ ≡ r₂) × (part₁.ref_ptr.0 ≡ part₂.ref_ptr.0) × (part₁.ref_ptr.1 ≡ part₂.ref_ptr.1)
 find-determined desk live run id r₁ r₂ e0₁ e0₂ e1₁ e1₂ = (e0₁ ∙ sym e0₂, (spot-determined e1₁ e1₂).0, (spot-determined e1₁ e1₂).1)
-
-pub number-said-determined : (said : Said) (r₁ r₂ : ℕ)
-    → r₁ ≡ number_of_said said
-    → r₂ ≡ number_of_said said
-    → r₁ ≡ r₂
-number-said-determined said r₁ r₂ e0₁ e0₂ = e0₁ ∙ sym e0₂
 
 pub take-book-determined : (desk : Desk) (book : Book) (bytes live run : List ℕ) (r₁ r₂ : Taken) (live₁ live₂ : List ℕ)
     → results_book r₁ live₁ ≡ book_taken (hands_book desk book bytes live run)

@@ -116,7 +116,7 @@ module _ (handed : Handed) (e : is_gap handed.desk.last handed.second ≡ false)
       go (refused why) = refl
       go (defines book bytes) = refl
       go (continues book message) = refl
-      go (opens tag message) = ap (Open tag) by-same
+      go (opens tag message) = ap (λ (b : Book). Some (record { tag = tag; book = b })) by-same
 
 -- ---- a refusal: "if it is refused, the old book stays", and so does all that was lent, the last second too, gap or no gap
 
@@ -222,7 +222,7 @@ module _ (handed : Handed) (w : desk_sound handed.desk handed.live handed.run �
       let b : (handling handed.desk handed.second).book ≡ no_book = ap (λ d. d.book) handles-empty in (
         ap (λ x. x.answer.desk.book) s ∙ b,
         ap (λ x. x.live) s,
-        ap (λ x. x.answer.desk.run) s ∙ ap (Open tag) b,
+        ap (λ x. x.answer.desk.run) s ∙ ap (λ (k : Book). Some (record { tag = tag; book = k })) b,
         ap (λ x. x.run) s ∙ ap (λ d. run_bytes_by d handed.live handed.run (opens tag message)) handles-empty,
       )
 

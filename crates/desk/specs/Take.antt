@@ -1,7 +1,7 @@
 -- Definitions to believe: document 01, "Book and run": what a desk makes of a frame, in the order of its checks, and what it leaves; and document 02, request 1, "Old grid after a radio gap".
 use Rattle.std.specs.Prelude.{Bool, true, false, cond, not, ◌&&◌, ◌||◌, List, [], ◌++◌, ℕ, ◌-◌, ◌*◌, ◌%◌, leb, ltb, eqb, length, take, drop, Ok, Err, Some, None}
 use Rattle.sizes.specs.Sizes.{tags, book_bytes, log_room}
-use Rattle.answer.specs.Number.{number_of}
+use Rattle.answer.specs.Number.{number_of_answer}
 use Rattle.answer.specs.Stop.{stop}
 use Rattle.answer.specs.Place.{nowhere}
 use Rattle.answer.specs.declared.Fault as answer
@@ -263,8 +263,7 @@ with_second desk second left = results (settled desk second left.answer) left.li
 
 -- the answer's number in document 01
 abbrev pub number_of_said : Said → ℕ
-number_of_said (Ok log) = 0
-number_of_said (Err fault) = number_of fault.refusal
+number_of_said = number_of_answer (λ fault. fault.refusal)
 
 -- ---- a book that was read from its kept form, in bytes of its own, is taken as the live book; an open run and the last second stay as they are
 

@@ -261,7 +261,7 @@ never-unknown-type handed place e = go place (refusals handed (record { refusal 
   where
     go : (place : (Option Place)) → answers_at place UnknownType ≡ true → ⊥
     go None h = true≢false (sym h)
-    go (Some sf at) h = true≢false (sym h)
+    go (Some p) h = true≢false (sym h)
 
 pub never-six : (handed : Handed) → number_of_said (frame_taken handed).answer.said ≡ 6 → ⊥
 never-six handed n = number-six handed n

@@ -58,10 +58,6 @@ out_after book s out =
     (stop (not (sound book s)) out
     (kept_bytes book s ++ drop (length (kept_bytes book s)) out))
 
-abbrev pub number_of_written : Written → ℕ
-number_of_written (Ok bytes) = 0
-number_of_written (Err refusal) = number_of refusal
-
 -- ---- reading
 
 -- what some bytes say first, and the bytes behind it; or the refusal
@@ -133,7 +129,3 @@ answer_of (not-kept r) = Err r
 abbrev pub left_by : Outcome → List ℕ → List ℕ
 left_by (kept book l) bytes = bytes_of_all l ++ drop (6 * length l) bytes
 left_by (not-kept r) bytes = bytes
-
-abbrev pub number_of_read : ReadKept → ℕ
-number_of_read (Ok book) = 0
-number_of_read (Err refusal) = number_of refusal

@@ -1,13 +1,10 @@
 -- Two results of a public call of this crate cannot differ: for equal inputs, answers and lent buffers that meet the contract are equal. Proved.
 -- Written by tests/determined from the contracts in src/.
+use Rattle.std.proofs.Common.{sym, ◌∙◌}
 use Rattle.std.specs.Prelude.{ℕ, ◌≡◌}
-use Rattle.values.specs.Values.{count_of, number_of_count, number_of_orbit, number_of_residual, number_of_value, number_of_yaw, orbit_of, residual_of, value_of, yaw_of}
-use Rattle.values.specs.Results.{CountAnswer}
-use Rattle.values.specs.Results.{OrbitAnswer}
-use Rattle.values.specs.Results.{ResidualAnswer}
+use Rattle.values.specs.Results.{CountAnswer, OrbitAnswer, ResidualAnswer, YawAnswer}
+use Rattle.values.specs.Values.{count_of, number_of_value, orbit_of, residual_of, value_of, yaw_of}
 use Rattle.values.specs.declared.Value.{Value}
-use Rattle.values.specs.Results.{YawAnswer}
-use Rattle.std.proofs.Common.{◌∙◌, sym}
 
 pub value-of-determined : (sf code : ℕ) (r₁ r₂ : Value)
     → r₁ ≡ value_of sf code
@@ -44,27 +41,3 @@ pub number-of-value-determined : (answer : Value) (r₁ r₂ : ℕ)
     → r₂ ≡ number_of_value answer
     → r₁ ≡ r₂
 number-of-value-determined answer r₁ r₂ e0₁ e0₂ = e0₁ ∙ sym e0₂
-
-pub number-of-residual-determined : (answer : ResidualAnswer) (r₁ r₂ : ℕ)
-    → r₁ ≡ number_of_residual answer
-    → r₂ ≡ number_of_residual answer
-    → r₁ ≡ r₂
-number-of-residual-determined answer r₁ r₂ e0₁ e0₂ = e0₁ ∙ sym e0₂
-
-pub number-of-yaw-determined : (answer : YawAnswer) (r₁ r₂ : ℕ)
-    → r₁ ≡ number_of_yaw answer
-    → r₂ ≡ number_of_yaw answer
-    → r₁ ≡ r₂
-number-of-yaw-determined answer r₁ r₂ e0₁ e0₂ = e0₁ ∙ sym e0₂
-
-pub number-of-count-determined : (answer : CountAnswer) (r₁ r₂ : ℕ)
-    → r₁ ≡ number_of_count answer
-    → r₂ ≡ number_of_count answer
-    → r₁ ≡ r₂
-number-of-count-determined answer r₁ r₂ e0₁ e0₂ = e0₁ ∙ sym e0₂
-
-pub number-of-orbit-determined : (answer : OrbitAnswer) (r₁ r₂ : ℕ)
-    → r₁ ≡ number_of_orbit answer
-    → r₂ ≡ number_of_orbit answer
-    → r₁ ≡ r₂
-number-of-orbit-determined answer r₁ r₂ e0₁ e0₂ = e0₁ ∙ sym e0₂

@@ -140,19 +140,3 @@ number_of_value (Count n) = 0
 number_of_value (OfResidual r) = 0
 number_of_value (OfYaw y) = 0
 number_of_value (Refused refusal) = number_of refusal
-
-abbrev pub number_of_residual : ResidualAnswer → ℕ
-number_of_residual (Ok x) = 0
-number_of_residual (Err refusal) = number_of refusal
-
-abbrev pub number_of_yaw : YawAnswer → ℕ
-number_of_yaw (Ok x) = 0
-number_of_yaw (Err refusal) = number_of refusal
-
-abbrev pub number_of_count : CountAnswer → ℕ
-number_of_count (Ok x) = 0
-number_of_count (Err refusal) = number_of refusal
-
-abbrev pub number_of_orbit : OrbitAnswer → ℕ
-number_of_orbit (Ok x) = 0
-number_of_orbit (Err refusal) = number_of refusal

@@ -2,7 +2,7 @@
 #![tactic(auto)]
 
 ghost use Rattle.std.specs.Prelude.{◌≡◌, ◌+◌, pos, ◌-ℤ◌};
-ghost use Rattle.values.specs.Values.{half_degrees, quotient, value_of, residual_of, yaw_of, count_of, orbit_with, orbit_from, orbit_of, number_of_value, number_of_residual, number_of_yaw, number_of_count, number_of_orbit};
+ghost use Rattle.values.specs.Values.{half_degrees, quotient, value_of, residual_of, yaw_of, count_of, orbit_with, orbit_from, orbit_of, number_of_value};
 ghost use Rattle.values.specs.Columns.{number_in, meant_in, invalid_in};
 
 use answer::Refusal;
@@ -221,41 +221,5 @@ pub fn number_of_value(answer: Value) -> u8
     match answer {
         Value::Refused(refusal) => answer::number(refusal),
         _ => 0,
-    }
-}
-
-pub fn number_of_residual(answer: ResidualAnswer) -> u8
-    ensures { result ≡ number_of_residual answer }
-{
-    match answer {
-        Ok(_) => 0,
-        Err(refusal) => answer::number(refusal),
-    }
-}
-
-pub fn number_of_yaw(answer: YawAnswer) -> u8
-    ensures { result ≡ number_of_yaw answer }
-{
-    match answer {
-        Ok(_) => 0,
-        Err(refusal) => answer::number(refusal),
-    }
-}
-
-pub fn number_of_count(answer: CountAnswer) -> u8
-    ensures { result ≡ number_of_count answer }
-{
-    match answer {
-        Ok(_) => 0,
-        Err(refusal) => answer::number(refusal),
-    }
-}
-
-pub fn number_of_orbit(answer: OrbitAnswer) -> u8
-    ensures { result ≡ number_of_orbit answer }
-{
-    match answer {
-        Ok(_) => 0,
-        Err(refusal) => answer::number(refusal),
     }
 }
