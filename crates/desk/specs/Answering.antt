@@ -181,7 +181,7 @@ module _ (desk : Desk) (live run : List ℕ) where
             room = omega (
               arith,
               always-enough desk.constellation payload r.message r.codes r.used 0 book run r.short r.reads (omega arith)
-                  (sound-open desk live run ready.state tag book e),
+                  (sound-open desk live run ready.state (record { tag = tag; book = book }) e),
             );
             refusal = refl;
             brings = was_read;

@@ -6,6 +6,7 @@ use Rattle.std.proofs.Math.Bool.{Bool, true, false}
 use Rattle.std.proofs.Math.Dec.{ltb}
 use Rattle.std.proofs.Math.ListN.{length}
 use borrow.Author.Tests.{le-leb, ltb-false, not-false}
+use Rattle.desk.specs.declared.OpenRun.{OpenRun}
 use Rattle.answer.specs.Stop.{stop}
 use Rattle.answer.specs.Place.{nowhere}
 use Rattle.answer.specs.declared.Fault as answer
@@ -50,8 +51,8 @@ module _ (desk : Desk) (live run : List ℕ) (e : desk_sound desk live run ≡ t
   sound-run = both_right (sound desk.book live) (run_sound desk.run run) books
 
   -- and of its open run
-  pub sound-open : (tag : ℕ) (book : Book) → desk.run ≡ Some (record { tag = tag; book = book }) → sound book run ≡ true
-  sound-open tag book o = both_right (ltb tag tags) (sound book run) (sym (ap (λ r. run_sound r run) o) ∙ sound-run)
+  pub sound-open : (x : OpenRun) → desk.run ≡ Some x → sound x.book run ≡ true
+  sound-open x o = both_right (ltb x.tag tags) (sound x.book run) (sym (ap (λ r. run_sound r run) o) ∙ sound-run)
 
 -- ---- a sound desk is sound without its live book, and so is the one that handles a frame
 

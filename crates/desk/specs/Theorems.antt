@@ -4,6 +4,8 @@
 use Rattle.std.specs.Prelude.{◌≡◌, refl, Bool, false, cond, ◌&&◌, List, [], ◌∷◌, ◌++◌, map, ℕ, ◌*◌, ◌≤◌, ltb, length, take, drop, Option, Ok, Err, Some, None}
 use Rattle.std.proofs.Common.{ap, ap₂, sym, ◌∙◌, subst, true≢false, arith, lt-ltb, le-leb, le-ltb}
 use Rattle.std.proofs.Math.Bool.{true}
+use Rattle.desk.specs.declared.OpenRun.{OpenRun}
+use Rattle.answer.specs.Pairs.{some-value}
 use Rattle.area.specs.declared.AreaId.{AreaId}
 use Rattle.area.specs.Area.{area_id}
 use Rattle.hpac.specs.Hpac.{Area, Hpac}
@@ -119,9 +121,9 @@ module _ (held : Held) (opening : Snapshot) (k : Kept held.run opening held.desk
       → log_of book held.run message ≡ log_of opening.book opening.bytes message
   by-run None tag book closed e message = let z : ◌≡◌ {A = ℕ} 0 1 = cc in absurd (omega arith)
   by-run (Some r₀) tag book (kept p q) e message =
-      let same : r₀.book ≡ book = cc in
-      ap (λ r₀.book. log_of r₀.book held.run message) (sym same) ∙ log-same r₀.book held.run opening.bytes q message
-      ∙ ap (λ r₀.book. log_of r₀.book opening.bytes message) p
+      let same : r₀.book ≡ book = ap (λ (x : OpenRun). x.book) (some-value e) in
+      ap (λ b. log_of b held.run message) (sym same) ∙ log-same r₀.book held.run opening.bytes q message
+      ∙ ap (λ b. log_of b opening.bytes message) p
 
   told-by : (v : Verdict) → Fits held.desk held.live held.run v → entries_of held v ≡ told_by (opening_by held opening v) v
   told-by (refused why) f = refl
