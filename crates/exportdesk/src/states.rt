@@ -22,10 +22,7 @@ const NO_PROCESSOR: u8 = 16;
 fn at_most(most: u8, x: u64) -> u8
     ensures { result ≡ at_most most x }
 {
-    if x < wide(most) {
-        return x as u8;
-    }
-    most
+    x.min(u64::from(most)) as u8
 }
 
 fn constellation_in(x: u64) -> Constellation
