@@ -79,6 +79,8 @@ fn put_event(
     put_told(answer, event, noise, number, place, told);
 }
 
+// Put in where it is called: handed on, an answer would lie on the stack once more.
+#[inline(always)]
 fn tell(
     answer: Answer,
     tray: &mut [u64],
