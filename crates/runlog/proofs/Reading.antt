@@ -1,4 +1,5 @@
 -- The reads of `runlog`, in plain values: each that brings something is a portion, which is told, and the portions so far are told from the start on.
+use Rattle.std.specs.Prelude.{Some, None}
 use mathlib.Core.Path.{◌≡◌, refl, sym, ap, ◌∙◌}
 use mathlib.Core.Bool.{Bool, true, false, not, ◌&&◌}
 use mathlib.Core.Logic.{◌⊎◌, inl, inr}
@@ -17,10 +18,8 @@ use Rattle.desk.specs.declared.Desk.{Desk}
 use Rattle.prepare.specs.Driver.{State}
 use Rattle.runlog.specs.declared.hearing.Turn.{Turn}
 use Rattle.runlog.specs.declared.hearing.Stop.{Stop}
-use Rattle.runlog.specs.declared.command.Wanted.{Wanted}
-use Rattle.runlog.specs.declared.Job.{Job}
-use Rattle.runlog.specs.declared.Job.TheVariants as job
-use Rattle.runlog.specs.declared.Done.TheVariants as done
+use Rattle.runlog.specs.Results.{Wanted}
+use Rattle.runlog.specs.Results.{Job}
 use Rattle.runlog.specs.Command.{job_of}
 use Rattle.runlog.specs.Events.{Prepared}
 use Rattle.runlog.specs.Telling.{state_of, some, Told, Ended}
@@ -144,8 +143,8 @@ ran-is desk raw stop out bytes₂ live₂ run₂ out₂ h a =
     record { out = out; out-room = omega arith; bytes₂ = bytes₂; live₂ = live₂; run₂ = run₂; out₂ = out₂; all_told = a }
 
 module _ (wanted : Wanted) (j : Job) (e : j ≡ job_of wanted) where
-  pub does-run : (desk : Desk) (raw : Bool) (stop : Stop) → j ≡ job.Run desk raw → Ran desk raw stop → Does (job_of wanted) (done.Ran stop)
+  pub does-run : (desk : Desk) (raw : Bool) (stop : Stop) → j ≡ Some (record { desk = desk; raw = raw }) → Ran desk raw stop → Does (job_of wanted) (Some stop)
   does-run desk raw stop q r = rw (← e, q) (Does.runs r)
 
-  pub does-usage : j ≡ job.Usage → Does (job_of wanted) done.Usage
+  pub does-usage : j ≡ None → Does (job_of wanted) None
   does-usage q = rw (← e, q) Does.says-usage

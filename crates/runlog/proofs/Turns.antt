@@ -1,5 +1,5 @@
 -- A call and a finish on a tray and a desk that are prepared, in plain values: they stay prepared, and each event told is one of those that are left to tell.
-use Rattle.std.specs.Prelude.{Ok, Err}
+use Rattle.std.specs.Prelude.{Ok, Err, Some, None}
 use mathlib.Core.Path.{◌≡◌, refl, sym, ap, ◌∙◌, subst}
 use mathlib.Core.List.{List, []}
 use mathlib.Core.Bool.{Bool, true, false, not}
@@ -8,6 +8,8 @@ use Prim.Native.Nat.{ℕ, ◌+◌, ◌-◌, ◌≤◌, ◌<◌, ◌^◌}
 use native.Mathlib.Omega.{arith}
 use lib.ListN.{length, take, drop, replicate, length-drop, length-append, length-replicate}
 use lib.Seq.{take_all, drop-drop, length-take-le}
+use Rattle.answer.specs.Pairs.{some-value}
+use Rattle.runlog.specs.declared.Work.{Work}
 use Rattle.stream.specs.declared.Tray.{Tray}
 use Rattle.stream.specs.Scan.{Event}
 use Rattle.stream.specs.Tray as stream
@@ -29,10 +31,8 @@ use Rattle.prepare.specs.Stays.{sound-after}
 use Rattle.prepare.specs.Theorems as theorems
 use Rattle.runlog.specs.declared.hearing.Heard.{Heard}
 use Rattle.runlog.specs.declared.hearing.Turn.{Turn}
-use Rattle.runlog.specs.declared.command.Wanted.{Wanted}
-use Rattle.runlog.specs.declared.command.Wanted.TheVariants.{Log, Nothing}
-use Rattle.runlog.specs.declared.Job.{Job}
-use Rattle.runlog.specs.declared.Job.TheVariants.{Run, Usage}
+use Rattle.runlog.specs.Results.{Wanted}
+use Rattle.runlog.specs.Results.{Job}
 use Rattle.runlog.specs.Command.{job_by, job_of}
 use Rattle.runlog.specs.Telling.{state_of, Told, Ended}
 use Rattle.runlog.proofs.Telling as telling
@@ -295,15 +295,15 @@ module _ (raw : Bool) (second : ℕ) (bytes live run out : List ℕ) (turn : Tur
 
 -- ---- a new desk, with the buffers that the program lends
 
-pub is-new : (wanted : Wanted) (job : Job) (desk : Desk) (raw : Bool) → job ≡ job_of wanted → job ≡ Run desk raw → IsNew desk
-is-new (Log solution processor constellation r) job desk raw e q = go (new_desk solution processor constellation) refl (sym e ∙ q)
+pub is-new : (wanted : Wanted) (job : Job) (desk : Desk) (raw : Bool) → job ≡ job_of wanted → job ≡ Some (record { desk = desk; raw = raw }) → IsNew desk
+is-new (Some r₀) job desk raw e q = go (new_desk r₀.solution r₀.processor r₀.constellation) refl (sym e ∙ q)
   where
-    go : (made : NewDesk) → new_desk solution processor constellation ≡ made → job_by made r ≡ Run desk raw → IsNew desk
+    go : (made : NewDesk) → new_desk r₀.solution r₀.processor r₀.constellation ≡ made → job_by made r₀.raw ≡ Some (record { desk = desk; raw = raw }) → IsNew desk
     go (Ok d) p k =
-        let same : d ≡ desk = cc in
-        record { solution = solution; processor = processor; constellation = constellation; is_made = p ∙ ap (λ x. Ok x) same }
+        let same : d ≡ desk = ap (λ (x : Work). x.desk) (some-value k) in
+        record { solution = r₀.solution; processor = r₀.processor; constellation = r₀.constellation; is_made = p ∙ ap (λ x. Ok x) same }
     go (Err why) p k = let y : ◌≡◌ {A = ℕ} 0 1 = cc in absurd (omega arith)
-is-new Nothing job desk raw e q = let k : Usage ≡ Run desk raw = sym e ∙ q in let y : ◌≡◌ {A = ℕ} 0 1 = cc in absurd (omega arith)
+is-new None job desk raw e q = let k : None ≡ Some (record { desk = desk; raw = raw }) = sym e ∙ q in let y : ◌≡◌ {A = ℕ} 0 1 = cc in absurd (omega arith)
 
 pub new-prepared : (desk : Desk) (log : List ℕ) → IsNew desk → log_room ≡ length log
     → Prepared (replicate longest_frame 0) stream.fresh_tray desk (replicate book_bytes 0) (replicate book_bytes 0) log

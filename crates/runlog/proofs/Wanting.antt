@@ -1,22 +1,20 @@
 -- What a command line asks for, test by test, over plain variables.
-use Rattle.std.specs.Prelude.{Ok, Err}
+use Rattle.std.specs.Prelude.{Ok, Err, Some, None}
 use mathlib.Core.Path.{◌≡◌}
 use mathlib.Core.Bool.{Bool, true, false}
 use mathlib.Core.List.{List}
 use Prim.Native.Nat.{ℕ}
 use borrow.Author.Tests.{eq-eqb, ne_eqb}
+use Rattle.runlog.specs.declared.command.Log.{Log}
 use Rattle.answer.specs.declared.Refusal.{Refusal}
 use Rattle.desk.specs.declared.Desk.{Desk}
 use Rattle.desk.specs.Results.{NewDesk}
 use Rattle.desk.specs.Desk.{new_desk}
-use Rattle.runlog.specs.declared.command.Byte.{Byte}
-use Rattle.runlog.specs.declared.command.Byte.TheVariants.{Is, Not}
+use Rattle.runlog.specs.Results.{Byte}
 use Rattle.runlog.specs.declared.command.Form.{Form}
 use Rattle.runlog.specs.declared.command.Form.TheVariants as form
-use Rattle.runlog.specs.declared.command.Wanted.{Wanted}
-use Rattle.runlog.specs.declared.command.Wanted.TheVariants.{Log, Nothing}
-use Rattle.runlog.specs.declared.Job.{Job}
-use Rattle.runlog.specs.declared.Job.TheVariants.{Run, Usage}
+use Rattle.runlog.specs.Results.{Wanted}
+use Rattle.runlog.specs.Results.{Job}
 use Rattle.runlog.specs.Command.{byte_of, is_raw, form_of, logged_in, wanted_by, job_by, job_of}
 
 -- the form
@@ -40,44 +38,44 @@ module _ (count : ℕ) (word : List ℕ) where
       form-unknown q = rw (ne_eqb count 4 n, eq-eqb count 5 h, ← e, q)
 
 module _ (f : Form) (solution processor constellation : ℕ) where
-  pub logged-words : f ≡ form.Words → Log solution processor constellation false ≡ logged_in f solution processor constellation
+  pub logged-words : f ≡ form.Words → Some (record { solution = solution; processor = processor; constellation = constellation; raw = false }) ≡ logged_in f solution processor constellation
   logged-words e = rw e
 
-  pub logged-raw : f ≡ form.Raw → Log solution processor constellation true ≡ logged_in f solution processor constellation
+  pub logged-raw : f ≡ form.Raw → Some (record { solution = solution; processor = processor; constellation = constellation; raw = true }) ≡ logged_in f solution processor constellation
   logged-raw e = rw e
 
-  pub logged-not : f ≡ form.Unknown → Nothing ≡ logged_in f solution processor constellation
+  pub logged-not : f ≡ form.Unknown → None ≡ logged_in f solution processor constellation
   logged-not e = rw e
 
 -- three numbers and the form, or nothing
 module _ (count : ℕ) (first second third fourth : List ℕ) (a : Byte) (ea : a ≡ byte_of first) where
-  pub no-solution : a ≡ Not → Nothing ≡ wanted_by count first second third fourth
+  pub no-solution : a ≡ None → None ≡ wanted_by count first second third fourth
   no-solution q = rw (← ea, q)
 
-  module _ (solution : ℕ) (qa : a ≡ Is solution) (b : Byte) (eb : b ≡ byte_of second) where
-    pub no-processor : b ≡ Not → Nothing ≡ wanted_by count first second third fourth
+  module _ (solution : ℕ) (qa : a ≡ Some solution) (b : Byte) (eb : b ≡ byte_of second) where
+    pub no-processor : b ≡ None → None ≡ wanted_by count first second third fourth
     no-processor q = rw (← ea, qa, ← eb, q)
 
-    module _ (processor : ℕ) (qb : b ≡ Is processor) (c : Byte) (ec : c ≡ byte_of third) where
-      pub no-constellation : c ≡ Not → Nothing ≡ wanted_by count first second third fourth
+    module _ (processor : ℕ) (qb : b ≡ Some processor) (c : Byte) (ec : c ≡ byte_of third) where
+      pub no-constellation : c ≡ None → None ≡ wanted_by count first second third fourth
       no-constellation q = rw (← ea, qa, ← eb, qb, ← ec, q)
 
-      pub all-numbers : (constellation : ℕ) → c ≡ Is constellation → (f : Form) → f ≡ form_of count fourth → (r : Wanted) → r ≡ logged_in f solution processor constellation
+      pub all-numbers : (constellation : ℕ) → c ≡ Some constellation → (f : Form) → f ≡ form_of count fourth → (r : Wanted) → r ≡ logged_in f solution processor constellation
           → r ≡ wanted_by count first second third fourth
       all-numbers constellation qc f ef r p = rw (← ea, qa, ← eb, qb, ← ec, qc, ← ef) p
 
 -- the desk
 module _ (made : NewDesk) (raw : Bool) where
-  pub job-usage : (why : Refusal) → made ≡ Err why → Usage ≡ job_by made raw
+  pub job-usage : (why : Refusal) → made ≡ Err why → None ≡ job_by made raw
   job-usage why e = rw e
 
-  pub job-run : (desk : Desk) → made ≡ Ok desk → Run desk raw ≡ job_by made raw
+  pub job-run : (desk : Desk) → made ≡ Ok desk → Some (record { desk = desk; raw = raw }) ≡ job_by made raw
   job-run desk e = rw e
 
 module _ (wanted : Wanted) where
-  pub job-log : (solution processor constellation : ℕ) (raw : Bool) (made : NewDesk) (job : Job) → wanted ≡ Log solution processor constellation raw
-      → made ≡ new_desk solution processor constellation → job ≡ job_by made raw → job ≡ job_of wanted
-  job-log solution processor constellation raw made job e m j = rw (e, ← m) j
+  pub job-log : (log : Log) (made : NewDesk) (job : Job) → wanted ≡ Some log → made ≡ new_desk log.solution log.processor log.constellation → job ≡ job_by made log.raw
+      → job ≡ job_of wanted
+  job-log log made job e m j = rw (e, ← m) j
 
-  pub job-nothing : wanted ≡ Nothing → Usage ≡ job_of wanted
+  pub job-nothing : wanted ≡ None → None ≡ job_of wanted
   job-nothing e = rw e

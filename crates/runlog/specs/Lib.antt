@@ -1,3 +1,4 @@
+pub mod Results
 pub mod Command
 pub mod Clock
 pub mod Telling

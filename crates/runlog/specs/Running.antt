@@ -1,7 +1,7 @@
 -- Definitions to believe: what the program does. It reads until nothing comes, the log no longer goes out, or its 2^64 - 1 turns are used up, tells each portion that came, and
 -- then the stream's end (Telling.antt). Each portion, and the end, is told at the second that /proc/uptime gives then (Clock.antt); of which second that is nothing is
 -- promised.
-use Rattle.std.specs.Prelude.{◌≡◌, Bool, false, ◌&&◌, ◌⊎◌, List, [], ◌∷◌, ◌++◌, ℕ, ◌+◌, ◌-◌, ◌≤◌, ◌^◌, ltb, length, replicate}
+use Rattle.std.specs.Prelude.{◌≡◌, Bool, false, ◌&&◌, ◌⊎◌, List, [], ◌∷◌, ◌++◌, ℕ, ◌+◌, ◌-◌, ◌≤◌, ◌^◌, ltb, length, replicate, Some, None}
 use Rattle.sizes.specs.Sizes.{longest_frame, book_bytes, log_room}
 use Rattle.stream.specs.declared.Tray.{Tray}
 use Rattle.stream.specs.Tray.{fresh_tray}
@@ -12,10 +12,8 @@ use Rattle.prepare.specs.Driver.{State}
 use Rattle.prepare.specs.Lender.{all_then}
 use Rattle.runlog.specs.declared.hearing.Turn.{Turn}
 use Rattle.runlog.specs.declared.hearing.Stop.{Stop}
-use Rattle.runlog.specs.declared.Job.{Job}
-use Rattle.runlog.specs.declared.Job.TheVariants as job
-use Rattle.runlog.specs.declared.Done.{Done}
-use Rattle.runlog.specs.declared.Done.TheVariants as done
+use Rattle.runlog.specs.Results.{Job}
+use Rattle.runlog.specs.Results.{Done}
 use Rattle.runlog.specs.Telling.{state_of, some, always, Told, Ended}
 
 -- Portion after portion, each at the second at which it was read; what waits goes out behind each.
@@ -77,5 +75,5 @@ pub record Ran (desk : Desk) (raw : Bool) (stop : Stop) : Type 0 where
 
 -- The desk that is wanted runs; if there is none, the usage is to be said.
 pub data Does : Job → Done → Type 0 where
-  runs : {desk : Desk} {raw : Bool} {stop : Stop} → Ran desk raw stop → Does (job.Run desk raw) (done.Ran stop)
-  says-usage : Does job.Usage done.Usage
+  runs : {desk : Desk} {raw : Bool} {stop : Stop} → Ran desk raw stop → Does (Some (record { desk = desk; raw = raw })) (Some stop)
+  says-usage : Does None None

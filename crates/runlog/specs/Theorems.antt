@@ -1,7 +1,7 @@
 -- Theorems: with `raw` the program's bytes are the run log of the uncut stream: those that go out (Outgoing.antt), portion after portion and at the end, are those that document 01 lays down for the
 -- portions that were told, joined, their frames at their seconds (`seconds_of`), by the desk that the command line asked for, however they are cut. In words they are the lines of this run log's entries, as they are defined for the uncut stream.
 -- Proved.
-use Rattle.std.specs.Prelude.{◌≡◌, refl, Bool, true, false, ℕ, ◌≤◌, length, drop, replicate, Ok}
+use Rattle.std.specs.Prelude.{◌≡◌, refl, Bool, true, false, ℕ, ◌≤◌, length, drop, replicate, Ok, Some}
 use Rattle.std.proofs.Common.{sym, ap, ap₂, ◌∙◌, subst, arith}
 use mathlib.Core.List.{List, [], ◌∷◌, ◌++◌, flatten}
 use Rattle.std.proofs.lemmas.List.{length-replicate}
@@ -25,11 +25,8 @@ use Rattle.prepare.specs.Driving.{then-later}
 use Rattle.prepare.specs.Entries.{uncut_entries}
 use Rattle.prepare.specs.Theorems.{prepared, fresh-sound, fresh_kept}
 use Rattle.prepare.specs.Display.{uncut-reads}
-use Rattle.runlog.specs.declared.command.Wanted.TheVariants.{Log}
 use Rattle.runlog.specs.declared.hearing.Stop.{Stop}
-use Rattle.runlog.specs.declared.Job.TheVariants as job
-use Rattle.runlog.specs.declared.Done.{Done}
-use Rattle.runlog.specs.declared.Done.TheVariants as done
+use Rattle.runlog.specs.Results.{Done}
 use Rattle.runlog.specs.Command.{job_of}
 use Rattle.runlog.specs.Telling.{state_of, logs_of, always}
 use Rattle.runlog.specs.Running.{Reads, told_in, seconds_in, AllTold, seconds_of, at_start, Ran, Does}
@@ -135,7 +132,7 @@ module _ {raw : Bool} {books : Held} {bytes out bytes₂ live₂ run₂ out₂ :
       out-all (subst (λ (b : Bool). Short log_room (logs_of b ts)) (sym q) (words-short ts r)) h ∙ ap (λ (b : Bool). flatten (logs_of b ts)) q ∙ ap flatten (all_lines ts r)
       ∙ ap (λ l. flatten (each texts_of l)) same
 
-ran-by : {desk : Desk} {raw : Bool} {d : Done} → Does (job.Run desk raw) d → (stop : Stop) × Ran desk raw stop × (d ≡ done.Ran stop)
+ran-by : {desk : Desk} {raw : Bool} {d : Done} → Does (Some (record { desk = desk; raw = raw })) d → (stop : Stop) × Ran desk raw stop × (d ≡ Some stop)
 ran-by (Does.runs {stop = stop} r) = (stop, r, refl)
 
 -- So it is by the desk that the command line asks for, if there is one: a new one for its solution, processor and constellation.
@@ -146,8 +143,8 @@ module _ (solution processor constellation : ℕ) (desk : Desk) (e : new_desk so
   start-sound : Sound (at_start desk).books
   start-sound = fresh-sound solution processor constellation desk e (replicate book_bytes 0) (replicate book_bytes 0) room room
 
-  pub run-log : {d : Done} → Does (job_of (Log solution processor constellation true)) d
-      → (stop : Stop) × (ran : Ran desk true stop) × (d ≡ done.Ran stop) × (out_of ran.all_told ≡ uncut_log (at_start desk).books (seconds_of ran.all_told) (flatten ran.all_told.portions))
+  pub run-log : {d : Done} → Does (job_of (Some (record { solution = solution; processor = processor; constellation = constellation; raw = true }))) d
+      → (stop : Stop) × (ran : Ran desk true stop) × (d ≡ Some stop) × (out_of ran.all_told ≡ uncut_log (at_start desk).books (seconds_of ran.all_told) (flatten ran.all_told.portions))
   run-log does =
       let r = ran-by (rw e at does) in
       (r.0, r.1, r.2, out-uncut (zeros-clear longest_frame (omega arith)) start-sound r.1.all_told refl r.1.out-room)
@@ -156,8 +153,8 @@ module _ (solution processor constellation : ℕ) (desk : Desk) (e : new_desk so
   abbrev pub opening : Snapshot
   opening = record { book = desk.book; bytes = replicate book_bytes 0 }
 
-  pub run-lines : {d : Done} → Does (job_of (Log solution processor constellation false)) d
-      → (stop : Stop) × (ran : Ran desk false stop) × (d ≡ done.Ran stop)
+  pub run-lines : {d : Done} → Does (job_of (Some (record { solution = solution; processor = processor; constellation = constellation; raw = false }))) d
+      → (stop : Stop) × (ran : Ran desk false stop) × (d ≡ Some stop)
       × (out_of ran.all_told ≡ flatten (each texts_of (uncut_entries (at_start desk).books (seconds_of ran.all_told) opening (flatten ran.all_told.portions))))
   run-lines does =
       let r = ran-by (rw e at does) in (

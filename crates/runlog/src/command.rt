@@ -7,22 +7,17 @@ use std::env::{Env, FillError};
 
 // What the command line asks for, in numbers that a desk may still refuse.
 #[derive(Clone, Copy)]
-pub enum Wanted {
-    Log {
-        solution: u8,
-        processor: u8,
-        constellation: u8,
-        raw: bool,
-    },
-    Nothing,
+pub struct Log {
+    pub solution: u8,
+    pub processor: u8,
+    pub constellation: u8,
+    pub raw: bool,
 }
 
+pub type Wanted = Option<Log>;
+
 // A number of the command line.
-#[derive(Clone, Copy)]
-enum Byte {
-    Is(u8),
-    Not,
-}
+type Byte = Option<u8>;
 
 // The form of the log.
 #[derive(Clone, Copy)]
@@ -37,25 +32,25 @@ fn byte_of(word: &[u8]) -> Byte
     ensures { result ≡ byte_of word.now }
 {
     if word.len() == 0 {
-        return Byte::Not;
+        return None;
     }
     let mut n = 0;
     let mut i = 0;
     while i < word.len() {
         let digit = word[i];
         if digit < b'0' {
-            return Byte::Not;
+            return None;
         }
         if b'9' < digit {
-            return Byte::Not;
+            return None;
         }
         n = 10 * n + (digit - b'0') as u32;
         if 255 < n {
-            return Byte::Not;
+            return None;
         }
         i += 1;
     }
-    Byte::Is(n as u8)
+    Some(n as u8)
 }
 
 fn is_raw(word: &[u8]) -> bool
@@ -93,19 +88,19 @@ fn logged(solution: u8, processor: u8, constellation: u8, form: Form) -> Wanted
     ensures { result ≡ logged_in form solution processor constellation }
 {
     match form {
-        Form::Words => Wanted::Log {
+        Form::Words => Some(Log {
             solution: solution,
             processor: processor,
             constellation: constellation,
             raw: false,
-        },
-        Form::Raw => Wanted::Log {
+        }),
+        Form::Raw => Some(Log {
             solution: solution,
             processor: processor,
             constellation: constellation,
             raw: true,
-        },
-        Form::Unknown => Wanted::Nothing,
+        }),
+        Form::Unknown => None,
     }
 }
 
@@ -114,16 +109,10 @@ fn asked(count: usize, first: &[u8], second: &[u8], third: &[u8], fourth: &[u8])
     ensures { result ≡ wanted_by count first.now second.now third.now fourth.now }
 {
     let form = form_of(count, fourth);
-    match byte_of(first) {
-        Byte::Is(solution) => match byte_of(second) {
-            Byte::Is(processor) => match byte_of(third) {
-                Byte::Is(constellation) => logged(solution, processor, constellation, form),
-                Byte::Not => Wanted::Nothing,
-            },
-            Byte::Not => Wanted::Nothing,
-        },
-        Byte::Not => Wanted::Nothing,
-    }
+    let solution = byte_of(first)?;
+    let processor = byte_of(second)?;
+    let constellation = byte_of(third)?;
+    logged(solution, processor, constellation, form)
 }
 
 // A word of the command line, counted from the program's own name on: how many bytes it has, or 0 where it is missing or longer than its buffer.

@@ -17,19 +17,17 @@ use command::Wanted;
 use desk::{Desk, NewDesk};
 use hearing::{Stop, first_turn, hear_some, tell_end};
 
-// What there is to do: a desk runs, its log in words or raw, or the usage is said.
+// What there is to do: a desk runs, its log in words or raw; or, where there is none, the usage is said.
 #[derive(Clone, Copy)]
-enum Job {
-    Run { desk: Desk, raw: bool },
-    Usage,
+struct Work {
+    desk: Desk,
+    raw: bool,
 }
 
-// What was done: a desk ran until there was no further read, or the usage was said.
-#[derive(Clone, Copy)]
-enum Done {
-    Ran(Stop),
-    Usage,
-}
+type Job = Option<Work>;
+
+// What was done: a desk ran until there was no further read; or, where it is none, the usage was said.
+type Done = Option<Stop>;
 
 // A proved loop has to end, and nothing says that the input does. So the loop counts its turns down, from a number that no run uses up.
 fn prepare_all(
@@ -80,11 +78,11 @@ fn desk_by(made: NewDesk, raw: bool) -> Job
     ensures { result ≡ job_by made raw }
 {
     match made {
-        Err(_) => Job::Usage,
-        Ok(desk) => Job::Run {
+        Err(_) => None,
+        Ok(desk) => Some(Work {
             desk: desk,
             raw: raw,
-        },
+        }),
     }
 }
 
@@ -92,15 +90,9 @@ fn desk_by(made: NewDesk, raw: bool) -> Job
 fn desk_for(wanted: Wanted) -> Job
     ensures { result ≡ job_of wanted }
 {
-    match wanted {
-        Wanted::Log {
-            solution,
-            processor,
-            constellation,
-            raw,
-        } => desk_by(desk::new_desk(solution, processor, constellation), raw),
-        Wanted::Nothing => Job::Usage,
-    }
+    let log = wanted?;
+    let made = desk::new_desk(log.solution, log.processor, log.constellation);
+    desk_by(made, log.raw)
 }
 
 // Does what is wanted.
@@ -108,10 +100,10 @@ fn run_wanted(rt: &HostRuntime, wanted: Wanted) -> Done
     ensures { Does (job_of wanted) result }
 {
     match desk_for(wanted) {
-        Job::Run { desk, raw } => Done::Ran(run_desk(rt, desk, raw)),
-        Job::Usage => {
+        Some(Work { desk, raw }) => Some(run_desk(rt, desk, raw)),
+        None => {
             command::say_usage(rt);
-            Done::Usage
+            None
         }
     }
 }

@@ -7,8 +7,8 @@ use Rattle.runlog.proofs.run_wanted.Goals as goal
 pub run_desk-requires : goal.run_desk-requires
 run_desk-requires c = search (is-new, rules)
 
-pub returns-in-Run : goal.returns-in-Run
-returns-in-Run c = search (does-run, rules)
+pub returns-in-Some : goal.returns-in-Some
+returns-in-Some c = search (does-run, rules)
 
-pub returns-in-Usage : goal.returns-in-Usage
-returns-in-Usage c = search (does-usage, rules)
+pub returns-in-None : goal.returns-in-None
+returns-in-None c = search (does-usage, rules)

@@ -3,14 +3,14 @@ use Rattle.runlog.proofs.Wanting.{all-numbers, no-constellation, no-processor, n
 use borrow.Author.Rules.{rules}
 use Rattle.runlog.proofs.command.asked.Goals as goal
 
-pub returns-in-Is-byte_of-2 : goal.returns-in-Is-byte_of-2
-returns-in-Is-byte_of-2 c = search (all-numbers, rules)
+pub returns : goal.returns
+returns c = search (all-numbers, c.in_ok-solution.was, c.in_ok-processor.was, c.in_ok-constellation.was, rules)
 
-pub returns-in-Not-byte_of-2 : goal.returns-in-Not-byte_of-2
-returns-in-Not-byte_of-2 c = search (no-constellation, rules)
+pub returns-in_err-solution : goal.returns-in_err-solution
+returns-in_err-solution c = rw c.from_residual.ensures (search (no-solution, c.in_err-solution.was, rules))
 
-pub returns-in-Not-byte_of : goal.returns-in-Not-byte_of
-returns-in-Not-byte_of c = search (no-processor, rules)
+pub returns-in_err-processor : goal.returns-in_err-processor
+returns-in_err-processor c = rw c.from_residual-in_err-processor.ensures (search (no-processor, c.in_ok-solution.was, c.in_err-processor.was, rules))
 
-pub returns-in-Not : goal.returns-in-Not
-returns-in-Not c = search (no-solution, rules)
+pub returns-in_err-constellation : goal.returns-in_err-constellation
+returns-in_err-constellation c = rw c.from_residual-in_err-constellation.ensures (search (no-constellation, c.in_ok-solution.was, c.in_ok-processor.was, c.in_err-constellation.was, rules))
