@@ -1,7 +1,9 @@
 pub mod Tables
+pub mod Bytes
 pub mod Fields
 pub mod Sizes
 pub mod Stepping
 pub mod Listing
+pub mod ByPosition
 pub mod Examples
 pub mod Determined

@@ -3,7 +3,7 @@ use Rattle.std.specs.Prelude.{◌≡◌, refl, Bool, true, false, List, [], ◌�
 use Rattle.std.proofs.Common.{ap, ap₂, sym, ◌∙◌, subst, append-nil, add-zero, mod-lt, pow-suc, arith, eq-eqb, ne_eqb, pow_pos, shl_lt, shr_lt}
 use Rattle.std.proofs.Math.Nat.{div-eq_of_lt}
 use Rattle.std.specs.Int.Count.{ones, count_leading_zeros, leading_of_zero}
-use Rattle.std.proofs.lemmas.Nat.{ones_cat, leading_top, mod-pow-add, shl-shr}
+use Rattle.std.proofs.lemmas.Nat.{ones_cat, leading_le, leading_top, mod-pow-add, shl-shr}
 use Rattle.std.proofs.Math.Pow.{high, low, split}
 use Rattle.bits.specs.Bits.{bits_of}
 use Rattle.bits.specs.Laws.{one_shl, length-bits_of, bits_of-add, bits_of-low, bits_of-mod}
@@ -210,15 +210,24 @@ mod-up : (n w k : ℕ) → n * 2 ^ k % 2 ^ (w + k) ≡ n % 2 ^ w * 2 ^ k
 mod-up n w k =
     mod-pow-add (n * 2 ^ k) w k ∙ ap₂ (λ x y. x % 2 ^ w * 2 ^ k + y) (shl-shr n k) (ap (λ x. x % 2 ^ k) (sym (add-zero (n * 2 ^ k))) ∙ low n k {lo = 0} (pow_pos k)) ∙ add-zero (n % 2 ^ w * 2 ^ k)
 
+pub position-fits : (left : ℕ) → count_leading_zeros 64 left < 2 ^ 64
+position-fits left = omega (arith, leading_le 64 left)
+
 pub no-set : (left : ℕ) → left ≡ 0 → ◌≡◌ {A = Step} (record { position = 64; left = 0 }) (record { position = count_leading_zeros 64 left; left = without_first left })
 no-set left e = ap₂ (λ x y. record { position = x; left = y }) (sym (leading_of_zero 64) ∙ ap (count_leading_zeros 64) (sym e)) (omega (arith, e))
 
 module _ (left : ℕ) (n : left ≡ 0 → ⊥) (h : left < 2 ^ 64) where
+  pub position-small : count_leading_zeros 64 left ≤ 63
+  position-small = (step 0 left (omega arith) h).near
+
   power : 1 * 2 ^ (63 - count_leading_zeros 64 left) % 2 ^ 64 ≡ 2 ^ (63 - count_leading_zeros 64 left)
   power = one_shl (63 - count_leading_zeros 64 left) (omega arith)
 
   pub power_below : 1 * 2 ^ (63 - count_leading_zeros 64 left) % 2 ^ 64 ≤ left
   power_below = rw power (first_below left (omega arith) h)
+
+  pub set_next : ◌≡◌ {A = Step} (record { position = count_leading_zeros 64 left; left = left - 1 * 2 ^ (63 - count_leading_zeros 64 left) % 2 ^ 64 }) (record { position = count_leading_zeros 64 left; left = without_first left })
+  set_next = ap (λ x. record { position = count_leading_zeros 64 left; left = left - x }) power
 
 module _ (c : Constellation) (size : ℕ) (width : ℕ) (e : width ≡ mask_size c size) where
   pub up_fits : width ≤ 64
