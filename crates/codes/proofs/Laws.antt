@@ -1,8 +1,9 @@
 -- Laws that serve the proofs of the code, and are proved.
-use Rattle.std.specs.Prelude.{◌≡◌, refl, [], ℕ, zero, suc, ◌-◌, ◌/◌, ◌^◌, ◌≤◌, ◌<◌, length, get_or, Option, Some, None, SomeIff, unwrap_or}
-use Rattle.std.proofs.Common.{ap, sym, ◌∙◌, arith}
+use Rattle.std.specs.Prelude.{◌≡◌, refl, [], ℕ, zero, suc, ◌-◌, ◌*◌, ◌/◌, ◌%◌, ◌^◌, ◌≤◌, ◌<◌, length, get_or, Option, Some, None, SomeIff, unwrap_or}
+use Rattle.std.proofs.Common.{ap, sym, ◌∙◌, arith, pow_pos}
 use Rattle.std.proofs.lemmas.Nat.Bits.{ones_shr}
 use Rattle.std.proofs.lemmas.List.{get_or_default, get_or_past}
+use Rattle.bits.specs.Laws.{one_shl}
 use Rattle.codes.specs.declared.Constellation.{Constellation}
 use Rattle.codes.specs.declared.Constellation.TheVariants.{Gps, Glonass, Galileo, BeiDou, Qzss}
 use Rattle.codes.specs.contracts.Constellation.{the_type}
@@ -59,6 +60,17 @@ pub ones-left : (width : ℕ) (moved : Option ℕ) (r : ℕ) → width ≤ 64 �
 ones-left zero None r h m e = e
 ones-left (suc width) None r h m e = absurd (m (omega arith))
 ones-left width (Some x) r h m e = e ∙ m.1 ∙ ones_shr 64 (64 - width) (omega arith) ∙ ap (λ n. 2 ^ n - 1) {x = 64 - (64 - width)} {y = width} (omega arith)
+
+-- ---- `(1 << width) - 1`
+
+pub shifted-some : (width : ℕ) → width < 64 → 1 ≤ 1 * 2 ^ width % 2 ^ 64
+shifted-some width h = rw (one_shl width h) (pow_pos width)
+
+pub shifted-top : (width : ℕ) → width < 64 → 1 * 2 ^ width % 2 ^ 64 - 1 ≡ 2 ^ width - 1
+shifted-top width h = rw (one_shl width h)
+
+pub all_ones : (width : ℕ) → width ≤ 64 → 64 ≤ width → 2 ^ 64 - 1 ≡ 2 ^ width - 1
+all_ones width p q = ap (λ w. 2 ^ w - 1) {x = 64} {y = width} (omega arith)
 
 -- ---- what goes by the constellation
 
