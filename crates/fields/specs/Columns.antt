@@ -65,6 +65,9 @@ numbers_by width most invalid means =
 abbrev pub numbers_of : Line → Numbers
 numbers_of line = numbers_by line.width line.most line.invalid line.means
 
+abbrev pub field_by : ℕ → Numbers → F.Field
+field_by number line = field_of number line.width line.most line.invalid
+
 -- ---- no line is of a field over SF107
 
 -- every line of the table is of a field up to SF107
@@ -106,3 +109,13 @@ width_small number = find-small table tt number
 pub no_field : (number : ℕ) {r : F.Field} → 107 < number → r ≡ field_of number 0 0 0 → r ≡ sf number
 unfolding sf
 no_field number h e = e ∙ ap (λ (l : Line). field_of number l.width l.most l.invalid) (sym (none_over number h))
+
+-- ---- the field by its line
+
+pub field-there : (number : ℕ) {line : Numbers} {r : F.Field} → r ≡ field_by number line → line ≡ numbers_of (line_of number) → r ≡ sf number
+unfolding sf
+field-there number q e = q ∙ ap (field_by number) e
+
+-- the field of a number that is n
+pub arm_at : (n : ℕ) {number : ℕ} {r : F.Field} → number ≡ n → r ≡ sf n → r ≡ sf number
+arm_at n e q = q ∙ ap sf (sym e)

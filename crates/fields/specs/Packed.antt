@@ -1,7 +1,7 @@
 -- Mirror of src/packed.rt, over the table of Fields.antt: a field's bits and the codes that it takes in one number; and the law that the number refuses what the field refuses.
 use Rattle.std.specs.Prelude.{◌≡◌, List, [], ◌∷◌, Bool, ◌&&◌, not, ℕ, zero, suc, ◌+◌, ◌*◌, ◌/◌, ◌%◌, ◌≤◌, ◌<◌, T, eqb, ltb, leb, get_or, Ok, Err}
 use Rattle.std.proofs.Math.Path.{refl}
-use Rattle.std.proofs.Common.{ap, ◌∙◌, arith, leb→le, le-ltb}
+use Rattle.std.proofs.Common.{sym, ap, ◌∙◌, arith, leb→le, le-ltb, lt-ltb}
 use Rattle.std.proofs.Math.Bool.{true, false}
 use Rattle.std.specs.Float.Ieee.Fits.{and_l, and_r}
 use Rattle.answer.specs.declared.Refusal.TheVariants as refusal
@@ -40,6 +40,32 @@ packed_there l is number h = let e : 0 + number ≡ number = omega arith in ap (
 pub packed_none : (number : ℕ) → 107 < number → 0 ≡ packed_line number
 unfolding packed_line
 packed_none number h = ap (λ (f : Field). packed f.width f.most f.extra) (no_field number h refl)
+
+-- ---- a packed line by its number, and what it refuses
+
+-- the line of a number that is n
+pub packed-at : (n : ℕ) {number r : ℕ} → number ≡ n → r ≡ packed_line n → r ≡ packed_line number
+packed-at n e q = q ∙ ap packed_line (sym e)
+
+-- a number from `low` on that is none of so many is behind all of them
+abbrev pub Others : (low k number : ℕ) → Type 0
+Others low zero number = Unit
+Others low (suc k) number = Others low k number × (number ≡ low + k → ⊥)
+
+pub past-others : (low k : ℕ) {number : ℕ} → low ≤ number → Others low k number → low + k ≤ number
+past-others low zero h others = omega arith
+past-others low (suc k) h others = go (past-others low k h others.0) others.1
+  where
+    go : {number : ℕ} → low + k ≤ number → (number ≡ low + k → ⊥) → low + suc k ≤ number
+    go p n = omega arith
+
+pub refuses-low : (line code : ℕ) → code ≤ line / 256 % 16777216 → false ≡ refuses line code
+unfolding refuses
+refuses-low line code h = rw (le-ltb (line / 256 % 16777216) code h)
+
+pub refuses-high : (line code : ℕ) → line / 256 % 16777216 < code → not (eqb code (line / 4294967296)) ≡ refuses line code
+unfolding refuses
+refuses-high line code h = rw (lt-ltb (line / 256 % 16777216) code h)
 
 -- ---- a field by its packed line
 
