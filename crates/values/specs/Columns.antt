@@ -1,7 +1,7 @@
 -- The definitions of Values.antt by a field's line in the code's types. These serve the proofs and are proved to say what Values.antt says.
 use Rattle.std.specs.Prelude.{◌≡◌, refl, ℕ, ◌+◌, ◌≤◌, ◌<◌, ℤ, Float, Some, None}
 use Rattle.std.proofs.Math.Path.{ap}
-use Rattle.std.proofs.Common.{◌∙◌, le-leb, ne_eqb, eq-eqb}
+use Rattle.std.proofs.Common.{◌∙◌, arith, le-leb, ne_eqb, eq-eqb}
 use Rattle.std.proofs.lemmas.Bool.{lt-leb}
 use Rattle.answer.specs.declared.Refusal.TheVariants.{Field}
 use Rattle.fields.specs.declared.Meaning as code_meaning
@@ -11,6 +11,7 @@ use Rattle.fields.specs.declared.Steps.TheVariants as S
 use Rattle.fields.specs.declared.Numbers.{Numbers}
 use Rattle.fields.specs.Fields.{Meaning, metres, degrees, tecu, coefficient, count, residual_metres, residual_tecu, yaw, Steps, about, one_more_of, sixfold, spacings, Means, nothing, counts, line_of}
 use Rattle.fields.specs.Columns.{meaning_of, steps_of, middle_of, numbers_by, numbers_of}
+use Rattle.fields.specs.Numbered.{meaning_number}
 use Rattle.values.specs.Values.{step_count, quotient, meant, meant_by_invalid, value_by, value_of}
 use Rattle.values.specs.declared.Residual.TheVariants as Residual
 use Rattle.values.specs.declared.Yaw.TheVariants as Yaw
@@ -82,7 +83,21 @@ invalid-in yaw = refl
 
 -- ---- the value by the line: the four answers of the call
 
+-- a meaning has a number of its own, which is not 0
+meant-some : (m : Meaning) → meaning_number m ≡ 0 → ⊥
+meant-some metres e = omega arith
+meant-some degrees e = omega arith
+meant-some tecu e = omega arith
+meant-some coefficient e = omega arith
+meant-some count e = omega arith
+meant-some residual_metres e = omega arith
+meant-some residual_tecu e = omega arith
+meant-some yaw e = omega arith
+
 module _ (most invalid code : ℕ) where
+  abbrev numbers : ℕ → Means → Numbers
+  numbers width means = numbers_of (record { number = 0; width = width; most = most; invalid = invalid; means = means })
+
   none-meant : (means : Means) (width : ℕ) → (numbers_by width most invalid means).meaning ≡ None → Refused Field ≡ value_by most invalid means code
   none-meant nothing width e = refl
   none-meant (counts steps per_unit meaning) width e = absurd cc
