@@ -4,4 +4,5 @@ pub mod Sizes
 pub mod Stepping
 pub mod Listing
 pub mod Examples
+pub mod Yields
 pub mod Determined
