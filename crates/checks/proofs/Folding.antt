@@ -251,17 +251,17 @@ xors-xor f g h r [] x y = refl
 xors-xor f g h r (e ∷ es) x y =
     ap (xors h es) (ap (bit_xor (bit_xor x y)) (r e) ∙ xor-four x y (f e) (g e)) ∙ xors-xor f g h r es (bit_xor x (f e)) (bit_xor y (g e))
 
--- moves down by the counts, by each of these times them
-abbrev pub through : List ℕ → List ℕ → ℕ → ℕ
-through [] es x = x
-through (t ∷ ts) es x = through ts es (spread t es x)
+-- moves down, one group after the other: by its counts, each so many times
+abbrev pub through : List (ℕ × List ℕ) → ℕ → ℕ
+through [] x = x
+through (st ∷ sts) x = through sts (spread st.0 st.1 x)
 
-through-xor : (ts es : List ℕ) → Linear (through ts es)
-through-xor [] es x y = refl
-through-xor (t ∷ ts) es x y =
-    ap (through ts es)
-    (xors-xor (λ e. x / 2 ^ (e * t)) (λ e. y / 2 ^ (e * t)) (λ e. bit_xor x y / 2 ^ (e * t)) (λ e. xor_shr x y (e * t)) es x y)
-    ∙ through-xor ts es (spread t es x) (spread t es y)
+through-xor : (sts : List (ℕ × List ℕ)) → Linear (through sts)
+through-xor [] x y = refl
+through-xor (st ∷ sts) x y =
+    ap (through sts)
+    (xors-xor (λ e. x / 2 ^ (e * st.0)) (λ e. y / 2 ^ (e * st.0)) (λ e. bit_xor x y / 2 ^ (e * st.0)) (λ e. xor_shr x y (e * st.0)) st.1 x y)
+    ∙ through-xor sts (spread st.0 st.1 x) (spread st.0 st.1 y)
 
 -- at each power of two from k on f is r, shifted once more each time
 abbrev pub powers : (ℕ → ℕ) → ℕ → ℕ → ℕ → ℕ → ℕ → Bool
@@ -287,15 +287,15 @@ product-xor w es x y =
     (xors-xor (low x) (low y) (low (bit_xor x y)) (λ e. ap (λ (z : ℕ). z % 2 ^ 64) (sym (xor-shl e x y)) ∙ xor_mod (x * 2 ^ e) (y * 2 ^ e) 64) es x y)
     ∙ xor_mod (xors (low x) es x) (xors (low y) es y) w
 
-abbrev pub circuit : ℕ → List ℕ → List ℕ → List ℕ → ℕ → ℕ
-circuit w ts es fs x = product w fs (through ts es x)
+abbrev pub circuit : ℕ → List (ℕ × List ℕ) → List ℕ → ℕ → ℕ
+circuit w sts es x = product w es (through sts x)
 
-pub circuit-is : (w p : ℕ) → 1 ≤ w → p < 2 ^ w → (ts es fs : List ℕ) → circuit w ts es fs 0 ≡ 0 → T (powers (circuit w ts es fs) w p 64 0 (after w p 1 1))
-    → (x : ℕ) → x < 2 ^ 64 → circuit w ts es fs x ≡ after w p 64 x
-circuit-is w p h1 hp ts es fs z t =
-    agree (circuit w ts es fs) (after w p 64)
-    (λ x y. ap (product w fs) (through-xor ts es x y) ∙ product-xor w fs (through ts es x) (through ts es y))
+pub circuit-is : (w p : ℕ) → 1 ≤ w → p < 2 ^ w → (sts : List (ℕ × List ℕ)) (es : List ℕ) → circuit w sts es 0 ≡ 0
+    → T (powers (circuit w sts es) w p 64 0 (after w p 1 1)) → (x : ℕ) → x < 2 ^ 64 → circuit w sts es x ≡ after w p 64 x
+circuit-is w p h1 hp sts es z t =
+    agree (circuit w sts es) (after w p 64)
+    (λ x y. ap (product w es) (through-xor sts x y) ∙ product-xor w es (through sts x) (through sts y))
     (after-xor w p h1 hp 64)
     (z ∙ sym (after_none w p h1 hp 64))
     64
-    (λ k l. ap (λ (m : ℕ). circuit w ts es fs (2 ^ m)) (sym (zero-add k)) ∙ powers-are (circuit w ts es fs) w p 64 0 (after w p 1 1) t k l ∙ sym (after-power w p h1 hp k l))
+    (λ k l. ap (λ (m : ℕ). circuit w sts es (2 ^ m)) (sym (zero-add k)) ∙ powers-are (circuit w sts es) w p 64 0 (after w p 1 1) t k l ∙ sym (after-power w p h1 hp k l))

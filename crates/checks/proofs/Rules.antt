@@ -82,17 +82,22 @@ abbrev pub Six : ℕ → ℕ → List ℕ → List ℕ → Type 0
 Six w p es fs = (v a b c d e f : ℕ) → v < 2 ^ 64 → a ≡ spread 1 es v → b ≡ spread 2 es a → c ≡ spread 4 es b → d ≡ spread 8 es c → e ≡ spread 16 es d
     → f ≡ spread 32 es e → product w fs f ≡ after w p 64 v
 
-four : (w p : ℕ) (es fs : List ℕ) → 1 ≤ w → p < 2 ^ w → circuit w (1 ∷ 2 ∷ 4 ∷ 8 ∷ []) es fs 0 ≡ 0
-    → T (powers (circuit w (1 ∷ 2 ∷ 4 ∷ 8 ∷ []) es fs) w p 64 0 (after w p 1 1)) → Four w p es fs
+-- groups of the same counts, so many times each
+abbrev pub repeated : List ℕ → List ℕ → List (ℕ × List ℕ)
+repeated [] es = []
+repeated (t ∷ ts) es = (t, es) ∷ repeated ts es
+
+four : (w p : ℕ) (es fs : List ℕ) → 1 ≤ w → p < 2 ^ w → circuit w (repeated (1 ∷ 2 ∷ 4 ∷ 8 ∷ []) es) fs 0 ≡ 0
+    → T (powers (circuit w (repeated (1 ∷ 2 ∷ 4 ∷ 8 ∷ []) es) fs) w p 64 0 (after w p 1 1)) → Four w p es fs
 four w p es fs h1 hp z t v a b c d h ea eb ec ed =
     ap (product w fs) (ed ∙ ap (spread 8 es) (ec ∙ ap (spread 4 es) (eb ∙ ap (spread 2 es) ea)))
-    ∙ circuit-is w p h1 hp (1 ∷ 2 ∷ 4 ∷ 8 ∷ []) es fs z t v h
+    ∙ circuit-is w p h1 hp (repeated (1 ∷ 2 ∷ 4 ∷ 8 ∷ []) es) fs z t v h
 
-six : (w p : ℕ) (es fs : List ℕ) → 1 ≤ w → p < 2 ^ w → circuit w (1 ∷ 2 ∷ 4 ∷ 8 ∷ 16 ∷ 32 ∷ []) es fs 0 ≡ 0
-    → T (powers (circuit w (1 ∷ 2 ∷ 4 ∷ 8 ∷ 16 ∷ 32 ∷ []) es fs) w p 64 0 (after w p 1 1)) → Six w p es fs
+six : (w p : ℕ) (es fs : List ℕ) → 1 ≤ w → p < 2 ^ w → circuit w (repeated (1 ∷ 2 ∷ 4 ∷ 8 ∷ 16 ∷ 32 ∷ []) es) fs 0 ≡ 0
+    → T (powers (circuit w (repeated (1 ∷ 2 ∷ 4 ∷ 8 ∷ 16 ∷ 32 ∷ []) es) fs) w p 64 0 (after w p 1 1)) → Six w p es fs
 six w p es fs h1 hp z t v a b c d e f h ea eb ec ed ee ef =
     ap (product w fs) (ef ∙ ap (spread 32 es) (ee ∙ ap (spread 16 es) (ed ∙ ap (spread 8 es) (ec ∙ ap (spread 4 es) (eb ∙ ap (spread 2 es) ea)))))
-    ∙ circuit-is w p h1 hp (1 ∷ 2 ∷ 4 ∷ 8 ∷ 16 ∷ 32 ∷ []) es fs z t v h
+    ∙ circuit-is w p h1 hp (repeated (1 ∷ 2 ∷ 4 ∷ 8 ∷ 16 ∷ 32 ∷ []) es) fs z t v h
 
 pub circuit-8 : Four 8 0x07 (6 ∷ 7 ∷ 8 ∷ []) (1 ∷ 2 ∷ [])
 unfolding after crc_bits bits_of shift

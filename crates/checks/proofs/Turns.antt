@@ -208,14 +208,14 @@ module _ {w p : ℕ} {es : List ℕ} (rule : Rule w p es) where
       }
 
   -- the register that a number leaves, by its two halves
-  pub ends : (n h l x r : ℕ) → h ≡ n / 2 ^ 64 → l ≡ n % 2 ^ 64 → x ≡ after w p 64 h
+  pub ends : w ≤ 64 → (n h l x r : ℕ) → h ≡ n / 2 ^ 64 → l ≡ n % 2 ^ 64 → x ≡ after w p 64 h
       → r ≡ after w p 64 (bit_xor l (x * 2 ^ (64 - w) % 2 ^ 64)) → r ≡ after w p 128 n
-  ends n h l x r eh el ex er =
+  ends wide n h l x r eh el ex er =
       let l_lt : l < 2 ^ 64 = subst (λ (y : ℕ). y < 2 ^ 64) (sym el) (mod-lt n (pow_pos 64)) in
       let x_lt : x < 2 ^ w = subst (λ (y : ℕ). y < 2 ^ w) (sym ex) (after-lt w p rule.some rule.fits 64 h) in
       er
-      ∙ ap (λ (y : ℕ). after w p 64 (bit_xor l y)) (shl_exact w (64 - w) 64 x_lt (omega (arith, rule.wide)))
-      ∙ sym (after_two w p rule.some rule.fits x l rule.wide x_lt l_lt)
+      ∙ ap (λ (y : ℕ). after w p 64 (bit_xor l y)) (shl_exact w (64 - w) 64 x_lt (omega arith))
+      ∙ sym (after_two w p rule.some rule.fits x l wide x_lt l_lt)
       ∙ ap (λ (y : ℕ). crc_bits w p y (bits_of 64 l)) ex
       ∙ after_more w p rule.some rule.fits 64 64 h l l_lt
       ∙ ap (after w p 128) (ap₂ (λ (y z : ℕ). y * 2 ^ 64 + z) eh el ∙ split n 64)

@@ -46,7 +46,6 @@ Near (e ∷ es) = (e ≤ 64) × Near es
 -- a bit 128 places ahead leaves the register that these bits leave
 pub record Rule (w p : ℕ) (es : List ℕ) : Type 0 where
   pub some : 1 ≤ w
-  pub wide : w ≤ 64
   pub fits : p < 2 ^ w
   pub near : Near es
   pub same : shifts w p 128 (after w p 1 1) ≡ sums w p es (after w p 1 1)

@@ -5,7 +5,7 @@ ghost use Rattle.std.specs.Prelude.{◌≡◌, ℕ, List, [], ◌∷◌, ◌+◌
 ghost use Rattle.bits.specs.Bits.{field};
 ghost use Rattle.checks.specs.Crc.{crc_bits, crc, frame_crc, message_crc};
 ghost use Rattle.checks.specs.Folds.{after, spread, word_bits, folded, Rule};
-ghost use Rattle.checks.specs.Moves.{rule_8, start_8, rule_16, start_16, rule_24, start_24, rule_32, start_32};
+ghost use Rattle.checks.specs.Moves.{narrow_8, rule_8, start_8, narrow_16, rule_16, start_16, narrow_24, rule_24, start_24, narrow_32, rule_32, start_32};
 
 // TF006's tables, sixteen entries of four bits in one number, the first least significant: entry k is the register, its bits in reverse, after
 // the four bits k, and after as many zeros behind them as come behind those bits in a frame.
@@ -102,6 +102,8 @@ trait Polynomial {
     fn reduced(v: u64) -> u64
         ensures { result ≡ after WIDTH polynomial 64 v };
 
+    ghost narrow: { WIDTH ≤ 64 };
+
     ghost rule: { Rule WIDTH polynomial places };
 
     ghost starts: { after WIDTH polynomial 128 START ≡ register };
@@ -133,6 +135,8 @@ impl Polynomial for Crc8 {
         let q = spread_8::<8>(spread_8::<4>(spread_8::<2>(spread_8::<1>(v))));
         (q ^ (q << 1) ^ (q << 2)) % 256
     }
+
+    ghost narrow = { narrow_8 };
 
     ghost rule = { rule_8 };
 
@@ -177,6 +181,8 @@ impl Polynomial for Crc16 {
         let q = spread_16::<8>(spread_16::<4>(spread_16::<2>(spread_16::<1>(v))));
         (q ^ (q << 5) ^ (q << 12)) % 65536
     }
+
+    ghost narrow = { narrow_16 };
 
     ghost rule = { rule_16 };
 
@@ -233,6 +239,8 @@ impl Polynomial for Crc24 {
             ^ (q << 23))
             % 16777216
     }
+
+    ghost narrow = { narrow_24 };
 
     ghost rule = { rule_24 };
 
@@ -314,6 +322,8 @@ impl Polynomial for Crc32 {
             ^ (q << 26))
             % 4294967296
     }
+
+    ghost narrow = { narrow_32 };
 
     ghost rule = { rule_32 };
 

@@ -1,8 +1,9 @@
 -- Two results of a public call of this crate cannot differ: for equal inputs, answers and lent buffers that meet the contract are equal. Proved.
 -- Written by tests/determined from the contracts in src/.
-use Rattle.codes.specs.Fields.{listed, mask_field, satellite_at, satellites_of}
+use Rattle.codes.specs.Fields.{listed, mask_field, satellite_at, satellites_of, to_come}
 use Rattle.codes.specs.Stepping.{aligned_to, without_first}
 use Rattle.codes.specs.Tables.{bias_size, first_satellite, mask_sf, mask_size}
+use Rattle.codes.specs.Yields.{yields-determined}
 use Rattle.codes.specs.declared.Constellation.{Constellation}
 use Rattle.codes.specs.declared.satellites.InMask.{InMask}
 use Rattle.codes.specs.declared.satellites.Satellites.{Satellites}
@@ -12,7 +13,8 @@ use Rattle.layout.specs.Parts.{free}
 use Rattle.layout.specs.declared.Field.{Field}
 use Rattle.std.proofs.Common.{sym, ◌∙◌}
 use Rattle.std.specs.Int.Count.{count_leading_zeros, ones}
-use Rattle.std.specs.Prelude.{length, ℕ, ◌%◌, ◌+◌, ◌≡◌}
+use Rattle.std.specs.Iterator.{YieldsFirst}
+use Rattle.std.specs.Prelude.{Option, length, ℕ, ◌%◌, ◌+◌, ◌≡◌}
 
 pub in-mask-determined : (constellation : Constellation) (size mask : ℕ) (r₁ r₂ : InMask)
     → r₁ ≡ record { constellation = constellation; left = aligned_to (mask_size constellation size) mask }
@@ -55,6 +57,12 @@ pub set-bits-determined : (mask : ℕ) (r₁ r₂ : ℕ)
     → r₂ ≡ ones mask
     → r₁ ≡ r₂
 set-bits-determined mask r₁ r₂ e0₁ e0₂ = e0₁ ∙ sym e0₂
+
+pub in-mask-next-determined : (self : InMask) (r₁ r₂ : Option ℕ) (self₁ self₂ : InMask)
+    → YieldsFirst to_come self r₁ self₁
+    → YieldsFirst to_come self r₂ self₂
+    → (r₁ ≡ r₂) × (to_come self₁ ≡ to_come self₂)
+in-mask-next-determined self r₁ r₂ self₁ self₂ e0₁ e0₂ = ((yields-determined to_come self self₁ self₂ r₁ r₂ e0₁ e0₂).0, (yields-determined to_come self self₁ self₂ r₁ r₂ e0₁ e0₂).1)
 
 pub mask-size-determined : (constellation : Constellation) (size : ℕ) (r₁ r₂ : ℕ)
     → r₁ ≡ mask_size constellation size

@@ -6,4 +6,5 @@ pub mod Stepping
 pub mod Listing
 pub mod ByPosition
 pub mod Examples
+pub mod Yields
 pub mod Determined

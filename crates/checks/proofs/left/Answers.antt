@@ -4,4 +4,4 @@ use Rattle.checks.proofs.Turns.{ends}
 use Rattle.checks.proofs.left.Goals as goal
 
 pub returns : goal.returns
-returns g c = search (ends g.met.P.Polynomial.rule, rules)
+returns g c = let p = g.met.P.Polynomial in search (ends p.rule p.narrow, rules)
