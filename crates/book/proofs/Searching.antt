@@ -128,3 +128,6 @@ module _ (n at x d : ℕ) (s : List ℕ) (e : d ≡ sf031 x) where
 
   pub reached-by : Reached (sf031 x) n s at → Reached d n s at
   reached-by q = subst (λ d. Reached d n s at) (sym e) q
+
+pub reached-passed : (n at d : ℕ) (s : List ℕ) → Reached d n s at → Passed d n s at
+reached-passed n at d s q = record { inside = q.inside; below = q.below }

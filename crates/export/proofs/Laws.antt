@@ -1,16 +1,41 @@
--- Laws: an answer when a slice has room, and when it has not.
+-- Laws: numbers, or floats, laid into a lent slice one by one; an answer when a slice has room, and when it has not.
 use mathlib.Core.Path.{◌≡◌, refl, sym, ap, ap₂, ◌∙◌}
 use mathlib.Core.List.{List, [], ◌∷◌, ◌++◌}
 use mathlib.Core.Bool.{Bool, true, false, cond}
-use Prim.Native.Nat.{ℕ, ◌+◌, ◌*◌, ◌≤◌, ◌<◌, min}
+use Prim.Native.Nat.{ℕ, zero, suc, ◌+◌, ◌*◌, ◌≤◌, ◌<◌, min}
+use native.Mathlib.Nat.{le_antisymm, le_of_suc-le-suc, not-suc-le-zero}
+use native.Mathlib.Numerals.{add-one}
 use native.Mathlib.Omega.{arith}
 use lib.Dec.{ltb}
-use lib.ListN.{length, drop}
+use lib.ListN.{length, take, drop, get_or, set, length-set}
+use lib.Seq.{take_all}
 use borrow.Author.Tests.{lt-ltb, le-ltb, ltb-true, ltb-false}
 use Rattle.answer.specs.Number.{number_of}
 use Rattle.answer.specs.Place.{sf_in, at_in}
 use Rattle.answer.specs.declared.Fault.{Fault}
 use Rattle.export.specs.Numbers.{Told, room_for, laid, answered, lent_after, at_most, most_sf, most_place, answer_of}
+
+-- ---- numbers, or floats, laid into a slice
+
+store : {A : Type 0} (src dst : List A) (d : A) (i : ℕ) → i < length src → i < length dst → set (take i src ++ drop i dst) i (get_or src i d) ≡ take (suc i) src ++ drop (suc i) dst
+store [] dst d i h k = absurd (not-suc-le-zero h)
+store (x ∷ xs) [] d i h k = absurd (not-suc-le-zero k)
+store (x ∷ xs) (y ∷ ys) d zero h k = refl
+store (x ∷ xs) (y ∷ ys) d (suc i) h k = ap (λ l. x ∷ l) (store xs ys d i (le_of_suc-le-suc h) (le_of_suc-le-suc k))
+
+module _ {A : Type 0} (numbers out₀ out : List A) (i : ℕ) (m : length numbers ≤ length out₀) (inv : out ≡ take i numbers ++ drop i out₀) where
+  pub put-more : (d : A) → i < length numbers → set out i (get_or numbers i d) ≡ take (i + 1) numbers ++ drop (i + 1) out₀
+  put-more d h =
+      ap (λ l. set l i (get_or numbers i d)) inv
+      ∙ store numbers out₀ d i h (omega arith)
+      ∙ ap (λ (n : ℕ). take n numbers ++ drop n out₀) (sym (add-one i))
+
+  pub put_all : length numbers ≤ i → i ≤ length numbers → out ≡ laid numbers out₀
+  unfolding laid
+  put_all h k = inv ∙ ap (λ (n : ℕ). take n numbers ++ drop n out₀) (le_antisymm k h) ∙ ap (λ l. l ++ drop (length numbers) out₀) (take_all (length numbers) numbers (omega arith))
+
+pub length-put : {A : Type 0} (out out₀ : List A) (i : ℕ) (x : A) → length out ≡ length out₀ → length (set out i x) ≡ length out₀
+length-put out out₀ i x h = length-set out i x ∙ h
 
 -- ---- a slice that has room, and one that has not
 

@@ -51,5 +51,7 @@ pub fn put(numbers: &[u64], out: &mut [u64])
     if out.len() < numbers.len() {
         return;
     }
-    out[..numbers.len()].copy_from_slice(numbers);
+    for i in 0..numbers.len() {
+        out[i] = numbers[i];
+    }
 }

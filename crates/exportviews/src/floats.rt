@@ -9,5 +9,7 @@ pub fn put_floats(floats: &[f64], out: &mut [f64])
     if out.len() < floats.len() {
         return;
     }
-    out[..floats.len()].copy_from_slice(floats);
+    for i in 0..floats.len() {
+        out[i] = floats[i];
+    }
 }

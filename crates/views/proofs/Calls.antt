@@ -46,8 +46,11 @@ module _ (kind subtype : ℕ) (sheet : List ℕ) (a : WriteAnswer) (e : a ≡ ju
 pub found_as : {C : Type 0} (of : List ℕ → Found → C) (sheet : List ℕ) (f x v : Found) (r : C) → f ≡ x → f ≡ v → r ≡ of sheet v → r ≡ of sheet x
 found_as of sheet f x v r e q h = h ∙ ap (of sheet) (sym q ∙ e)
 
-pub same : {A : Type 0} (a b : A) → a ≡ b → ◌≡◌ {A = Result (Option A) Fault} (Ok (Some a)) (Ok (Some b))
-same a b e = ap (λ x. Ok (Some x)) e
+pub same : {A C : Type 0} (f : A → C) (a b : A) → a ≡ b → f a ≡ f b
+same f a b e = ap f e
+
+pub same-found : {A : Type 0} (a b : A) → a ≡ b → ◌≡◌ {A = Result (Option A) Fault} (Ok (Some a)) (Ok (Some b))
+same-found a b e = same (λ x. Ok (Some x)) a b e
 
 -- ---- OCB
 

@@ -1,0 +1,9 @@
+-- So many floats are stored as the loop has turned; behind them all is as lent (Laws.antt of export). The loop keeps that there is room.
+use mathlib.Core.Path.{◌≡◌}
+use mathlib.Core.List.{◌++◌}
+use Prim.Native.Nat.{◌≤◌}
+use lib.ListN.{length, take, drop}
+use Rattle.exportviews.proofs.floats.put_floats.Given as goal
+
+abbrev pub invariant-loop-i : goal.invariant-loop-i
+invariant-loop-i l = (l.out ≡ take l.i l.floats ++ drop l.i l.initial.out) × (length l.floats ≤ length l.initial.out)
